@@ -1,0 +1,1 @@
+// Laws of plain mathematics that the proofs of every crate cite. There is no code here.

@@ -1,0 +1,78 @@
+-- The numbers that come back (document 01, "Numbers that come back"), each given exactly if its comment holds.
+use Prim.Native.Nat.{ℕ}
+
+-- the session is running
+abbrev pub running : ℕ
+running = 0
+
+-- the session ended done
+abbrev pub done : ℕ
+done = 32
+
+-- FPDAT address below 3
+abbrev pub bad-fpdat : ℕ
+bad-fpdat = 1
+
+-- page size neither 512 nor 1,024
+abbrev pub bad-page-size : ℕ
+bad-page-size = 2
+
+-- page count 0, or size times count above 65,536
+abbrev pub bad-page-count : ℕ
+bad-page-count = 3
+
+-- image empty or not whole pages
+abbrev pub bad-image : ℕ
+bad-image = 4
+
+-- first page plus image pages above page count
+abbrev pub past-last-page : ℕ
+past-last-page = 5
+
+-- record not 32 bytes, or not a session in range
+abbrev pub bad-record : ℕ
+bad-record = 6
+
+-- image length differs from the session's
+abbrev pub other-image : ℕ
+other-image = 7
+
+-- place plus number of replies above the step buffer's length
+abbrev pub no-room : ℕ
+no-room = 8
+
+-- reply neither 0 nor 1
+abbrev pub bad-reply : ℕ
+bad-reply = 9
+
+-- the zero that reaches the limit in a WAIT (the 20th)
+abbrev pub wait-limit-reached : ℕ
+wait-limit-reached = 10
+
+-- the unsatisfied read that reaches the limit in a poll (the 256th)
+abbrev pub poll-limit-reached : ℕ
+poll-limit-reached = 11
+
+-- device ID differs
+abbrev pub other-device : ℕ
+other-device = 12
+
+-- status not 0x0D
+abbrev pub bad-status : ℕ
+bad-status = 13
+
+-- byte read differs from the image
+abbrev pub compare-differs : ℕ
+compare-differs = 14
+
+-- image offset not below the image's length when a byte is wanted
+abbrev pub no-image-byte : ℕ
+no-image-byte = 15
+
+-- model: step 1 or above 6
+abbrev pub no-step : ℕ
+no-step = 16
+
+-- model: flash length not size times count, or its own state names a point that no frame or command has
+abbrev pub no-point : ℕ
+no-point = 17

@@ -1,0 +1,5 @@
+pub mod Bits
+pub mod Exchanges
+pub mod Following
+pub mod Frames
+pub mod Roles
