@@ -1,2 +1,4 @@
 pub mod Pick
 pub mod Testing
+pub mod Products
+pub mod Below

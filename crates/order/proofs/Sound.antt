@@ -7,10 +7,10 @@ use native.Mathlib.Omega.{arith}
 use lib.ListN.{length}
 use Rattle.wire.specs.Bits.{bits}
 use Rattle.wire.specs.Frames.{Strobe, sends, ins-code, frame}
-use Rattle.wire.specs.Place.{place, samples}
+use Rattle.wire.specs.Place.{place, samples, count-limit}
 use Rattle.wire.specs.declared.Frame.the-variants.{AddressRead, DataRead}
 use Rattle.wire.specs.declared.Place.{Place}
-use Rattle.wire.proofs.Following.{Whole, Exists, first-exists, waits-in, counted-reads, count-limit}
+use Rattle.wire.proofs.Following.{Whole, Exists, first-exists, waits-in, counted-reads}
 use Rattle.wire.proofs.Frames.{masters, masters-frame, whole-address-read, whole-data-read}
 use Rattle.order.specs.Acts.{Act, send, poll, expect}
 use Rattle.order.specs.Conversation.{Limits, Positive}

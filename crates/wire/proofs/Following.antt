@@ -17,7 +17,7 @@ use Rattle.wire.specs.Step.{Step, released}
 use Rattle.wire.specs.Field.{Field, STOP, WAIT}
 use Rattle.wire.specs.Exchange.{Exchange, strobe, after}
 use Rattle.wire.specs.Frames.{Strobe, plain, sampled, waits, waiting, strobes, framed}
-use Rattle.wire.specs.Place.{place, strobe-at, step-of, samples, follows, followed, rest-of, remaining, moved-to, longest, longest-rest, strobes-left}
+use Rattle.wire.specs.Place.{place, strobe-at, count-limit, step-of, samples, follows, followed, rest-of, remaining, moved-to, longest, longest-rest, strobes-left}
 use Rattle.wire.specs.declared.Place.{Place}
 use Rattle.wire.specs.declared.Moved.{Moved}
 use Rattle.wire.specs.declared.Moved.the-variants.{Within, Stopped, WaitLimit}
@@ -35,12 +35,6 @@ pub record Whole (r : ℕ) (ss : List Strobe) : Type 0 where
   pub ends : (i : ℕ) → suc i ≡ length ss → (f : Field) × (s : Step) × (strobe-at ss i ≡ plain f s)
   pub byte : samples ss ≤ 8
   pub calm : 0 < waits-in ss → r ≡ 1
-
--- what a count is below: the WAIT's limit in a WAIT, and elsewhere that of the reads
-unfoldable pub count-limit : (l r : ℕ) → Strobe → ℕ
-count-limit l r (plain f s) = r
-count-limit l r (sampled f) = r
-count-limit l r waits = l
 
 -- a place that exists in the frame
 pub record Exists (l r : ℕ) (ss : List Strobe) (p : Place) : Type 0 where

@@ -1,14 +1,13 @@
 -- The roles that the code finds by arithmetic are the strobes of the frames.
 use mathlib.Core.Path.{_≡_, refl, ap, _∙_}
 use mathlib.Core.Bool.{Bool, true, false, cond}
-use mathlib.Core.List.{List, [], _∷_}
-use Prim.Native.Nat.{ℕ, zero, suc, _+_, _-_, _/_, _%_, _^_, _<_, _≤_}
-use native.Mathlib.Nat.{not-suc-le-zero}
+use Prim.Native.Nat.{ℕ, _+_, _-_, _/_, _%_, _^_, _<_, _≤_}
 use native.Mathlib.Omega.{arith}
 use native.Mathlib.Decide.{decLt}
 use borrow.Author.Tests.{le-ltb, ne-eqb, ltb-true, ltb-false, eqb-true}
 use lib.Dec.{eqb, ltb}
 use lib.ListN.{length, List·getD-eq-default}
+use Rattle.laws.proofs.Below.{upto, same-below}
 use Rattle.wire.specs.Bits.{odd, bits, bit}
 use Rattle.wire.specs.Step.{driven, released, code}
 use Rattle.wire.specs.Field.{STOP}
@@ -35,19 +34,6 @@ drives-bit-is a i h = rw (bits-at 8 a i h) (code-driven (odd (a / 2 ^ i)) ∙ ap
 pub drives-bit-past : (a i : ℕ) → 8 ≤ i → drives-bit a i ≡ 2
 unfolding drives-bit code
 drives-bit-past a i h = rw (List·getD-eq-default (bits 8 a) false {n = i} (omega (arith, length-bits 8 a)))
-
--- two functions that give the same list below a bound give the same below it
-abbrev upto : {A : Type 0} → (ℕ → A) → ℕ → List A
-upto f zero = []
-upto f (suc n) = f n ∷ upto f n
-
-same-below : {A : Type 0} (f g : ℕ → A) (n : ℕ) → upto f n ≡ upto g n → (i : ℕ) → i < n → f i ≡ g i
-same-below f g zero e i h = absurd (not-suc-le-zero h)
-same-below f g (suc n) e i h = go (decLt i n) (same-below f g n (cc) i)
-  where
-    go : Dec (i < n) → (i < n → f i ≡ g i) → f i ≡ g i
-    go (yes y) k = k y
-    go (no y) k = let p : i ≡ n = omega arith in rw p (cc)
 
 -- no frame has more than 15 strobes
 length-frame : (f : Frame) (a : ℕ) → length (frame f a) ≤ 15

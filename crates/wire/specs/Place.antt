@@ -95,3 +95,9 @@ longest-rest l (waits ∷ ss) z = (l - z) + longest l ss
 -- the most strobes of a frame that are left at a place
 unfoldable pub strobes-left : (wait-limit : ℕ) → List Strobe → Place → ℕ
 strobes-left l ss p = longest-rest l (drop (p .strobe) ss) (p .count)
+
+-- What a place's count is below: the WAIT's limit in a WAIT, and elsewhere that of the reads.
+unfoldable pub count-limit : (l r : ℕ) → Strobe → ℕ
+count-limit l r (plain f s) = r
+count-limit l r (sampled f) = r
+count-limit l r waits = l

@@ -1,0 +1,25 @@
+-- What the target is given besides its state, the flash and a step; and its delays (document 01, "The modelled target").
+use mathlib.Core.Bool.{cond}
+use mathlib.Core.List.{List}
+use Prim.Native.Nat.{ℕ, _+_}
+use lib.Dec.{ltb}
+use lib.ListN.{length, getD}
+use Rattle.settings.specs.declared.Settings.{Settings}
+
+-- settings, the WAIT's limit (a WAIT sends as many zeros as the delay modulo this), and the lent delay list
+pub record Setup : Type 0 where
+  pub settings : Settings
+  pub wait : ℕ
+  pub delays : List ℕ
+
+-- a place at or past the list's end is the start
+unfoldable pub within : List ℕ → (place : ℕ) → ℕ
+within ds p = cond (ltb p (length ds)) p 0
+
+-- the delay at a place, 0 where the list is empty
+unfoldable pub delay : List ℕ → (place : ℕ) → ℕ
+delay ds p = getD ds (within ds p) 0
+
+-- the place after it: delays are taken in order
+unfoldable pub onward : List ℕ → (place : ℕ) → ℕ
+onward ds p = within ds p + 1

@@ -1,0 +1,8 @@
+pub mod Delays
+pub mod Commands
+pub mod Interface
+pub mod Strobes
+pub mod Known
+pub mod Target
+pub mod Playing
+pub mod Programmed
