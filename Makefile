@@ -2,6 +2,8 @@
 
 CARGO := cargo run --quiet --offline --manifest-path compare/Cargo.toml --target-dir target/compare --
 
+LIBRARIES := target/staticlib/libprobe.a target/staticlib/libc2.a
+
 .PHONY: help test compare compare-long prove clean
 
 help:
@@ -14,14 +16,14 @@ help:
 test: compare
 	@rt ci
 
-compare: target/staticlib/libprobe.a
+compare: $(LIBRARIES)
 	@$(CARGO)
 
-compare-long: target/staticlib/libprobe.a
+compare-long: $(LIBRARIES)
 	@$(CARGO) --long
 
-target/staticlib/libprobe.a: $(wildcard crates/wire/src/*.rt crates/probe/src/*.rt)
-	@rt staticlib probe
+target/staticlib/lib%.a: $(wildcard crates/*/src/*.rt)
+	@rt staticlib $*
 
 prove:
 	@rt check

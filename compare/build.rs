@@ -3,7 +3,7 @@
 use std::env;
 use std::path::{Path, PathBuf};
 
-const LIBRARIES: [&str; 1] = ["probe"];
+const LIBRARIES: [&str; 2] = ["probe", "c2"];
 const DEFAULT_DIR: &str = "../target/staticlib";
 
 fn library_dir() -> PathBuf {

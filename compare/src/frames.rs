@@ -100,6 +100,20 @@ impl Frame {
         Frame { kind, at: 0, done: 0, sampled: 0 }
     }
 
+    /// The frame at a place that it has.
+    pub fn at(kind: Kind, place: Place) -> Frame {
+        let mut frame = Frame::begin(kind);
+        let mut strobe = place.strobe as u32;
+        // a WAIT is one strobe in the numbering of places
+        while strobe >= frame.field().most_strobes(1) {
+            strobe -= frame.field().most_strobes(1);
+            frame.at += 1;
+        }
+        frame.done = if frame.field() == Field::Wait { place.count as u32 } else { strobe };
+        frame.sampled = place.bits as u8;
+        frame
+    }
+
     fn field(&self) -> Field {
         self.kind.fields()[self.at]
     }

@@ -2,19 +2,28 @@
 //! note and document 01.
 //!
 //! `compare` runs for a few seconds, `compare --long` for longer; `--seed N` sets the seed of the
-//! random inputs. The first difference is printed with its inputs, and the exit code is 1.
+//! random inputs, `--only TEXT` keeps to the checks with that text in their names. The first difference
+//! is printed with its inputs, and the exit code is 1.
 
+mod c2;
 mod checks;
 mod device;
+mod driven;
+mod driver;
 mod frames;
 mod interface;
+mod job;
+mod lent;
 mod numbers;
 mod random;
+mod record;
 mod report;
 mod session;
 mod settings;
+mod slowest;
 mod steps;
 mod target;
+mod trouble;
 mod wire;
 
 use std::env;
@@ -25,28 +34,31 @@ use random::Random;
 use report::Failure;
 
 const DEFAULT_SEED: u64 = 20_127;
-const USAGE: &str = "usage: compare [--long] [--seed N]";
+const USAGE: &str = "usage: compare [--long] [--seed N] [--only TEXT]";
 
 struct Options {
     long: bool,
     seed: u64,
+    only: String,
 }
 
 fn parse(mut arguments: impl Iterator<Item = String>) -> Option<Options> {
-    let mut options = Options { long: false, seed: DEFAULT_SEED };
+    let mut options = Options { long: false, seed: DEFAULT_SEED, only: String::new() };
     while let Some(argument) = arguments.next() {
         match argument.as_str() {
             "--long" => options.long = true,
             "--seed" => options.seed = arguments.next()?.parse().ok()?,
+            "--only" => options.only = arguments.next()?,
             _ => return None,
         }
     }
     Some(options)
 }
 
-fn print_failure(check: &Check, seed: u64, failure: &Failure) {
+fn print_failure(check: &Check, options: &Options, failure: &Failure) {
     println!("FAILED    {}", check.name);
-    println!("seed      {seed}");
+    let long = if options.long { " --long" } else { "" };
+    println!("repeat    compare{long} --seed {} --only \"{}\"", options.seed, check.name);
     println!("inputs    {}", failure.inputs);
     println!("expected  {}", failure.expected);
     println!("came      {}", failure.came);
@@ -57,7 +69,7 @@ fn print_failure(check: &Check, seed: u64, failure: &Failure) {
 fn run_all(options: &Options) -> ExitCode {
     println!("seed {}{}", options.seed, if options.long { ", long" } else { "" });
     let mut total = 0;
-    for check in checks::all() {
+    for check in checks::all().filter(|check| check.name.contains(&options.only)) {
         let mut run = Run { long: options.long, random: Random::new(options.seed) };
         match (check.run)(&mut run) {
             Ok(cases) => {
@@ -65,7 +77,7 @@ fn run_all(options: &Options) -> ExitCode {
                 total += cases;
             }
             Err(failure) => {
-                print_failure(check, options.seed, &failure);
+                print_failure(check, options, &failure);
                 return ExitCode::FAILURE;
             }
         }

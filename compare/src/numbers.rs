@@ -6,6 +6,7 @@ pub const PAGE_SIZE: u32 = 2;
 pub const PAGE_COUNT: u32 = 3;
 pub const IMAGE_PAGES: u32 = 4;
 pub const FIRST_PAGE: u32 = 5;
+pub const RECORD: u32 = 6;
 pub const IMAGE_LENGTH: u32 = 7;
 pub const STEP_BUFFER: u32 = 8;
 pub const BAD_REPLY: u32 = 9;

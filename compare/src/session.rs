@@ -2,7 +2,7 @@
 //!
 //! Opening writes the whole session out as a list of operations; a reply moves along that list.
 
-use crate::frames::{End, Frame, Kind};
+use crate::frames::{End, Frame, Kind, Place};
 use crate::interface::{BLOCK_READ, BLOCK_WRITE, FPCTL, IN_BUSY, KEYS, OKAY, OUT_READY, PAGE_ERASE};
 use crate::numbers;
 use crate::settings::Settings;
@@ -52,33 +52,73 @@ impl Operation {
     /// Each WAIT counts to 20 strobes and each poll to 256 reads.
     fn most_steps(self) -> u64 {
         let once = self.frame().map_or(1, |kind| kind.most_strobes(WAIT_LIMIT));
-        match self {
-            Operation::PollInBusy | Operation::PollOutReady => u64::from(POLL_LIMIT) * once,
-            _ => once,
+        if self.polls() {
+            u64::from(POLL_LIMIT) * once
+        } else {
+            once
         }
     }
+
+    fn polls(self) -> bool {
+        matches!(self, Operation::PollInBusy | Operation::PollOutReady)
+    }
+}
+
+/// The parts of a session's order: the lead goes up to the pause and includes it.
+#[derive(Clone, Copy, Debug, PartialEq, Eq)]
+pub enum Stage {
+    Lead,
+    Erase,
+    BlockWrite,
+    BlockRead,
+    LastReset,
+}
+
+/// Where an operation stands in the order: the page counts in the image, the block in the page, the act in
+/// the stage. As narrow as in the record, for the list is long.
+#[derive(Clone, Copy, Debug, PartialEq, Eq)]
+pub struct Act {
+    pub stage: Stage,
+    pub page: u8,
+    pub block: u8,
+    pub act: u16,
+}
+
+#[derive(Clone, Copy, Debug)]
+struct Entry {
+    operation: Operation,
+    act: Act,
 }
 
 /// The list of operations of a session, in the order of document 01.
 struct Order {
     fpdat: u8,
-    operations: Vec<Operation>,
+    /// where the operation to be added next stands
+    next: Act,
+    entries: Vec<Entry>,
 }
 
 impl Order {
-    fn of(settings: &Settings, first_page: usize, pages: usize) -> Vec<Operation> {
-        let mut order = Order { fpdat: settings.fpdat, operations: Vec::new() };
+    fn of(settings: &Settings, first_page: usize, pages: usize) -> Vec<Entry> {
+        let next = Act { stage: Stage::Lead, page: 0, block: 0, act: 0 };
+        let mut order = Order { fpdat: settings.fpdat, next, entries: Vec::new() };
         order.identify(settings.device_id);
         order.turn_interface_on();
         for page in 0..pages {
             order.program_page(settings.page_size as usize, first_page + page, page);
         }
+        order.enter(Stage::LastReset, 0, 0);
         order.add(Operation::Reset);
-        order.operations
+        order.entries
+    }
+
+    fn enter(&mut self, stage: Stage, page: usize, block: usize) {
+        self.next = Act { stage, page: page as u8, block: block as u8, act: 0 };
     }
 
     fn add(&mut self, operation: Operation) {
-        self.operations.push(operation);
+        self.entries.push(Entry { operation, act: self.next });
+        self.next.act += 1;
     }
 
     fn put(&mut self, byte: Byte) {
@@ -111,13 +151,16 @@ impl Order {
 
     /// `page` counts in the flash, `image_page` in the image.
     fn program_page(&mut self, page_size: usize, page: usize, image_page: usize) {
+        self.enter(Stage::Erase, image_page, 0);
         self.erase(page as u8);
         let (address, offset) = (page * page_size, image_page * page_size);
-        for block in (0..page_size).step_by(BLOCK_SIZE) {
-            self.block_write(address + block, offset + block);
+        for (block, start) in (0..page_size).step_by(BLOCK_SIZE).enumerate() {
+            self.enter(Stage::BlockWrite, image_page, block);
+            self.block_write(address + start, offset + start);
         }
-        for block in (0..page_size).step_by(BLOCK_SIZE) {
-            self.block_read(address + block, offset + block);
+        for (block, start) in (0..page_size).step_by(BLOCK_SIZE).enumerate() {
+            self.enter(Stage::BlockRead, image_page, block);
+            self.block_read(address + start, offset + start);
         }
     }
 
@@ -168,7 +211,7 @@ pub struct Outcome {
 }
 
 impl Outcome {
-    fn of(number: u32) -> Outcome {
+    pub fn of(number: u32) -> Outcome {
         Outcome { number, offset: 0 }
     }
 }
@@ -180,10 +223,41 @@ pub struct Advanced {
     pub taken: usize,
 }
 
+/// The point that a running session has reached.
+#[derive(Clone, Copy, Debug, PartialEq, Eq)]
+pub struct Point {
+    pub act: Act,
+    /// in the act's frame; the count is that of a WAIT's zeros or of a poll's unsatisfied reads
+    pub place: Place,
+}
+
+#[derive(Clone, Copy, Debug, PartialEq, Eq)]
+pub enum State {
+    Running(Point),
+    Ended(Outcome),
+}
+
+/// All that tells one session from another.
+#[derive(Clone, Copy, Debug, PartialEq, Eq)]
+pub struct Held {
+    pub settings: Settings,
+    pub first_page: usize,
+    pub pages: usize,
+    pub state: State,
+}
+
+impl Held {
+    pub fn image_len(&self) -> usize {
+        self.pages * self.settings.page_size as usize
+    }
+}
+
 #[derive(Clone, Debug)]
 pub struct Session {
-    image_len: usize,
-    operations: Vec<Operation>,
+    settings: Settings,
+    first_page: usize,
+    pages: usize,
+    entries: Vec<Entry>,
     /// for each operation, the most steps of all that come after it
     later: Vec<u64>,
     at: usize,
@@ -195,7 +269,7 @@ pub struct Session {
 }
 
 /// The lowest of the refusals 1 to 5, in the order of their numbers.
-fn refusal(settings: &Settings, first_page: u32, image_len: usize) -> Option<u32> {
+pub fn refusal(settings: &Settings, first_page: u32, image_len: usize) -> Option<u32> {
     if let Some(number) = settings.refusal() {
         return Some(number);
     }
@@ -214,16 +288,71 @@ impl Session {
             return Err(number);
         }
         let pages = image.len() / settings.page_size as usize;
-        let operations = Order::of(settings, first_page as usize, pages);
+        Ok(Session::begin(*settings, first_page as usize, pages))
+    }
+
+    fn begin(settings: Settings, first_page: usize, pages: usize) -> Session {
+        let entries = Order::of(&settings, first_page, pages);
         let mut sum = 0;
-        let mut later: Vec<u64> = Vec::with_capacity(operations.len());
-        for operation in operations.iter().rev() {
+        let mut later: Vec<u64> = Vec::with_capacity(entries.len());
+        for entry in entries.iter().rev() {
             later.push(sum);
-            sum += operation.most_steps();
+            sum += entry.operation.most_steps();
         }
         later.reverse();
-        let (image_len, outcome) = (image.len(), Outcome::of(numbers::RUNNING));
-        Ok(Session { image_len, operations, later, at: 0, frame: None, reads: 0, outcome })
+        let outcome = Outcome::of(numbers::RUNNING);
+        Session { settings, first_page, pages, entries, later, at: 0, frame: None, reads: 0, outcome }
+    }
+
+    /// The session that this tells of, which is in range.
+    pub fn resume(held: &Held) -> Session {
+        let mut session = Session::begin(held.settings, held.first_page, held.pages);
+        session.go_to(&held.state);
+        session
+    }
+
+    /// Puts the session somewhere else in its order; the point is one that it has.
+    pub fn go_to(&mut self, state: &State) {
+        match state {
+            State::Running(point) => self.go_to_point(point),
+            State::Ended(outcome) => self.outcome = *outcome,
+        }
+    }
+
+    fn go_to_point(&mut self, point: &Point) {
+        let found = self.entries.iter().position(|entry| entry.act == point.act);
+        self.at = found.unwrap_or_else(|| panic!("no {:?} in the order", point.act));
+        let operation = self.operation();
+        self.frame = operation.frame().map(|kind| Frame::at(kind, point.place));
+        self.reads = if operation.polls() { point.place.count as u32 } else { 0 };
+        self.outcome = Outcome::of(numbers::RUNNING);
+    }
+
+    pub fn held(&self) -> Held {
+        let Session { settings, first_page, pages, .. } = *self;
+        let state = if self.running() { State::Running(self.point()) } else { State::Ended(self.outcome) };
+        Held { settings, first_page, pages, state }
+    }
+
+    fn image_len(&self) -> usize {
+        self.pages * self.settings.page_size as usize
+    }
+
+    fn point(&self) -> Point {
+        let mut place = self.frame.map_or(Place::default(), |frame| frame.place());
+        if self.operation().polls() {
+            place.count = self.reads as usize;
+        }
+        Point { act: self.entries[self.at].act, place }
+    }
+
+    fn operation(&self) -> Operation {
+        self.entries[self.at].operation
+    }
+
+    /// Every act of the session, in its order.
+    pub fn acts(&self) -> impl Iterator<Item = Act> + '_ {
+        self.entries.iter().map(|entry| entry.act)
     }
 
     pub fn outcome(&self) -> Outcome {
@@ -239,10 +368,7 @@ impl Session {
         if !self.running() {
             return 0;
         }
-        let later_reads = match self.operations[self.at] {
-            Operation::PollInBusy | Operation::PollOutReady => POLL_LIMIT - 1 - self.reads,
-            _ => 0,
-        };
+        let later_reads = if self.operation().polls() { POLL_LIMIT - 1 - self.reads } else { 0 };
         let a_read = Kind::AddressRead.most_strobes(WAIT_LIMIT);
         let here = self.frame.map_or(1, |frame| frame.most_strobes_left(WAIT_LIMIT));
         here + u64::from(later_reads) * a_read + self.later[self.at]
@@ -265,7 +391,7 @@ impl Session {
     }
 
     fn call_refusal(&self, image_len: usize, replies: usize, steps_len: usize, place: usize) -> Option<u32> {
-        if image_len != self.image_len {
+        if image_len != self.image_len() {
             return Some(numbers::IMAGE_LENGTH);
         }
         let fits = place.checked_add(replies).is_some_and(|end| end <= steps_len);
@@ -305,10 +431,10 @@ impl Session {
     fn next_operation(&mut self) -> Result<(), Outcome> {
         self.at += 1;
         self.reads = 0;
-        match self.operations.get(self.at) {
+        match self.entries.get(self.at) {
             None => Err(Outcome::of(numbers::DONE)),
-            Some(operation) => {
-                self.frame = operation.frame().map(Frame::begin);
+            Some(entry) => {
+                self.frame = entry.operation.frame().map(Frame::begin);
                 Ok(())
             }
         }
@@ -316,7 +442,7 @@ impl Session {
 
     /// A frame has passed its STOP, having sampled this byte.
     fn judge(&mut self, sampled: u8, image: &[u8]) -> Result<(), Outcome> {
-        match self.operations[self.at] {
+        match self.operation() {
             Operation::PollInBusy => return self.polled(sampled & IN_BUSY == 0),
             Operation::PollOutReady => return self.polled(sampled & OUT_READY != 0),
             Operation::Expect(byte, number) if sampled != value(byte, image)? => {
@@ -344,7 +470,7 @@ impl Session {
     }
 
     fn step(&self, image: &[u8]) -> Result<u8, Outcome> {
-        let operation = self.operations[self.at];
+        let operation = self.operation();
         let Some(frame) = &self.frame else {
             let pause = matches!(operation, Operation::Pause);
             return Ok(if pause { PAUSE } else { RESET });

@@ -1,6 +1,8 @@
 //! The checks: what is compared, over which inputs.
 
+pub mod calls;
 pub mod programming;
+pub mod records;
 pub mod target;
 pub mod wire;
 
@@ -30,5 +32,5 @@ pub struct Check {
 }
 
 pub fn all() -> impl Iterator<Item = &'static Check> {
-    [wire::CHECKS, target::CHECKS, programming::CHECKS].into_iter().flatten()
+    [wire::CHECKS, target::CHECKS, programming::CHECKS, calls::CHECKS, records::CHECKS].into_iter().flatten()
 }

@@ -2,11 +2,13 @@
 
 use super::{Check, Run};
 use crate::device::Device;
+use crate::job::{open, Job};
 use crate::numbers;
 use crate::random::Random;
 use crate::report::{expect, expect_that, Checked, Failure};
 use crate::session::{Advanced, Outcome, Session, FIRST_STEP};
 use crate::settings::Settings;
+use crate::slowest::Slowest;
 use crate::steps::OFF;
 
 pub const CHECKS: &[Check] = &[
@@ -59,14 +61,6 @@ fn refused_openings(_: &mut Run) -> Checked {
         expect(refusal, came, || format!("{settings:?}, first page {first_page}, image of {image_len}"))?;
     }
     Ok(rows.len() as u64)
-}
-
-fn open(settings: &Settings, first_page: u32, image: &[u8]) -> Result<Session, Failure> {
-    Session::open(settings, first_page, image).map_err(|number| Failure {
-        inputs: format!("{settings:?}, first page {first_page}, image of {}", image.len()),
-        expected: "an accepted opening".to_string(),
-        came: format!("refusal {number}"),
-    })
 }
 
 /// P11 and P12, and document 01's formula for every number of pages.
@@ -299,104 +293,6 @@ fn run_watched(job: &mut Job, session: &mut Session) -> Result<(), Failure> {
     expect_that(taken <= start, &format!("at most {start} replies"), taken, || job.describe())
 }
 
-/// The replies of the slowest device that still satisfies every WAIT and every poll.
-struct Slowest(Vec<u8>);
-
-impl Slowest {
-    /// Replies that are not looked at.
-    fn unused(&mut self, count: usize) {
-        self.0.extend(vec![0; count]);
-    }
-
-    fn byte(&mut self, byte: u8) {
-        self.0.extend((0..8).map(|bit| byte >> bit & 1));
-    }
-
-    fn wait(&mut self) {
-        self.0.extend([0; 19]);
-        self.0.push(1);
-    }
-
-    fn address_write(&mut self) {
-        self.unused(12);
-    }
-
-    fn address_read(&mut self, status: u8) {
-        self.unused(3);
-        self.byte(status);
-        self.unused(1);
-    }
-
-    fn data_write(&mut self) {
-        self.unused(13);
-        self.wait();
-        self.unused(1);
-    }
-
-    fn data_read(&mut self, byte: u8) {
-        self.unused(5);
-        self.wait();
-        self.byte(byte);
-        self.unused(1);
-    }
-
-    /// Either poll: InBusy without OutReady, and at the last read the other way round.
-    fn poll(&mut self) {
-        for _ in 0..255 {
-            self.address_read(0x02);
-        }
-        self.address_read(0x01);
-    }
-
-    fn puts(&mut self, count: usize) {
-        for _ in 0..count {
-            self.data_write();
-            self.poll();
-        }
-    }
-
-    fn get(&mut self, byte: u8) {
-        self.poll();
-        self.data_read(byte);
-    }
-
-    fn page(&mut self, page: &[u8]) {
-        self.address_write();
-        for _ in 0..3 {
-            self.puts(1);
-            self.get(0x0D);
-        }
-        for _ in page.chunks(256) {
-            self.address_write();
-            self.puts(1);
-            self.get(0x0D);
-            self.puts(3 + 256);
-            self.get(0x0D);
-        }
-        for block in page.chunks(256) {
-            self.address_write();
-            self.puts(1);
-            self.get(0x0D);
-            self.puts(3);
-            self.get(0x0D);
-            block.iter().for_each(|&byte| self.get(byte));
-        }
-    }
-
-    fn session(device_id: u8, page_size: usize, image: &[u8]) -> Vec<u8> {
-        let mut replies = Slowest(Vec::new());
-        replies.unused(1);
-        replies.data_read(device_id);
-        replies.unused(1);
-        replies.address_write();
-        (0..3).for_each(|_| replies.data_write());
-        replies.unused(1);
-        image.chunks(page_size).for_each(|page| replies.page(page));
-        replies.unused(1);
-        replies.0
-    }
-}
-
 /// These replies are as many as the figure said at the start, and each lowers it by exactly 1.
 fn slowest_replies(run: &mut Run) -> Checked {
     let pages = run.cases(1, 4) as usize;
@@ -415,65 +311,8 @@ fn slowest_replies(run: &mut Run) -> Checked {
     Ok(replies.len() as u64)
 }
 
-/// A device and a job for it.
-struct Job {
-    device: Device,
-    first_page: usize,
-    image: Vec<u8>,
-}
-
-impl Job {
-    fn random(random: &mut Random, pages: usize) -> Job {
-        let page_size = random.pick(&[512, 1024]);
-        let most_pages = 65_536 / page_size;
-        let page_count = random.between(pages, most_pages);
-        let settings = Settings {
-            device_id: random.byte(),
-            fpdat: random.between(3, 255) as u8,
-            page_size: page_size as u32,
-            page_count: page_count as u32,
-        };
-        let flash = random.bytes(page_size * page_count);
-        let first_page = random.between(0, page_count - pages);
-        let image = random.bytes(page_size * pages);
-        Job { device: Device::fresh(settings, flash, random_delays(random)), first_page, image }
-    }
-
-    fn describe(&self) -> String {
-        let Device { settings, delays, .. } = &self.device;
-        let (pages, first_page) = (self.image.len() / settings.page_size as usize, self.first_page);
-        format!(
-            "{settings:?}, first page {first_page}, {pages} pages, delays {delays:?}; \
-             image and flash drawn from the seed"
-        )
-    }
-
-    fn session(&self) -> Result<Session, Failure> {
-        open(&self.device.settings, self.first_page as u32, &self.image)
-    }
-
-    /// The flash with the image laid over the named pages.
-    fn programmed_flash(&self) -> Vec<u8> {
-        let mut flash = self.device.flash.clone();
-        let start = self.first_page * self.device.settings.page_size as usize;
-        flash[start..start + self.image.len()].copy_from_slice(&self.image);
-        flash
-    }
-}
-
-/// None, one throughout (those at the edges of WAIT and poll among them), small ones, any.
-fn random_delays(random: &mut Random) -> Vec<u8> {
-    let count = random.between(1, 60);
-    match random.below(5) {
-        0 => Vec::new(),
-        1 => vec![random.pick(&[1, 19, 20, 255])],
-        2 | 3 => (0..count).map(|_| random.below(6) as u8).collect(),
-        _ => random.bytes(count),
-    }
-}
-
 fn random_programming(run: &mut Run) -> Checked {
-    let cases = run.cases(30, 300);
+    let cases = run.cases(15, 300);
     for _ in 0..cases {
         let pages = run.random.between(1, 3);
         let mut job = Job::random(&mut run.random, pages);

@@ -17,3 +17,12 @@ both false b e = absurd (let z : _≡_ {A = ℕ} 0 1 = cc in omega arith)
 pub by-test : {A : Type 0} (t : Bool) → (t ≡ true → A) → (t ≡ false → A) → A
 by-test true f g = f refl
 by-test false f g = g refl
+
+-- a test that a false branch could not have passed
+pub not-first : (t x : Bool) → cond t false x ≡ true → (t ≡ false) × (x ≡ true)
+not-first true x e = absurd (let z : _≡_ {A = ℕ} 0 1 = cc in omega arith)
+not-first false x e = (refl, e)
+
+pub not-second : (t x : Bool) → cond t x false ≡ true → (t ≡ true) × (x ≡ true)
+not-second true x e = (refl, e)
+not-second false x e = absurd (let z : _≡_ {A = ℕ} 0 1 = cc in omega arith)

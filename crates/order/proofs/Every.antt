@@ -53,7 +53,7 @@ module _ (P : Act → Type 0) (g : Ground P) where
   every-compares o [] h = none
   every-compares o (b ∷ bs) h = every-get b (record { number = compare-differs; offset = o }) (h .0) then every-compares (suc o) bs (h .1)
 
-  every-erase : (f p : ℕ) → Every P (erase f p)
+  pub every-erase : (f p : ℕ) → Every P (erase f p)
   unfolding erase
   every-erase f p = more (g .addresses f) (every-put 8) then every-status then every-put p then every-status then every-put 0 then every-status
 
@@ -61,15 +61,15 @@ module _ (P : Act → Type 0) (g : Ground P) where
   unfolding block-command
   every-command f c b = more (g .addresses f) (every-put c) then every-status then every-put _ then every-put _ then every-put _
 
-  every-block-write : (f : ℕ) (b : Block) → Every P (block-write f b)
+  pub every-block-write : (f : ℕ) (b : Block) → Every P (block-write f b)
   unfolding block-write
   every-block-write f b = every-command f 7 b then every-puts (b .bytes) then every-status
 
-  every-block-read : (f : ℕ) (b : Block) → Bytes (b .bytes) → Every P (block-read f b)
+  pub every-block-read : (f : ℕ) (b : Block) → Bytes (b .bytes) → Every P (block-read f b)
   unfolding block-read
   every-block-read f b h = every-command f 6 b then every-status then every-compares (b .offset) (b .bytes) h
 
-  every-blocks : (acts : Block → List Act) → ((b : Block) → Bytes (b .bytes) → Every P (acts b)) → (n a o : ℕ) (bs : List ℕ) → Bytes bs
+  pub every-blocks : (acts : Block → List Act) → ((b : Block) → Bytes (b .bytes) → Every P (acts b)) → (n a o : ℕ) (bs : List ℕ) → Bytes bs
       → Every P (joined (map acts (blocks n a o bs)))
   unfolding blocks joined
   every-blocks acts f zero a o bs h = none
@@ -77,21 +77,21 @@ module _ (P : Act → Type 0) (g : Ground P) where
       f (record { address = a; offset = o; bytes = take 256 bs }) (bytes-take 256 bs h)
       then every-blocks acts f n (a + 256) (o + 256) (drop 256 bs) (bytes-drop 256 bs h)
 
-  every-page : (s : Settings) (p : Page) → Bytes (p .bytes) → Every P (page-acts s p)
+  pub every-page : (s : Settings) (p : Page) → Bytes (p .bytes) → Every P (page-acts s p)
   unfolding page-acts
   every-page s p h =
       every-erase (s .fpdat) (p .number)
       then every-blocks (block-write (s .fpdat)) (λ b _. every-block-write (s .fpdat) b) (s .size / 256) (p .number * s .size) (p .offset) (p .bytes) h
       then every-blocks (block-read (s .fpdat)) (every-block-read (s .fpdat)) (s .size / 256) (p .number * s .size) (p .offset) (p .bytes) h
 
-  every-pages : (s : Settings) (o : ℕ) (ns bs : List ℕ) → Bytes bs → Every P (joined (map (page-acts s) (pages (s .size) o ns bs)))
+  pub every-pages : (s : Settings) (o : ℕ) (ns bs : List ℕ) → Bytes bs → Every P (joined (map (page-acts s) (pages (s .size) o ns bs)))
   unfolding pages joined
   every-pages s o [] bs h = none
   every-pages s o (n ∷ ns) bs h =
       every-page s (record { number = n; offset = o; bytes = take (s .size) bs }) (bytes-take (s .size) bs h)
       then every-pages s (o + s .size) ns (drop (s .size) bs) (bytes-drop (s .size) bs h)
 
-  every-lead : (s : Settings) → s .id < 256 → Every P (lead s)
+  pub every-lead : (s : Settings) → s .id < 256 → Every P (lead s)
   unfolding lead
   every-lead s h =
       more (g .resets) (more (g .expects (s .id) (outcome other-device) h) (more (g .resets) (more (g .addresses 2)

@@ -1,24 +1,25 @@
 -- The roles that the code finds by arithmetic are the strobes of the frames.
-use mathlib.Core.Path.{_≡_, refl, ap, _∙_}
+use mathlib.Core.Path.{_≡_, refl, ap, _∙_, sym}
 use mathlib.Core.Bool.{Bool, true, false, cond}
 use Prim.Native.Nat.{ℕ, _+_, _-_, _/_, _%_, _^_, _<_, _≤_}
 use native.Mathlib.Omega.{arith}
 use native.Mathlib.Decide.{decLt}
 use borrow.Author.Tests.{le-ltb, ne-eqb, ltb-true, ltb-false, eqb-true}
 use lib.Dec.{eqb, ltb}
-use lib.ListN.{length, List·getD-eq-default}
+use lib.ListN.{length, List·getD-eq-default, take}
 use Rattle.laws.proofs.Below.{upto, same-below}
 use Rattle.wire.specs.Bits.{odd, bits, bit}
 use Rattle.wire.specs.Step.{driven, released, code}
 use Rattle.wire.specs.Field.{STOP}
 use Rattle.wire.specs.Frames.{plain, sends, ins-code, frame}
-use Rattle.wire.specs.Place.{place, step-of, step-at, samples, follows, followed}
+use Rattle.wire.specs.Place.{place, step-of, step-at, samples, follows, followed, strobe-at, count-limit}
 use Rattle.wire.specs.Role.{body-role, role-at, drives-bit, role-step, role-follows, Role-fits}
 use Rattle.wire.specs.declared.Frame.{Frame}
 use Rattle.wire.specs.declared.Frame.the-variants.{AddressWrite, AddressRead, DataWrite, DataRead}
 use Rattle.wire.specs.declared.Role.{Role}
 use Rattle.wire.specs.declared.Role.the-variants.{Stop}
 use Rattle.wire.specs.declared.Place.{Place}
+use Rattle.wire.proofs.Following.{Exists}
 use Rattle.wire.proofs.Bits.{bit-odd, bits-at, length-bits}
 
 -- the driven step of a bit by arithmetic
@@ -111,3 +112,38 @@ unfolding role-at
 role-fits f i =
     by-test (eqb i 0) _ _ i (λ p. omega (arith, eqb-true i 0 p))
     (λ _. by-test (ltb i 3) _ _ i (λ p. omega (arith, ltb-true i 3 p)) (λ p. body-fits f i (ltb-false i 3 p)))
+
+-- what a reply makes of a place does not go by the byte that the frame writes
+pub followed-any-byte : (f : Frame) (a b l : ℕ) (p : Place) (t : Bool) → followed l (frame f a) p t ≡ followed l (frame f b) p t
+followed-any-byte f a b l p t = sym (role-follows-at f a l p t) ∙ role-follows-at f b l p t
+
+-- and a place exists in a frame whatever byte the frame writes
+counts-below : (f : Frame) (a b l r : ℕ) → upto (λ i. count-limit l r (strobe-at (frame f a) i)) 15 ≡ upto (λ i. count-limit l r (strobe-at (frame f b) i)) 15
+unfolding frame sends ins-code bits count-limit
+counts-below AddressWrite a b l r = refl
+counts-below AddressRead a b l r = refl
+counts-below DataWrite a b l r = refl
+counts-below DataRead a b l r = refl
+
+samples-below : (f : Frame) (a b : ℕ) → upto (λ i. samples (take i (frame f a))) 15 ≡ upto (λ i. samples (take i (frame f b))) 15
+unfolding frame sends ins-code bits samples
+samples-below AddressWrite a b = refl
+samples-below AddressRead a b = refl
+samples-below DataWrite a b = refl
+samples-below DataRead a b = refl
+
+length-any-byte : (f : Frame) (a b : ℕ) → length (frame f a) ≡ length (frame f b)
+unfolding frame sends ins-code bits
+length-any-byte AddressWrite a b = refl
+length-any-byte AddressRead a b = refl
+length-any-byte DataWrite a b = refl
+length-any-byte DataRead a b = refl
+
+pub exists-any-byte : (f : Frame) (a b l r : ℕ) (p : Place) → Exists l r (frame f a) p → Exists l r (frame f b) p
+exists-any-byte f a b l r p h =
+    let few : p .strobe < 15 = omega (arith, h .inside, length-frame f a) in
+    record {
+      inside = rw (length-any-byte f b a) (h .inside);
+      counted = rw (same-below (λ i. count-limit l r (strobe-at (frame f a) i)) (λ i. count-limit l r (strobe-at (frame f b) i)) 15 (counts-below f a b l r) (p .strobe) few) at (h .counted);
+      sampled-only = rw (same-below (λ i. samples (take i (frame f a))) (λ i. samples (take i (frame f b))) 15 (samples-below f a b) (p .strobe) few) at (h .sampled-only);
+    }

@@ -1,0 +1,4 @@
+pub mod Looping
+pub mod Meeting
+pub mod Starting
+pub mod Calling

@@ -1,0 +1,12 @@
+-- `c2::refused` meets its contract: each return by the tests on its way and what the calls give.
+use mathlib.Core.Path.{refl}
+use Rattle.c2.specs.Calls.{refused-answer}
+use Rattle.c2.proofs.refused.Statement.{statement}
+use Rattle.c2.proofs.refused.Tie as tie
+
+returns : tie.Need-returns
+unfolding refused-answer
+returns c = refl
+
+pub refused-spec : {M : Type 1} → statement M
+refused-spec = tie.close (tie.spec returns)

@@ -1,0 +1,83 @@
+-- `c2::run` meets its contract: the loop keeps `Sofar`, by the laws of Looping.
+use mathlib.Core.Path.{sym, _∙_}
+use Prim.Native.Nat.{_-_}
+use borrow.Author.Needs.{needs}
+use borrow.Author.Tests.{not-true, not-false}
+use lib.ListN.{length}
+use Rattle.c2.proofs.Looping.{Sofar, starts, goes, done, stops}
+use Rattle.c2.proofs.run.Statement.{statement}
+use Rattle.c2.proofs.run.Tie as tie
+
+abbrev Inv-loop : tie.InvT-loop
+Inv-loop image replies steps₀ s₀ i₀ steps s i = Sofar image replies steps₀ s₀ steps s i
+
+abbrev μ-loop : tie.MeasureT-loop
+μ-loop image replies steps₀ s₀ i₀ steps s i = length replies - i
+
+loop-holds : tie.Need-loop-holds Inv-loop μ-loop
+loop-holds c = starts _ _ _ _ (c .before .before .before .pre)
+
+is-running-requires : tie.Need-is-running-requires Inv-loop μ-loop
+is-running-requires c κs = search needs
+
+same-length : tie.Need-same-length Inv-loop μ-loop
+same-length c = search needs
+
+returns : tie.Need-returns Inv-loop μ-loop
+returns c =
+    let k = c .before .before .before .loop .inv in
+    let d = stops _ _ _ _ _ _ _ k (sym (c .before .is-running .ensures) ∙ not-true _ (c .if1 .taken)) in
+    (d .session, (d .taken, d .out))
+
+shared-slice-read-advance : tie.Need-shared-slice-read-advance Inv-loop μ-loop
+shared-slice-read-advance c = search needs
+
+advance-requires : tie.Need-advance-requires Inv-loop μ-loop
+advance-requires c κs = search needs
+
+step-requires : tie.Need-step-requires Inv-loop μ-loop
+step-requires c κs = search needs
+
+slice-write-steps : tie.Need-slice-write-steps Inv-loop μ-loop
+slice-write-steps c = search needs
+
+add-i : tie.Need-add-i Inv-loop μ-loop
+add-i c = search needs
+
+loop-less : tie.Need-loop-less Inv-loop μ-loop
+loop-less c = search needs
+
+loop-again : tie.Need-loop-again Inv-loop μ-loop
+loop-again c =
+    let k = c .before .before .before .before .before .before .loop .inv in
+    let run = sym (c .before .before .before .before .is-running .ensures) ∙ not-false _ (c .before .before .before .if1 .left) in
+    rw (c .step .ensures, c .before .advance .ensures)
+    (goes _ _ _ _ _ _ _ k (c .before .before .before .before .before .loop-test .taken) run)
+
+same-length-2 : tie.Need-same-length-2 Inv-loop μ-loop
+same-length-2 c = search needs
+
+returns-2 : tie.Need-returns-2 Inv-loop μ-loop
+returns-2 c =
+    let d = done _ _ _ _ _ _ _ (c .before .loop .inv) (c .loop-test .left) in
+    (d .session, (d .taken, d .out))
+
+pub run-spec : {M : Type 1} → statement M
+run-spec =
+    tie.close
+    (tie.spec
+    Inv-loop
+    μ-loop
+    loop-holds
+    is-running-requires
+    same-length
+    returns
+    shared-slice-read-advance
+    advance-requires
+    step-requires
+    slice-write-steps
+    add-i
+    loop-less
+    loop-again
+    same-length-2
+    returns-2)

@@ -1,0 +1,223 @@
+// The driver's calls, in C: a session is opened, takes replies, and tells how much is left. Nothing is kept between calls but the record.
+ghost use mathlib.Core.Path.{_≡_};
+ghost use mathlib.Core.List.{_++_};
+ghost use Prim.Native.Nat.{_≤_};
+ghost use lib.ListN.{length, drop};
+ghost use Rattle.order.specs.Opening.{opening-refusal};
+ghost use Rattle.record.specs.Record.{unpacked};
+ghost use Rattle.c2.specs.Calls.{opening-number, opened-session, opening-answer, record-opened, refused-answer, image-length, advance-answer, advance-steps, advance-record};
+ghost use Rattle.c2.specs.Loop.{is-running, number-of, offset-of, ran, wrote};
+use numbers::BAD_RECORD;
+use numbers::NO_ROOM;
+use numbers::OTHER_IMAGE;
+use numbers::RUNNING;
+use record::Unpacked;
+use session::Point;
+use session::Session;
+use session::Stage;
+use settings::Settings;
+
+// The number of an opening, and its first step: 4, or 6 when refused.
+#[repr(C)]
+pub struct Opened {
+    pub number: u32,
+    pub step: u32,
+}
+
+// The session's number, the image offset for 14, and how many of the replies were taken.
+#[repr(C)]
+pub struct Advanced {
+    pub number: u32,
+    pub offset: u32,
+    pub taken: u64,
+}
+
+struct Ran {
+    session: Session,
+    taken: usize,
+}
+
+fn is_running(point: Point) -> bool
+    ensures { λ r. ⌜ r ≡ is-running point ⌝ }
+{
+    match point {
+        Point::Running {
+            stage: _,
+            page: _,
+            block: _,
+            act: _,
+            strobe: _,
+            count: _,
+            bits: _,
+        } => true,
+        Point::Ended {
+            number: _,
+            offset: _,
+        } => false,
+    }
+}
+
+// Takes replies as long as the session runs, and writes the step that follows each.
+fn run(start: Session, image: &[u8], replies: &[u8], steps: &mut [u8]) -> Ran
+    requires { ⌜ length (now replies) ≤ length (now steps) ⌝ }
+    ensures { λ r. ⌜ r .session ≡ ran (now (image .entry)) start (now (replies .entry)) ⌝ }
+    ensures { λ r. ⌜ r .taken ≡ length (wrote (now (image .entry)) start (now (replies .entry))) ⌝ }
+    ensures { λ r. ⌜ now (steps .exit) ≡ wrote (now (image .entry)) start (now (replies .entry)) ++ drop (r .taken) (now (steps .entry)) ⌝ }
+{
+    let mut s = start;
+    let mut i = 0;
+    while i < replies.len() {
+        let point = s.point;
+        if !is_running(point) {
+            return Ran {
+                session: s,
+                taken: i,
+            };
+        }
+        s = s.advance(replies[i], image);
+        steps[i] = s.step(image);
+        i += 1;
+    }
+    Ran {
+        session: s,
+        taken: i,
+    }
+}
+
+fn refused(number: u32) -> Advanced
+    ensures { λ r. ⌜ r ≡ refused-answer number ⌝ }
+{
+    Advanced {
+        number: number,
+        offset: 0,
+        taken: 0,
+    }
+}
+
+fn number_of(point: Point) -> u32
+    ensures { λ r. ⌜ r ≡ number-of point ⌝ }
+{
+    match point {
+        Point::Running {
+            stage: _,
+            page: _,
+            block: _,
+            act: _,
+            strobe: _,
+            count: _,
+            bits: _,
+        } => RUNNING,
+        Point::Ended { number, offset: _ } => number,
+    }
+}
+
+fn offset_of(point: Point) -> u32
+    ensures { λ r. ⌜ r ≡ offset-of point ⌝ }
+{
+    match point {
+        Point::Running {
+            stage: _,
+            page: _,
+            block: _,
+            act: _,
+            strobe: _,
+            count: _,
+            bits: _,
+        } => 0,
+        Point::Ended { number: _, offset } => offset,
+    }
+}
+
+fn answer(s: Session, taken: usize) -> Advanced
+    ensures { λ r. ⌜ (r .number ≡ number-of (s .point)) × (r .offset ≡ offset-of (s .point)) × (r .taken ≡ taken) ⌝ }
+{
+    let point = s.point;
+    Advanced {
+        number: number_of(point),
+        offset: offset_of(point),
+        taken: taken as u64,
+    }
+}
+
+// A session at its first step, for settings, first page and image length that opening accepts.
+fn start(t: Settings, first: u32, bytes: usize) -> Session
+    requires { ⌜ opening-refusal t first bytes ≡ 0 ⌝ }
+    ensures { λ r. ⌜ r ≡ opened-session t first bytes ⌝ }
+{
+    Session {
+        settings: t,
+        first: first as u16,
+        pages: (bytes / (t.size as usize)) as u16,
+        point: Point::Running {
+            stage: Stage::Lead,
+            page: 0,
+            block: 0,
+            act: 0,
+            strobe: 0,
+            count: 0,
+            bits: 0,
+        },
+    }
+}
+
+// Opens a session for the image's pages, from the first page on. A record that is not 32 bytes is tested first, then 1 to 5, in this order; a
+// refused opening changes no byte.
+#[no_mangle]
+pub extern "C" fn c2_open(held: &mut [u8], image: &[u8], t: Settings, first: u32) -> Opened
+    ensures { λ r. ⌜ r ≡ opening-answer (opening-number (length (now (held .entry))) t first (length (now (image .entry)))) ⌝ }
+    ensures { λ _. ⌜ now (held .exit) ≡ record-opened (opening-number (length (now (held .entry))) t first (length (now (image .entry)))) (opened-session t first (length (now (image .entry)))) (now (held .entry)) ⌝ }
+{
+    if held.len() != 32 {
+        return Opened {
+            number: BAD_RECORD,
+            step: 6,
+        };
+    }
+    let number = record::opening_refusal(t, first, image.len());
+    if number != RUNNING {
+        return Opened {
+            number: number,
+            step: 6,
+        };
+    }
+    let fresh = record::pack(start(t, first, image.len()));
+    bytes::copy(&fresh, held);
+    Opened {
+        number: RUNNING,
+        step: 4,
+    }
+}
+
+// Takes replies, and writes the step that follows each one taken into the step buffer, from the place on. Tests 6, 7 and 8, in this order; a
+// refused call changes no byte and takes no reply.
+#[no_mangle]
+pub extern "C" fn c2_advance(
+    held: &mut [u8],
+    image: &[u8],
+    replies: &[u8],
+    steps: &mut [u8],
+    place: usize,
+) -> Advanced
+    ensures { λ r. ⌜ r ≡ advance-answer (unpacked 20 256 (now (held .entry))) (now (image .entry)) (now (replies .entry)) (now (steps .entry)) place ⌝ }
+    ensures { λ _. ⌜ now (steps .exit) ≡ advance-steps (unpacked 20 256 (now (held .entry))) (now (image .entry)) (now (replies .entry)) (now (steps .entry)) place ⌝ }
+    ensures { λ _. ⌜ now (held .exit) ≡ advance-record (unpacked 20 256 (now (held .entry))) (now (image .entry)) (now (replies .entry)) (now (steps .entry)) place (now (held .entry)) ⌝ }
+{
+    let Unpacked::Held(s) = record::unpack(held) else {
+        return refused(BAD_RECORD);
+    };
+    let t = s.settings;
+    if image.len() != record::image_bytes(t.size, s.pages) {
+        return refused(OTHER_IMAGE);
+    }
+    if steps.len() < place {
+        return refused(NO_ROOM);
+    }
+    if steps.len() - place < replies.len() {
+        return refused(NO_ROOM);
+    }
+    let ran = run(s, image, replies, &mut steps[place..]);
+    let after = ran.session;
+    let again = record::pack(after);
+    bytes::copy(&again, held);
+    answer(after, ran.taken)
+}

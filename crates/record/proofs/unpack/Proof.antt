@@ -1,0 +1,67 @@
+-- `record::unpack` meets its contract: by the laws of Records.
+use mathlib.Core.Path.{sym, ap, _∙_}
+use borrow.Author.Needs.{needs}
+use Rattle.record.specs.Record.{point-of}
+use Rattle.record.proofs.Records.{not-32-bytes, no-point, a-point}
+use Rattle.record.proofs.unpack.Statement.{statement}
+use Rattle.record.proofs.unpack.Tie as tie
+
+returns : tie.Need-returns
+returns c = not-32-bytes 20 256 _ (c .if1 .taken)
+
+read-fields-requires : tie.Need-read-fields-requires
+read-fields-requires c κs = search needs
+
+point-of-requires : tie.Need-point-of-requires
+point-of-requires c κs = search needs
+
+enum-known-point : tie.Need-enum-known-point
+enum-known-point c = search needs
+
+enum-told : tie.Need-enum-told
+enum-told c = search needs
+
+returns-2 : tie.Need-returns-2
+returns-2 c = no-point 20 256 _ (sym (c .enum-told .given .1) ∙ c .before .before .point-of .ensures ∙ ap point-of (c .before .before .before .read-fields .ensures))
+
+read-settings-requires : tie.Need-read-settings-requires
+read-settings-requires c κs = search needs
+
+shared-slice-read-wide16 : tie.Need-shared-slice-read-wide16
+shared-slice-read-wide16 c = search needs
+
+wide16-requires : tie.Need-wide16-requires
+wide16-requires c κs = search needs
+
+shared-slice-read-wide16-2 : tie.Need-shared-slice-read-wide16-2
+shared-slice-read-wide16-2 c = search needs
+
+wide16-requires-2 : tie.Need-wide16-requires-2
+wide16-requires-2 c κs = search needs
+
+checked-requires : tie.Need-checked-requires
+checked-requires c κs = search needs
+
+returns-3 : tie.Need-returns-3
+returns-3 c =
+    a-point 20 256 _ _ _
+    (sym (c .before .before .before .before .before .before .before .point .given .1) ∙ c .before .before .before .before .before .before .before .before .before .point-of .ensures ∙ ap point-of (c .before .before .before .before .before .before .before .before .before .before .read-fields .ensures))
+    (rw (← c .before .before .before .before .before .read-settings .ensures, ← c .before .before .before .wide16 .ensures, ← c .before .wide162 .ensures) (c .checked .ensures))
+
+pub unpack-spec : {M : Type 1} → statement M
+unpack-spec =
+    tie.close
+    (tie.spec
+    returns
+    read-fields-requires
+    point-of-requires
+    enum-known-point
+    enum-told
+    returns-2
+    read-settings-requires
+    shared-slice-read-wide16
+    wide16-requires
+    shared-slice-read-wide16-2
+    wide16-requires-2
+    checked-requires
+    returns-3)

@@ -1,0 +1,31 @@
+-- `session::Session::onward` meets its contract: each return by the tests on its way and what the calls give.
+use borrow.Author.Needs.{needs}
+use Rattle.laws.proofs.Pick.{picks}
+use Rattle.session.specs.Machine.{onward}
+use Rattle.session.proofs.Session.onward.Statement.{statement}
+use Rattle.session.proofs.Session.onward.Tie as tie
+
+last-act-requires : tie.Need-last-act-requires
+last-act-requires c κs = search needs
+
+add-begins : tie.Need-add-begins
+add-begins c = search needs
+
+begins-requires : tie.Need-begins-requires
+begins-requires c κs = search needs
+
+returns : tie.Need-returns
+unfolding onward
+returns c = search (needs, picks)
+
+next-stage-requires : tie.Need-next-stage-requires
+next-stage-requires c κs = search needs
+
+returns-2 : tie.Need-returns-2
+unfolding onward
+returns-2 c = search (needs, picks)
+
+pub onward-spec : {M : Type 1} → statement M
+onward-spec =
+    tie.close
+    (tie.spec last-act-requires add-begins begins-requires returns next-stage-requires returns-2)

@@ -1,0 +1,21 @@
+-- `session::sends_image` meets its contract: each return by the tests on its way and what the calls give.
+use borrow.Author.Needs.{needs}
+use Rattle.laws.proofs.Pick.{picks}
+use Rattle.session.specs.Machine.{sends-image}
+use Rattle.session.proofs.sends_image.Statement.{statement}
+use Rattle.session.proofs.sends_image.Tie as tie
+
+returns : tie.Need-returns
+unfolding sends-image
+returns c = search (needs, picks)
+
+returns-2 : tie.Need-returns-2
+unfolding sends-image
+returns-2 c = search (needs, picks)
+
+returns-3 : tie.Need-returns-3
+unfolding sends-image
+returns-3 c = search (needs, picks)
+
+pub sends-image-spec : {M : Type 1} → statement M
+sends-image-spec = tie.close (tie.spec returns returns-2 returns-3)

@@ -1,0 +1,4 @@
+pub mod Tasks
+pub mod Machine
+pub mod Range
+pub mod Position

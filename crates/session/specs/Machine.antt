@@ -1,0 +1,155 @@
+-- The session as a value, and what a reply and an image make of it: the successor that is handed back.
+use mathlib.Core.Bool.{Bool, false, cond}
+use mathlib.Core.List.{List}
+use Prim.Native.Nat.{ℕ, _+_, _/_, _%_}
+use lib.Dec.{eqb, ltb}
+use Rattle.numbers.specs.Numbers.{done, bad-reply, wait-limit-reached, poll-limit-reached, other-device, bad-status, compare-differs, no-image-byte}
+use Rattle.wire.specs.Frames.{frame}
+use Rattle.wire.specs.Place.{place, step-at, followed}
+use Rattle.wire.specs.declared.Frame.the-variants.{AddressWrite, AddressRead, DataWrite, DataRead}
+use Rattle.wire.specs.declared.Place.{Place}
+use Rattle.wire.specs.declared.Moved.{Moved}
+use Rattle.wire.specs.declared.Moved.the-variants.{Within, Stopped, WaitLimit}
+use Rattle.session.specs.declared.Stage.{Stage}
+use Rattle.session.specs.declared.Stage.the-variants.{Lead, Erase, Write, Read, Close}
+use Rattle.session.specs.declared.Task.{Task}
+use Rattle.session.specs.declared.Task.the-variants.{Reset, Pause, Address, Send, Input, Output, Ident, Status, Compare}
+use Rattle.session.specs.declared.At.{At}
+use Rattle.session.specs.declared.Point.{Point}
+use Rattle.session.specs.declared.Point.the-variants.{Running, Ended}
+use Rattle.session.specs.declared.Session.{Session}
+use Rattle.session.specs.declared.Wanted.{Wanted}
+use Rattle.session.specs.declared.Wanted.the-variants.{Byte, Missing}
+use Rattle.session.specs.Tasks.{task-of, frame-of, last-act, image-byte, sent-offset, compared-offset, stage-byte, byte-of}
+
+abbrev pub at : Stage → (page block act : ℕ) → At
+at stage page block act = record { stage = stage; page = page; block = block; act = act }
+
+abbrev pub running : At → Place → Point
+running a p = Running (a .stage) (a .page) (a .block) (a .act) (p .strobe) (p .count) (p .bits)
+
+abbrev pub ended : ℕ → Point
+ended n = Ended n 0
+
+-- the first strobe of an act
+abbrev pub begins : Stage → (page block act : ℕ) → Point
+begins stage page block act = running (at stage page block act) (place 0 0 0)
+
+-- the point after an act: the next act of the stage, or the first of the stage after it
+unfoldable pub next-write : Session → At → Point
+next-write s a = cond (ltb (a .block + 1) (s .settings .size / 256)) (begins Write (a .page) (a .block + 1) 0) (begins Read (a .page) 0 0)
+
+unfoldable pub next-page : Session → (page : ℕ) → Point
+next-page s page = cond (ltb (page + 1) (s .pages)) (begins Erase (page + 1) 0 0) (begins Close 0 0 0)
+
+unfoldable pub next-read : Session → At → Point
+next-read s a = cond (ltb (a .block + 1) (s .settings .size / 256)) (begins Read (a .page) (a .block + 1) 0) (next-page s (a .page))
+
+abbrev pub next-stage : Stage → Session → At → Point
+next-stage Lead s a = begins Erase 0 0 0
+next-stage Erase s a = begins Write (a .page) 0 0
+next-stage Write s a = next-write s a
+next-stage Read s a = next-read s a
+next-stage Close s a = ended done
+
+unfoldable pub onward : Session → At → Point
+onward s a =
+    cond (ltb (a .act) (last-act (a .stage))) (begins (a .stage) (a .page) (a .block) (a .act + 1)) (next-stage (a .stage) s a)
+
+-- an unsatisfied read of a poll
+unfoldable pub again : (poll-limit : ℕ) → At → (reads : ℕ) → Point
+again limit a n = cond (ltb (n + 1) limit) (running a (place 0 (n + 1) 0)) (ended poll-limit-reached)
+
+-- a byte read back that differs ends the session with its image offset, which is a 32-bit number
+unfoldable pub differs : Session → At → Point
+differs s a = Ended compare-differs (compared-offset s a % 4294967296)
+
+unfoldable pub compared : (wanted : ℕ) → Session → At → (byte : ℕ) → Point
+compared b s a x = cond (eqb x b) (onward s a) (differs s a)
+
+-- the byte read back, beside the image's
+abbrev pub compares : Wanted → Session → At → ℕ → Point
+compares (Byte b) s a x = compared b s a x
+compares Missing s a x = ended no-image-byte
+
+-- the reply to a frame's STOP, where the frame has given this byte
+abbrev pub judged : (poll-limit : ℕ) → Task → Session → At → (reads byte : ℕ) → List ℕ → Point
+judged limit Reset s a n x image = onward s a
+judged limit Pause s a n x image = onward s a
+judged limit Address s a n x image = onward s a
+judged limit Send s a n x image = onward s a
+judged limit Input s a n x image = cond (eqb (x / 2 % 2) 0) (onward s a) (again limit a n)
+judged limit Output s a n x image = cond (eqb (x % 2) 1) (onward s a) (again limit a n)
+judged limit Ident s a n x image = cond (eqb x (s .settings .id)) (onward s a) (ended other-device)
+judged limit Status s a n x image = cond (eqb x 13) (onward s a) (ended bad-status)
+judged limit Compare s a n x image = compares (image-byte image (compared-offset s a)) s a x
+
+-- an act of a block write that sends a byte of the image, and a strobe of it that drives a bit of the byte
+unfoldable pub sends-image : (act : ℕ) → Bool
+sends-image act = cond (ltb act 11) false (cond (ltb act 523) (eqb (act % 2) 1) false)
+
+unfoldable pub drives-image : At → Place → Bool
+drives-image a p = cond (ltb (p .strobe) 5) false (cond (ltb (p .strobe) 13) (sends-image (a .act)) false)
+
+-- and the image has none there
+abbrev pub wants : Wanted → At → Place → Point
+wants (Byte b) a p = running a p
+wants Missing a p = ended no-image-byte
+
+abbrev pub stays : Stage → Session → At → Place → List ℕ → Point
+stays Lead s a p image = running a p
+stays Erase s a p image = running a p
+stays Write s a p image = cond (drives-image a p) (wants (image-byte image (sent-offset s a)) a p) (running a p)
+stays Read s a p image = running a p
+stays Close s a p image = running a p
+
+abbrev pub settled : (poll-limit : ℕ) → Moved → Task → Session → At → (reads : ℕ) → List ℕ → Point
+settled limit (Within p) k s a n image = stays (a .stage) s a p image
+settled limit (Stopped x) k s a n image = judged limit k s a n x image
+settled limit WaitLimit k s a n image = ended wait-limit-reached
+
+-- a reply of 0 or 1; a step that stands in no frame is over at its reply
+abbrev pub task-taken : (wait-limit poll-limit : ℕ) → Task → Session → At → Place → Bool → List ℕ → Point
+task-taken w r Reset s a p b image = onward s a
+task-taken w r Pause s a p b image = onward s a
+task-taken w r Address s a p b image = settled r (followed w (frame (frame-of Address) 0) p b) Address s a (p .count) image
+task-taken w r Send s a p b image = settled r (followed w (frame (frame-of Send) 0) p b) Send s a (p .count) image
+task-taken w r Input s a p b image = settled r (followed w (frame (frame-of Input) 0) p b) Input s a (p .count) image
+task-taken w r Output s a p b image = settled r (followed w (frame (frame-of Output) 0) p b) Output s a (p .count) image
+task-taken w r Ident s a p b image = settled r (followed w (frame (frame-of Ident) 0) p b) Ident s a (p .count) image
+task-taken w r Status s a p b image = settled r (followed w (frame (frame-of Status) 0) p b) Status s a (p .count) image
+task-taken w r Compare s a p b image = settled r (followed w (frame (frame-of Compare) 0) p b) Compare s a (p .count) image
+
+-- a reply that is neither 0 nor 1 comes first
+unfoldable pub replied : (wait-limit poll-limit : ℕ) → Session → At → Place → (reply : ℕ) → List ℕ → Point
+replied w r s a p reply image =
+    cond (ltb 1 reply) (ended bad-reply) (task-taken w r (task-of (a .stage) (a .act)) s a p (eqb reply 1) image)
+
+-- an ended session takes no reply
+abbrev pub point-advanced : (wait-limit poll-limit : ℕ) → Point → Session → (reply : ℕ) → List ℕ → Point
+point-advanced w r (Running g i j k q c v) s reply image = replied w r s (at g i j k) (place q c v) reply image
+point-advanced w r (Ended n o) s reply image = Ended n o
+
+-- the session after a reply
+unfoldable pub advanced : (wait-limit poll-limit : ℕ) → Session → (reply : ℕ) → List ℕ → Session
+advanced w r s reply image =
+    record { settings = s .settings; first = s .first; pages = s .pages; point = point-advanced w r (s .point) s reply image }
+
+-- the step that a session waits at
+abbrev pub task-step : Task → Session → At → (strobe : ℕ) → List ℕ → ℕ
+task-step Reset s a q image = 4
+task-step Pause s a q image = 5
+task-step Address s a q image = step-at (frame AddressWrite (byte-of (stage-byte (a .stage) s a image))) q
+task-step Send s a q image = step-at (frame DataWrite (byte-of (stage-byte (a .stage) s a image))) q
+task-step Input s a q image = step-at (frame AddressRead 0) q
+task-step Output s a q image = step-at (frame AddressRead 0) q
+task-step Ident s a q image = step-at (frame DataRead 0) q
+task-step Status s a q image = step-at (frame DataRead 0) q
+task-step Compare s a q image = step-at (frame DataRead 0) q
+
+abbrev pub point-step : Point → Session → List ℕ → ℕ
+point-step (Running g i j k q c v) s image = task-step (task-of g k) s (at g i j k) q image
+point-step (Ended n o) s image = 6
+
+unfoldable pub step-of : Session → List ℕ → ℕ
+step-of s image = point-step (s .point) s image

@@ -1,0 +1,156 @@
+/*
+ * Flash programming over the two-wire C2 interface: the driver's calls.
+ *
+ * A session programs one image into a device: it resets the device, compares its ID, turns its Programming Interface on, and
+ * then erases, writes and reads back page after page. The session never touches a pin. It names a step, the driver does that
+ * step on C2CK and C2D and reads C2D after it, and the reply, 0 or 1, decides the step that follows.
+ *
+ * The record. Between calls a session is a record of 32 bytes, and nothing else: no call keeps a pointer, and the library has no
+ * memory of its own. When a call has returned, the image, the replies and the step buffer may be freed, moved or overwritten;
+ * the next call is lent them afresh, wherever they are by then. Keep the 32 bytes as the last call left them (over sleep too)
+ * and the image's content, which every call that takes replies must be lent again, unchanged. A record that was damaged is
+ * refused, as far as the damage shows: one that holds another session within its ranges is that session. Sessions with
+ * records of their own don't know of each other.
+ *
+ * The whole of a driver, with one reply to a call:
+ *
+ *     uint8_t record[C2_RECORD_BYTES];
+ *     c2_opened opened = c2_open(record, sizeof record, image, image_len, settings, first_page);
+ *     uint32_t number = opened.number;
+ *     uint8_t step = (uint8_t)opened.step;
+ *     while (number == C2_RUNNING) {
+ *         uint8_t reply = on_the_wire(step);
+ *         number = c2_advance(record, sizeof record, image, image_len, &reply, 1, &step, 1, 0).number;
+ *     }
+ *     on_the_wire(step);                                    // 6: both drivers off
+ *
+ * A call may take any number of replies, none too. Only their order counts: the same replies in other calls give the same
+ * steps, the same outcome and the same record.
+ *
+ * What is lent. Each pointer stands for as many bytes as the length after it says; where that is 0 it is not followed. The
+ * memory that a call may write (the record, the step buffer) must not overlap anything else that the same call is lent. Within
+ * that, every call takes any input and ends: what is wrong comes back as a number.
+ */
+#ifndef C2_H
+#define C2_H
+
+#include <stddef.h>
+#include <stdint.h>
+
+#ifdef __cplusplus
+extern "C" {
+#endif
+
+/* The length of a session's record. */
+#define C2_RECORD_BYTES 32
+
+/*
+ * The steps. Each is one byte; after each of 0 to 5 the driver gives one reply, the line C2D after the step, as 0 or 1. A strobe
+ * is a low pulse on C2CK: set C2D up before it, keep it no longer than 5 us (a reset is a longer one), read C2D after it. The
+ * maker's note has the times in its section 2.4. There is no step 1.
+ */
+enum {
+    C2_STEP_RELEASED = 0, /* strobe with C2D released: the device may drive it */
+    C2_STEP_LOW = 2,      /* strobe with C2D driven low */
+    C2_STEP_HIGH = 3,     /* strobe with C2D driven high */
+    C2_STEP_RESET = 4,    /* reset: C2CK low for at least 20 us, then high for at least 2 us; C2D released. The reply is not used,
+                             but must be 0 or 1 */
+    C2_STEP_PAUSE = 5,    /* wait 20 ms with C2D released. The reply is not used, but must be 0 or 1 */
+    C2_STEP_OFF = 6       /* the session is over, or was refused: both drivers off, no strobe, no reply */
+};
+
+/*
+ * The numbers that come back.
+ */
+enum {
+    /* The session is running: do the step, give its reply. */
+    C2_RUNNING = 0,
+    /* The session ended done: every page was erased, written, read back and found equal. */
+    C2_DONE = 32,
+
+    /* Refused openings. There is no session; correct what is named and open again. */
+    C2_BAD_FPDAT = 1,      /* FPDAT address below 3: take it from the device's data sheet */
+    C2_BAD_PAGE_SIZE = 2,  /* page size neither 512 nor 1,024 */
+    C2_BAD_PAGE_COUNT = 3, /* page count 0, or size times count above 65,536 */
+    C2_BAD_IMAGE = 4,      /* image empty, or not whole pages: fill it up, with 0xFF for instance */
+    C2_PAST_LAST_PAGE = 5, /* first page plus the image's pages above the page count */
+
+    /* Refused calls. No reply was taken and no lent byte has changed; the session, if there is one, stands where it stood. */
+    C2_BAD_RECORD = 6,  /* record not 32 bytes long, or not a session within its ranges. Of an opening: lend 32 bytes. Later: the
+                           record was damaged or never opened; open again, which starts at the first page */
+    C2_OTHER_IMAGE = 7, /* the image's length is not the session's: lend the image of the opening */
+    C2_NO_ROOM = 8,     /* place plus number of replies above the step buffer's length: lend a longer one, or fewer replies */
+
+    /* Sessions that ended at a reply. The device has had no last reset: reset it or switch it off. The pages begun may be erased
+       or written in part; a new session programs them anew. */
+    C2_BAD_REPLY = 9,           /* a reply neither 0 nor 1: look for the fault in the driver */
+    C2_WAIT_LIMIT_REACHED = 10, /* the 20th zero in a WAIT: no device, or it does not answer; look at the wiring */
+    C2_POLL_LIMIT_REACHED = 11, /* the 256th read of InBusy or OutReady in vain: the device hangs, or FPDAT is wrong */
+    C2_OTHER_DEVICE = 12,       /* the device ID is not the one of the settings: another device; nothing was erased */
+    C2_BAD_STATUS = 13,         /* the device answered a command with a status other than 0x0D: it may lack the page, or be
+                                   locked */
+    C2_COMPARE_DIFFERS = 14,    /* a byte read back differs from the image; the offset says which. Try again, then suspect the
+                                   flash, or an image that was changed meanwhile */
+    C2_NO_IMAGE_BYTE = 15       /* an image offset not below the image's length when a byte is wanted. Since 7 is tested first,
+                                   no session of these calls ends so; a record may hold it */
+};
+
+/* The device. */
+typedef struct {
+    uint8_t device_id;   /* the ID that the device must have; any byte */
+    uint8_t fpdat;       /* address of its FPDAT register, 3 to 255 */
+    uint32_t page_size;  /* bytes of a flash page, 512 or 1,024 */
+    uint32_t page_count; /* pages of the flash, at least 1; size times count at most 65,536 */
+} c2_settings;
+
+/* The answer to c2_open. */
+typedef struct {
+    uint32_t number; /* C2_RUNNING, or 1 to 6 when refused */
+    uint32_t step;   /* the first step, C2_STEP_RESET; C2_STEP_OFF when refused */
+} c2_opened;
+
+/* The answer to c2_advance. */
+typedef struct {
+    uint32_t number; /* the session's number after the replies taken: C2_RUNNING, C2_DONE or 9 to 15; 6, 7 or 8 when refused */
+    uint32_t offset; /* with C2_COMPARE_DIFFERS the offset, in the image, of the byte that differs; 0 with every other number */
+    uint64_t taken;  /* replies taken, and so steps written; 0 when refused */
+} c2_advanced;
+
+/*
+ * Opens a session that programs the image from page first_page on.
+ *
+ * Tests, in this order: the record is 32 bytes long (6); then the settings (1, 2, 3), the image's length (4) and the pages (5),
+ * in the order of their numbers. What the record held before doesn't matter. Only the image's length is looked at.
+ *
+ * Accepted, it writes all 32 bytes of the record and answers C2_RUNNING with step C2_STEP_RESET: do that step and give its reply
+ * to c2_advance. Refused, it leaves the record as it was and answers the number with step C2_STEP_OFF.
+ */
+c2_opened c2_open(uint8_t *record, size_t record_len, const uint8_t *image, size_t image_len,
+                  c2_settings settings, uint32_t first_page);
+
+/*
+ * Takes replies in a row, each the reply to the step before, the first to the last step that was written (or to the reset
+ * of the opening).
+ *
+ * Tests, in this order: the record (6), the image's length (7), and that place plus replies_len is at most steps_len (8). place
+ * may be any size_t: a sum that doesn't fit into one is too large all the same. Refused, it changes no lent byte, takes no reply
+ * and gives offset 0.
+ *
+ * Accepted, it writes for each reply taken the step that follows it: the first to steps[place], the next to steps[place + 1],
+ * and so on, answer.taken of them. Every other byte of the step buffer is untouched, before and after. The record is then the
+ * session after those replies. Without replies, nothing is written and the record stays as it was; place may then be
+ * steps_len.
+ *
+ * A reply may end the session: a bad one (9), the first that a WAIT, a poll or a compare fails at (10 to 15), or the last one of
+ * all (C2_DONE). That reply counts as taken and brings C2_STEP_OFF; the replies behind it are not taken. An ended session takes
+ * none and repeats its number, and the offset of C2_COMPARE_DIFFERS; it is tested for 6, 7 and 8 like any other, and 8 counts
+ * the replies offered.
+ */
+c2_advanced c2_advance(uint8_t *record, size_t record_len, const uint8_t *image, size_t image_len,
+                       const uint8_t *replies, size_t replies_len, uint8_t *steps, size_t steps_len, size_t place);
+
+#ifdef __cplusplus
+}
+#endif
+
+#endif
