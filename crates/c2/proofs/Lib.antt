@@ -2,3 +2,4 @@ pub mod Looping
 pub mod Meeting
 pub mod Starting
 pub mod Calling
+pub mod Claimed

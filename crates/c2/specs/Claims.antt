@@ -1,0 +1,36 @@
+-- What is claimed of a session whose replies come in parts, by the definitions that the calls meet (demand 2, and the first half of demand 3).
+-- Types alone: `Claimed` in proofs/ proves each.
+use mathlib.Core.Path.{_≡_}
+use mathlib.Core.List.{List, _++_}
+use Prim.Native.Nat.{ℕ, _<_}
+use lib.ListN.{length}
+use Rattle.wire.specs.Bits.{Bytes}
+use Rattle.wire.specs.Exchange.{fed}
+use Rattle.settings.specs.declared.Settings.{Settings}
+use Rattle.order.specs.Opening.{opening-refusal}
+use Rattle.order.specs.Conversation.{session-limits}
+use Rattle.order.specs.Claims.{exchange-of}
+use Rattle.session.specs.declared.Session.{Session}
+use Rattle.record.specs.declared.Unpacked.the-variants.{Held}
+use Rattle.record.specs.Record.{packed, unpacked}
+use Rattle.c2.specs.Calls.{opened-session, image-length, exchange-at, after-replies}
+
+-- the session that was opened, after replies
+abbrev pub session-after : Settings → (first : ℕ) → (image replies : List ℕ) → Session
+session-after t first image rs = after-replies (opened-session t first (length image)) image rs
+
+-- Its record is taken and holds it, with the image of the opening; and what it leaves to say is what these replies leave of the exchange of
+-- the session's order.
+pub record Follows (t : Settings) (first : ℕ) (image replies : List ℕ) : Type 0 where
+  pub held : unpacked 20 256 (packed (session-after t first image replies)) ≡ Held (session-after t first image replies)
+  pub whole : length image ≡ image-length (session-after t first image replies)
+  pub left : exchange-at (session-after t first image replies) image ≡ fed (exchange-of session-limits t first image) replies
+
+-- so it is after an accepted opening and any replies
+abbrev pub Replies-follow : Type 0
+Replies-follow = (t : Settings) (first : ℕ) (image replies : List ℕ) → t .id < 256 → t .fpdat < 256 → Bytes image
+    → opening-refusal t first (length image) ≡ 0 → Follows t first image replies
+
+-- and replies in two parts lead where they lead in a row
+abbrev pub Parts-join : Type 0
+Parts-join = (s : Session) (image qs rs : List ℕ) → after-replies (after-replies s image qs) image rs ≡ after-replies s image (qs ++ rs)
