@@ -18,9 +18,9 @@ use Rattle.order.proofs.Opened.{opened}
 use Rattle.order.proofs.Moving.{begin-says}
 use Rattle.session.specs.declared.Session.{Session}
 use Rattle.session.specs.Machine.{advanced}
-use Rattle.session.specs.Position.{point-position, page-list, pages-from}
-use Rattle.record.proofs.Claimed.{small, ranges-are, pack-unpack}
-use Rattle.record.proofs.Ranges.{opening-passes}
+use Rattle.position.specs.Position.{point-position, page-list, pages-from}
+use Rattle.record.proofs.Claimed.{small, pack-unpack}
+use Rattle.range.proofs.Ranges.{opening-passes, ranges-are}
 use Rattle.c2.specs.Calls.{opened-session, exchange-at, after-replies}
 use Rattle.c2.specs.Claims.{session-after, Replies-follow, Parts-join}
 use Rattle.c2.proofs.Meeting.{Lent, exchange-after, lent-after}

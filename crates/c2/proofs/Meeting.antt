@@ -17,13 +17,13 @@ use Rattle.order.proofs.Sound.{reads-of, Valid}
 use Rattle.session.specs.declared.Point.the-variants.{Running, Ended}
 use Rattle.session.specs.declared.Session.{Session}
 use Rattle.session.specs.Machine.{point-advanced, advanced, step-of}
-use Rattle.session.specs.Range.{in-range, point-in-range}
-use Rattle.session.specs.Position.{position, point-position}
-use Rattle.session.proofs.Advancing.{SessionPoint, exists-of, fits-of, point-of}
-use Rattle.session.proofs.Succession.{acts-here}
-use Rattle.session.proofs.Keeping.{advanced-in-range}
-use Rattle.session.proofs.Asking.{asks-step}
-use Rattle.session.proofs.Exchanging.{position-valid, exchange-advances}
+use Rattle.position.specs.Range.{in-range, point-in-range}
+use Rattle.position.specs.Position.{position, point-position}
+use Rattle.position.proofs.Advancing.{SessionPoint, exists-of, fits-of, point-of}
+use Rattle.position.proofs.Succession.{acts-here}
+use Rattle.position.proofs.Keeping.{advanced-in-range}
+use Rattle.position.proofs.Asking.{asks-step}
+use Rattle.position.proofs.Exchanging.{position-valid, exchange-advances}
 use Rattle.c2.specs.Calls.{image-length, exchange-at, after-replies}
 use Rattle.c2.specs.Loop.{is-running, number-of, offset-of, ran, wrote}
 use Rattle.wire.specs.Exchange

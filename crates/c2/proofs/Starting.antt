@@ -12,7 +12,7 @@ use Rattle.settings.specs.declared.Settings.{Settings}
 use Rattle.order.specs.Opening.{opening-refusal}
 use Rattle.order.proofs.Opened.{opened}
 use Rattle.record.specs.Record.{packed}
-use Rattle.record.proofs.Ranges.{opening-passes}
+use Rattle.range.proofs.Ranges.{opening-passes}
 use Rattle.record.proofs.Claimed.{packed-whole}
 use Rattle.record.proofs.Fitting.{Opening-fits, opening-fits}
 use Rattle.c2.specs.declared.Opened.{Opened}

@@ -15,7 +15,7 @@ use Rattle.session.specs.declared.Stage.the-variants.{Lead}
 use Rattle.session.specs.declared.Point.the-variants.{Running}
 use Rattle.session.specs.declared.Session.{Session}
 use Rattle.session.specs.Machine.{advanced}
-use Rattle.session.specs.Position.{position}
+use Rattle.position.specs.Position.{position}
 use Rattle.record.specs.declared.Unpacked.{Unpacked}
 use Rattle.record.specs.declared.Unpacked.the-variants.{Held, Refused}
 use Rattle.record.specs.Record.{packed}

@@ -173,7 +173,7 @@ pub extern "C" fn c2_open(held: &mut [u8], image: &[u8], t: Settings, first: u32
             step: 6,
         };
     }
-    let number = record::opening_refusal(t, first, image.len());
+    let number = opening::opening_refusal(t, first, image.len());
     if number != RUNNING {
         return Opened {
             number: number,
@@ -206,7 +206,7 @@ pub extern "C" fn c2_advance(
         return refused(BAD_RECORD);
     };
     let t = s.settings;
-    if image.len() != record::image_bytes(t.size, s.pages) {
+    if image.len() != opening::image_bytes(t.size, s.pages) {
         return refused(OTHER_IMAGE);
     }
     if steps.len() < place {

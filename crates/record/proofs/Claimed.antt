@@ -10,23 +10,20 @@ use Rattle.wire.specs.Bits.{Bytes}
 use Rattle.laws.proofs.Testing.{by-test}
 use Rattle.session.specs.declared.Point.{Point}
 use Rattle.session.specs.declared.Session.{Session}
-use Rattle.session.specs.Range.{in-range}
+use Rattle.position.specs.Range.{in-range}
 use Rattle.record.specs.declared.Reached.{Reached}
 use Rattle.record.specs.declared.Reached.the-variants.{At, Nowhere}
 use Rattle.record.specs.declared.Unpacked.{Unpacked}
 use Rattle.record.specs.declared.Unpacked.the-variants.{Held, Refused}
 use Rattle.record.specs.Record.{fields-of, laid, packed, settings-read, fields-read, point-of, session-read, same, checked, taken-apart, unpacked}
-use Rattle.record.specs.Claims.{Ranges-are, Record-of, Small, Packed-whole, Pack-unpack, Unpack-pack, Unpacked-in-range, One-record, Unpacked-exactly, Refused-exactly}
+use Rattle.record.specs.Claims.{Record-of, Small, Packed-whole, Pack-unpack, Unpack-pack, Unpacked-in-range, One-record, Unpacked-exactly, Refused-exactly}
 use Rattle.record.proofs.Records.{same-true, packed-length, is-held, a-point}
-use Rattle.record.proofs.Ranges.{within-ranges, ranges-within}
+use Rattle.range.proofs.Ranges.{within-ranges}
 use Rattle.record.proofs.Fitting.{opening-fits, point-back, session-back}
 
 -- the limits of a session are small
 pub small : Small 20 256
 small = record { wait = omega arith; poll = omega arith }
-
-pub ranges-are : Ranges-are
-ranges-are w l s = (within-ranges w l s, ranges-within w l s)
 
 -- fields of one byte, each kept to it
 kept : (xs : List ℕ) → Bytes (map (λ x. x % 256) xs)

@@ -19,13 +19,14 @@ use Rattle.session.specs.declared.Point.{Point}
 use Rattle.session.specs.declared.Point.the-variants.{Running, Ended}
 use Rattle.session.specs.declared.Session.{Session}
 use Rattle.session.specs.Tasks.{task-of}
-use Rattle.session.specs.Range.{pages-in, blocks-in, acts-in, strobes-in, reads-in, place-in-range}
+use Rattle.position.specs.Range.{pages-in, blocks-in, acts-in, strobes-in, reads-in, place-in-range}
 use Rattle.record.specs.declared.Named.the-variants.{Of}
 use Rattle.record.specs.declared.Reached.the-variants.{At}
-use Rattle.record.specs.Bounds.{strobes-by, limit-by, sampled-from, sampled-by}
+use Rattle.range.specs.Bounds.{strobes-by, limit-by, sampled-from, sampled-by}
 use Rattle.record.specs.Record.{stage-code, fields-of, laid, packed, settings-read, fields-read, stage-named, point-of, session-read}
-use Rattle.record.specs.Claims.{Small, Opening-passes, Point-exists, Outcome-stands, Point-stands}
-use Rattle.record.proofs.Shapes.{place-by}
+use Rattle.range.specs.Claims.{Opening-passes, Point-exists, Outcome-stands, Point-stands}
+use Rattle.record.specs.Claims.{Small}
+use Rattle.range.proofs.Shapes.{place-by}
 
 at-most : (t : Bool) (x y k : ℕ) → x ≤ k → y ≤ k → cond t x y ≤ k
 at-most true x y k p q = p

@@ -1,4 +1,2 @@
 pub mod Tasks
 pub mod Machine
-pub mod Range
-pub mod Position

@@ -1,6 +1,5 @@
 -- `session::Session::framed` meets its contract: each return by the tests on its way and what the calls give.
 use borrow.Author.Needs.{needs}
-use Rattle.order.specs.Point.{settled}
 use Rattle.session.proofs.Session.framed.Statement.{statement}
 use Rattle.session.proofs.Session.framed.Tie as tie
 

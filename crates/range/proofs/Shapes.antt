@@ -1,0 +1,69 @@
+-- The numbers by which the code knows a frame are those of its list of strobes.
+use mathlib.Core.Path.{_≡_, refl}
+use mathlib.Core.Bool.{_&&_}
+use Prim.Native.Nat.{ℕ, _^_, _<_}
+use native.Mathlib.Omega.{arith}
+use native.Mathlib.Decide.{decLt}
+use borrow.Author.Tests.{le-ltb}
+use lib.Dec.{ltb}
+use lib.ListN.{length, take}
+use Rattle.laws.proofs.Below.{upto, same-below}
+use Rattle.wire.specs.Bits.{bits}
+use Rattle.wire.specs.Frames.{sends, ins-code, frame}
+use Rattle.wire.specs.Place.{strobe-at, samples, count-limit}
+use Rattle.session.specs.declared.Task.{Task}
+use Rattle.session.specs.declared.Task.the-variants.{Reset, Pause, Address, Send, Input, Output, Ident, Status, Compare}
+use Rattle.position.specs.Range.{strobes-in, reads-in, place-in-range}
+use Rattle.range.specs.Bounds.{strobes-by, limit-by, sampled-by}
+
+strobes-are : (t : Task) → length (strobes-in t) ≡ strobes-by t
+unfolding frame sends ins-code bits
+strobes-are Reset = refl
+strobes-are Pause = refl
+strobes-are Address = refl
+strobes-are Send = refl
+strobes-are Input = refl
+strobes-are Output = refl
+strobes-are Ident = refl
+strobes-are Status = refl
+strobes-are Compare = refl
+
+limits-are : (w r : ℕ) (t : Task)
+    → upto (λ q. count-limit w (reads-in r t) (strobe-at (strobes-in t) q)) (strobes-by t) ≡ upto (limit-by w r t) (strobes-by t)
+unfolding frame sends ins-code bits count-limit
+limits-are w r Reset = refl
+limits-are w r Pause = refl
+limits-are w r Address = refl
+limits-are w r Send = refl
+limits-are w r Input = refl
+limits-are w r Output = refl
+limits-are w r Ident = refl
+limits-are w r Status = refl
+limits-are w r Compare = refl
+
+samples-are : (t : Task) → upto (λ q. samples (take q (strobes-in t))) (strobes-by t) ≡ upto (sampled-by t) (strobes-by t)
+unfolding frame sends ins-code bits samples
+samples-are Reset = refl
+samples-are Pause = refl
+samples-are Address = refl
+samples-are Send = refl
+samples-are Input = refl
+samples-are Output = refl
+samples-are Ident = refl
+samples-are Status = refl
+samples-are Compare = refl
+
+-- a place in a frame, tested by these numbers
+pub place-by : (w r : ℕ) (t : Task) (q c v : ℕ) → place-in-range w (reads-in r t) (strobes-in t) q c v
+    ≡ (ltb q (strobes-by t) && ltb c (limit-by w r t q) && ltb v (2 ^ sampled-by t q))
+unfolding place-in-range
+place-by w r t q c v = rw (strobes-are t) (go (decLt q (strobes-by t)))
+  where
+    go : Dec (q < strobes-by t) → (ltb q (strobes-by t) && ltb c (count-limit w (reads-in r t) (strobe-at (strobes-in t) q)) && ltb v (2 ^ samples (take q (strobes-in t))))
+        ≡ (ltb q (strobes-by t) && ltb c (limit-by w r t q) && ltb v (2 ^ sampled-by t q))
+    go (yes y) =
+        rw (
+          same-below (λ i. count-limit w (reads-in r t) (strobe-at (strobes-in t) i)) (limit-by w r t) (strobes-by t) (limits-are w r t) q y,
+          same-below (λ i. samples (take i (strobes-in t))) (sampled-by t) (strobes-by t) (samples-are t) q y,
+        )
+    go (no y) = rw (le-ltb q (strobes-by t) (omega arith))
