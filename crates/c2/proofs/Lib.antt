@@ -2,4 +2,5 @@ pub mod Looping
 pub mod Meeting
 pub mod Starting
 pub mod Calling
+pub mod Asking
 pub mod Claimed

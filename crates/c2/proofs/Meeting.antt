@@ -125,7 +125,7 @@ wrote-is s image (r ∷ rs) h = go (is-running (s .point)) refl (wrote-is (advan
     go false p ih = rw (ended-over s image p)
 
 -- and the session's number and offset are the exchange's outcome
-outcome-now : (s : Session) (image : List ℕ) → Lent s image
+pub outcome-now : (s : Session) (image : List ℕ) → Lent s image
     → outcome-of (exchange-at s image) ≡ record { number = number-of (s .point); offset = offset-of (s .point) }
 unfolding outcome-of
 outcome-now s image h = go (is-running (s .point)) refl

@@ -3,7 +3,7 @@ use mathlib.Core.Bool.{cond}
 use mathlib.Core.List.{List, [], _∷_, _++_}
 use Prim.Native.Nat.{ℕ, _+_, _*_, _/_}
 use lib.Dec.{eqb, leb}
-use lib.ListN.{length, take, drop}
+use lib.ListN.{length, take, drop, replicate}
 use Rattle.numbers.specs.Numbers.{bad-record, other-image, no-room}
 use Rattle.wire.specs.Step.{reset, off, code}
 use Rattle.wire.specs.Exchange.{Exchange, fed, steps, outcome-of}
@@ -11,6 +11,7 @@ use Rattle.settings.specs.declared.Settings.{Settings}
 use Rattle.order.specs.Opening.{opening-refusal}
 use Rattle.order.specs.Conversation.{session-limits}
 use Rattle.order.specs.Point.{left-to-say}
+use Rattle.order.specs.Figure.{figure}
 use Rattle.session.specs.declared.Stage.the-variants.{Lead}
 use Rattle.session.specs.declared.Point.the-variants.{Running}
 use Rattle.session.specs.declared.Session.{Session}
@@ -21,6 +22,7 @@ use Rattle.record.specs.declared.Unpacked.the-variants.{Held, Refused}
 use Rattle.record.specs.Record.{packed}
 use Rattle.c2.specs.declared.Opened.{Opened}
 use Rattle.c2.specs.declared.Advanced.{Advanced}
+use Rattle.c2.specs.declared.Remaining.{Remaining}
 use Rattle.wire.specs.Exchange
 
 -- Opening. The number by which it is refused: a record that is not 32 bytes, then 1 to 5.
@@ -84,3 +86,12 @@ abbrev pub advance-record : Unpacked → (image replies buffer : List ℕ) → (
 advance-record (Held s) image rs buffer place r =
     cond (eqb (held-number (Held s) (length image) (length rs) (length buffer) place) 0) (packed (after-replies s image rs)) r
 advance-record Refused image rs buffer place r = r
+
+-- Asking. The image is not lent. The figure goes by the point and not by the image's bytes, so one of the session's length that is all 0 stands
+-- for it (`Figure-of-any` in Claims).
+abbrev pub blank : Session → List ℕ
+blank s = replicate (image-length s) 0
+
+abbrev pub remaining-answer : Unpacked → Remaining
+remaining-answer (Held s) = record { number = outcome-of (exchange-at s (blank s)) .number; steps = figure session-limits (position s (blank s)) }
+remaining-answer Refused = record { number = bad-record; steps = 0 }

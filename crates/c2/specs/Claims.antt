@@ -1,6 +1,7 @@
 -- What is claimed of a session whose replies come in parts, by the definitions that the calls meet (demand 2, and the first half of demand 3).
 -- Types alone: `Claimed` in proofs/ proves each.
 use mathlib.Core.Path.{_≡_}
+use mathlib.Core.Bool.{true}
 use mathlib.Core.List.{List, _++_}
 use Prim.Native.Nat.{ℕ, _<_}
 use lib.ListN.{length}
@@ -9,11 +10,14 @@ use Rattle.wire.specs.Exchange.{fed}
 use Rattle.settings.specs.declared.Settings.{Settings}
 use Rattle.order.specs.Opening.{opening-refusal}
 use Rattle.order.specs.Conversation.{session-limits}
+use Rattle.order.specs.Figure.{figure}
 use Rattle.order.specs.Claims.{exchange-of}
 use Rattle.session.specs.declared.Session.{Session}
+use Rattle.position.specs.Range.{in-range}
+use Rattle.position.specs.Position.{position}
 use Rattle.record.specs.declared.Unpacked.the-variants.{Held}
 use Rattle.record.specs.Record.{packed, unpacked}
-use Rattle.c2.specs.Calls.{opened-session, image-length, exchange-at, after-replies}
+use Rattle.c2.specs.Calls.{opened-session, image-length, exchange-at, after-replies, blank}
 
 -- the session that was opened, after replies
 abbrev pub session-after : Settings → (first : ℕ) → (image replies : List ℕ) → Session
@@ -34,3 +38,8 @@ Replies-follow = (t : Settings) (first : ℕ) (image replies : List ℕ) → t .
 -- and replies in two parts lead where they lead in a row
 abbrev pub Parts-join : Type 0
 Parts-join = (s : Session) (image qs rs : List ℕ) → after-replies (after-replies s image qs) image rs ≡ after-replies s image (qs ++ rs)
+
+-- The figure goes by the session and not by the image's bytes.
+abbrev pub Figure-of-any : Type 0
+Figure-of-any = (s : Session) (image : List ℕ) → in-range 20 256 s ≡ true → length image ≡ image-length s
+    → figure session-limits (position s image) ≡ figure session-limits (position s (blank s))

@@ -5,7 +5,7 @@ ghost use Prim.Native.Nat.{_≤_};
 ghost use lib.ListN.{length, drop};
 ghost use Rattle.order.specs.Opening.{opening-refusal};
 ghost use Rattle.record.specs.Record.{unpacked};
-ghost use Rattle.c2.specs.Calls.{opening-number, opened-session, opening-answer, record-opened, refused-answer, image-length, advance-answer, advance-steps, advance-record};
+ghost use Rattle.c2.specs.Calls.{opening-number, opened-session, opening-answer, record-opened, refused-answer, advance-answer, advance-steps, advance-record, remaining-answer};
 ghost use Rattle.c2.specs.Loop.{is-running, number-of, offset-of, ran, wrote};
 use numbers::BAD_RECORD;
 use numbers::NO_ROOM;
@@ -30,6 +30,13 @@ pub struct Advanced {
     pub number: u32,
     pub offset: u32,
     pub taken: u64,
+}
+
+// The session's number, and the most steps still to come with a reply.
+#[repr(C)]
+pub struct Remaining {
+    pub number: u32,
+    pub steps: u64,
 }
 
 struct Ran {
@@ -220,4 +227,22 @@ pub extern "C" fn c2_advance(
     let again = record::pack(after);
     bytes::copy(&again, held);
     answer(after, ran.taken)
+}
+
+// Tells the session's number and the most steps still to come. A record that holds no session in range has 6 and 0.
+#[no_mangle]
+pub extern "C" fn c2_steps_left(held: &[u8]) -> Remaining
+    ensures { λ r. ⌜ r ≡ remaining-answer (unpacked 20 256 (now (held .entry))) ⌝ }
+{
+    let Unpacked::Held(s) = record::unpack(held) else {
+        return Remaining {
+            number: BAD_RECORD,
+            steps: 0,
+        };
+    };
+    let point = s.point;
+    Remaining {
+        number: number_of(point),
+        steps: figure::steps_left(s) as u64,
+    }
 }

@@ -37,38 +37,38 @@ module _ (s : Session) (image : List ℕ) (h : Fits s image) where
   block-count i = length-blocks (s .settings .size / 256) (page-at s image i .number * s .settings .size) (page-at s image i .offset) (page-at s image i .bytes)
 
   -- from a page, or a block, on: it, and from the next on
-  pages-on : (i : ℕ) → i < s .pages → pages-from s image i ≡ acts-from Erase s image i 0 0
+  pub pages-on : (i : ℕ) → i < s .pages → pages-from s image i ≡ acts-from Erase s image i 0 0
   unfolding pages-from writes-from reads-from page-acts joined
   pages-on i g =
       let l : i < length (page-list s image) = rw page-count g in
       rw (drop-cons (page-list s image) i (record { number = 0; offset = 0; bytes = [] }) l) (simp append-assoc)
 
-  pages-over : (i : ℕ) → s .pages ≤ i → pages-from s image i ≡ reset-pulse ∷ []
+  pub pages-over : (i : ℕ) → s .pages ≤ i → pages-from s image i ≡ reset-pulse ∷ []
   unfolding pages-from joined
   pages-over i g = rw (drop-of-length-le (page-list s image) {i = i} (rw page-count g))
 
-  writes-on : (i j : ℕ) → j < s .settings .size / 256 → writes-from s image i j ≡ stage-acts Write s image i j ++ writes-from s image i (suc j)
+  pub writes-on : (i j : ℕ) → j < s .settings .size / 256 → writes-from s image i j ≡ stage-acts Write s image i j ++ writes-from s image i (suc j)
   unfolding writes-from joined
   writes-on i j g =
       let l : j < length (blocks-at s image i) = rw (block-count i) g in
       rw (drop-cons (blocks-at s image i) j (record { address = 0; offset = 0; bytes = [] }) l)
 
-  writes-over : (i j : ℕ) → s .settings .size / 256 ≤ j → writes-from s image i j ≡ []
+  pub writes-over : (i j : ℕ) → s .settings .size / 256 ≤ j → writes-from s image i j ≡ []
   unfolding writes-from joined
   writes-over i j g = rw (drop-of-length-le (blocks-at s image i) {i = j} (rw (block-count i) g))
 
-  reads-on : (i j : ℕ) → j < s .settings .size / 256 → reads-from s image i j ≡ stage-acts Read s image i j ++ reads-from s image i (suc j)
+  pub reads-on : (i j : ℕ) → j < s .settings .size / 256 → reads-from s image i j ≡ stage-acts Read s image i j ++ reads-from s image i (suc j)
   unfolding reads-from joined
   reads-on i j g =
       let l : j < length (blocks-at s image i) = rw (block-count i) g in
       rw (drop-cons (blocks-at s image i) j (record { address = 0; offset = 0; bytes = [] }) l)
 
-  reads-over : (i j : ℕ) → s .settings .size / 256 ≤ j → reads-from s image i j ≡ []
+  pub reads-over : (i j : ℕ) → s .settings .size / 256 ≤ j → reads-from s image i j ≡ []
   unfolding reads-from joined
   reads-over i j g = rw (drop-of-length-le (blocks-at s image i) {i = j} (rw (block-count i) g))
 
   -- how many acts a stage has
-  stage-length : (g : Stage) (i j : ℕ) → i < pages-in g (s .pages) → j < blocks-in g (s .settings .size) → length (stage-acts g s image i j) ≡ acts-in g
+  pub stage-length : (g : Stage) (i j : ℕ) → i < pages-in g (s .pages) → j < blocks-in g (s .settings .size) → length (stage-acts g s image i j) ≡ acts-in g
   unfolding lead erase put get status block-write block-read
   stage-length Lead i j gi gj = refl
   stage-length Erase i j gi gj = refl
