@@ -1,15 +1,13 @@
 -- What a question is answered: the arithmetic's figure is the order's, whatever the image's bytes.
 use mathlib.Core.Path.{_≡_, sym, ap, _∙_}
-use mathlib.Core.Bool.{true}
 use mathlib.Core.List.{List}
 use Prim.Native.Nat.{ℕ, zero, suc}
 use native.Mathlib.Omega.{arith}
-use lib.ListN.{length, replicate, length-replicate}
+use lib.ListN.{replicate, length-replicate}
 use Rattle.numbers.specs.Numbers.{bad-record}
 use Rattle.wire.specs.Bits.{Bytes}
 use Rattle.wire.specs.Exchange.{Outcome}
 use Rattle.session.specs.declared.Session.{Session}
-use Rattle.position.specs.Range.{in-range}
 use Rattle.figure.specs.Left.{steps-left}
 use Rattle.figure.proofs.Counting.{counts}
 use Rattle.record.specs.declared.Unpacked.{Unpacked}
@@ -22,7 +20,7 @@ use Rattle.c2.specs.Loop.{number-of}
 use Rattle.c2.proofs.Meeting.{Lent, outcome-now}
 use Rattle.c2.proofs.Calling.{lent-held}
 
-blank-bytes : (n : ℕ) → Bytes (replicate n 0)
+pub blank-bytes : (n : ℕ) → Bytes (replicate n 0)
 blank-bytes zero = tt
 blank-bytes (suc n) = (omega arith, blank-bytes n)
 

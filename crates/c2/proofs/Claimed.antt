@@ -13,17 +13,19 @@ use Rattle.order.specs.Opening.{opening-refusal}
 use Rattle.order.specs.Order.{lead, order, session-order}
 use Rattle.order.specs.Conversation.{session-limits}
 use Rattle.order.specs.Claims.{exchange-of}
-use Rattle.order.specs.Point.{begin}
+use Rattle.order.specs.Point.{begin, reached}
 use Rattle.order.proofs.Opened.{opened}
 use Rattle.order.proofs.Moving.{begin-says}
 use Rattle.session.specs.declared.Session.{Session}
 use Rattle.session.specs.Machine.{advanced}
-use Rattle.position.specs.Position.{point-position, page-list, pages-from}
+use Rattle.position.specs.Position.{position, point-position, page-list, pages-from}
+use Rattle.position.proofs.Advancing.{advances}
 use Rattle.record.proofs.Claimed.{small, pack-unpack}
 use Rattle.range.proofs.Ranges.{opening-passes, ranges-are}
 use Rattle.c2.specs.Calls.{opened-session, exchange-at, after-replies}
 use Rattle.c2.specs.Claims.{session-after, Replies-follow, Parts-join}
-use Rattle.c2.proofs.Meeting.{Lent, exchange-after, lent-after}
+use Rattle.c2.proofs.Meeting.{Lent, lent-advances, exchange-after, lent-after}
+use Rattle.order.specs.Point
 
 module _ (t : Settings) (first : ℕ) (image : List ℕ) (e : opening-refusal t first (length image) ≡ 0) where
   whole-pages : length image ≡ t .size * (length image / t .size)
@@ -46,9 +48,21 @@ module _ (t : Settings) (first : ℕ) (image : List ℕ) (e : opening-refusal t 
       }
 
   -- at the first act of its order
+  begins-at : position (opened-session t first (length image)) image ≡ begin (session-order t first image)
+  unfolding opened-session point-position pages-from page-list session-order order begin lead
+  begins-at = refl
+
   begins-so : exchange-at (opened-session t first (length image)) image ≡ exchange-of session-limits t first image
   unfolding opened-session point-position pages-from page-list session-order order begin lead
   begins-so = begin-says session-limits (record { wait = omega arith; reads = omega arith }) (session-order t first image)
+
+-- a session stands at the point of the order that the replies reach
+point-reached : (s : Session) (image rs : List ℕ) → Lent s image → position (after-replies s image rs) image ≡ reached session-limits (position s image) rs
+unfolding after-replies reached
+point-reached s image [] h = refl
+point-reached s image (r ∷ rs) h =
+    point-reached (advanced 20 256 s r image) image rs (lent-advances s image r h)
+    ∙ ap (λ (x : Point.Point). reached session-limits x rs) (advances 20 256 s image (h .range) (h .whole) r)
 
 -- and replies leave its settings alone
 settings-stay : (s : Session) (image rs : List ℕ) → after-replies s image rs .settings ≡ s .settings
@@ -64,6 +78,7 @@ replies-follow t first image rs i f b e =
     record {
       held = pack-unpack 20 256 small (session-after t first image rs) (h .id) (rw (settings-stay (opened-session t first (length image)) image rs) f) (h .range);
       whole = h .whole;
+      point = point-reached (opened-session t first (length image)) image rs l ∙ ap (λ (x : Point.Point). reached session-limits x rs) (begins-at t first image e);
       left = sym (exchange-after (opened-session t first (length image)) image rs l)
           ∙ ap (λ (x : Exchange). fed x rs) (begins-so t first image e);
     }

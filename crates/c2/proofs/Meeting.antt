@@ -8,7 +8,7 @@ use lib.ListN.{length}
 use Rattle.wire.specs.Bits.{Bytes}
 use Rattle.wire.specs.Step.{Step}
 use Rattle.wire.specs.Field.{Field}
-use Rattle.wire.specs.Exchange.{Exchange, strobe, outcome, after, fed, asks, steps, outcome-of}
+use Rattle.wire.specs.Exchange.{Exchange, strobe, outcome, fed, steps, outcome-of}
 use Rattle.wire.proofs.Exchanges.{steps-taken}
 use Rattle.wire.proofs.Following.{remaining-asks}
 use Rattle.order.specs.Conversation.{session-limits}

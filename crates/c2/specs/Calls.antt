@@ -92,6 +92,11 @@ advance-record Refused image rs buffer place r = r
 abbrev pub blank : Session → List ℕ
 blank s = replicate (image-length s) 0
 
+-- the number by which a question is refused
+abbrev pub asked-number : Unpacked → ℕ
+asked-number (Held s) = 0
+asked-number Refused = bad-record
+
 abbrev pub remaining-answer : Unpacked → Remaining
 remaining-answer (Held s) = record { number = outcome-of (exchange-at s (blank s)) .number; steps = figure session-limits (position s (blank s)) }
 remaining-answer Refused = record { number = bad-record; steps = 0 }

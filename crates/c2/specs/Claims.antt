@@ -11,7 +11,7 @@ use Rattle.settings.specs.declared.Settings.{Settings}
 use Rattle.order.specs.Opening.{opening-refusal}
 use Rattle.order.specs.Conversation.{session-limits}
 use Rattle.order.specs.Figure.{figure}
-use Rattle.order.specs.Claims.{exchange-of}
+use Rattle.order.specs.Claims.{exchange-of, point-after}
 use Rattle.session.specs.declared.Session.{Session}
 use Rattle.position.specs.Range.{in-range}
 use Rattle.position.specs.Position.{position}
@@ -23,11 +23,12 @@ use Rattle.c2.specs.Calls.{opened-session, image-length, exchange-at, af
 abbrev pub session-after : Settings → (first : ℕ) → (image replies : List ℕ) → Session
 session-after t first image rs = after-replies (opened-session t first (length image)) image rs
 
--- Its record is taken and holds it, with the image of the opening; and what it leaves to say is what these replies leave of the exchange of
--- the session's order.
+-- Its record is taken and holds it, with the image of the opening; it stands at the point of the order that these replies reach; and what it
+-- leaves to say is what they leave of the exchange of the session's order.
 pub record Follows (t : Settings) (first : ℕ) (image replies : List ℕ) : Type 0 where
   pub held : unpacked 20 256 (packed (session-after t first image replies)) ≡ Held (session-after t first image replies)
   pub whole : length image ≡ image-length (session-after t first image replies)
+  pub point : position (session-after t first image replies) image ≡ point-after session-limits t first image replies
   pub left : exchange-at (session-after t first image replies) image ≡ fed (exchange-of session-limits t first image) replies
 
 -- so it is after an accepted opening and any replies

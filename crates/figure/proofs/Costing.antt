@@ -1,19 +1,17 @@
 -- What the acts of a stage after one of them cost, and what comes after the stage: as the code counts them.
 use mathlib.Core.Path.{_≡_, refl, sym, ap, _∙_}
-use mathlib.Core.Bool.{Bool, true, false, cond}
-use mathlib.Core.List.{List, [], _∷_, _++_}
-use Prim.Native.Nat.{ℕ, zero, suc, _+_, _-_, _*_, _/_, _%_, _<_, _≤_}
+use mathlib.Core.List.{List, [], _++_}
+use Prim.Native.Nat.{ℕ, zero, suc, _+_, _-_, _*_, _/_, _%_, _<_}
 use native.Mathlib.Omega.{arith}
 use native.Mathlib.Decide.{decLt}
-use borrow.Author.Tests.{eq-eqb, ne-eqb, eqb-true, eqb-false}
-use lib.Dec.{eqb}
+use borrow.Author.Tests.{eq-eqb, ne-eqb}
 use lib.ListN.{length, drop, drop-of-length-le}
 use lib.Seq.{drop-cons}
 use Rattle.laws.proofs.Below.{upto, same-below}
 use Rattle.wire.specs.Place.{longest}
 use Rattle.wire.proofs.Frames.{longest-address-write, longest-address-read, longest-data-write, longest-data-read}
 use Rattle.order.specs.Acts.{Act, reset-pulse, Block}
-use Rattle.order.specs.Conversation.{Limits, limits}
+use Rattle.order.specs.Conversation.{limits}
 use Rattle.order.specs.Figure.{cost, costs}
 use Rattle.order.proofs.Costs.{costs-append, costs-erase, costs-block-write, costs-block-read}
 use Rattle.session.specs.declared.Stage.{Stage}
@@ -28,7 +26,7 @@ use Rattle.position.specs.Position.{page-at, block-at, stage-acts, pages-from, 
 use Rattle.position.proofs.Finding.{task-act}
 use Rattle.position.proofs.Standing.{Fits, block-is, block-length, act-here, stands}
 use Rattle.position.proofs.Succession.{stage-length, pages-on, pages-over, writes-on, writes-over, reads-on, reads-over}
-use Rattle.figure.specs.Left.{task-cost, byte-cost, block-cost, page-cost, lead-left, bytes-left, stage-left, pages-left, blocks-left, page-blocks, after-left}
+use Rattle.figure.specs.Left.{task-cost, byte-cost, block-cost, page-cost, lead-left, bytes-left, stage-left, after-left}
 
 module _ (w r : ℕ) where
   -- an act costs what its task does

@@ -15,7 +15,7 @@ use Rattle.wire.specs.declared.Frame.the-variants.{AddressWrite, AddressRead, D
 use Rattle.wire.proofs.Frames.{longest-address-read}
 use Rattle.order.specs.Conversation.{limits}
 use Rattle.order.specs.Point.{strobes-of}
-use Rattle.order.specs.Figure.{reads-left, costs, figure}
+use Rattle.order.specs.Figure.{reads-left, figure}
 use Rattle.order.proofs.Costs.{costs-append}
 use Rattle.session.specs.declared.Task.{Task}
 use Rattle.session.specs.declared.Task.the-variants.{Reset, Pause, Address, Send, Input, Output, Ident, Status, Compare}

@@ -14,7 +14,7 @@ use Rattle.laws.proofs.Testing.{both, by-test, not-first, not-second}
 use Rattle.wire.specs.Bits.{odd}
 use Rattle.wire.specs.Step.{Step, reset, pause}
 use Rattle.wire.specs.Field.{Field, RESET, PAUSE}
-use Rattle.wire.specs.Frames.{plain, frame}
+use Rattle.wire.specs.Frames.{plain}
 use Rattle.wire.specs.Place.{place, followed}
 use Rattle.wire.specs.declared.Frame.the-variants.{AddressWrite, DataWrite}
 use Rattle.wire.specs.declared.Place.{Place}
@@ -35,7 +35,7 @@ use Rattle.session.specs.declared.Point.the-variants.{Running, Ended}
 use Rattle.session.specs.declared.Session.{Session}
 use Rattle.session.specs.declared.Wanted.the-variants.{Byte}
 use Rattle.session.specs.Tasks.{task-of, image-byte, sent-offset, compared-offset}
-use Rattle.session.specs.Machine.{at, running, onward, again, differs, compared, compares, judged, sends-image, drives-image, wants, stays, settled, task-taken}
+use Rattle.session.specs.Machine.{at, running, onward, again, differs, compared, judged, sends-image, drives-image, wants, stays, settled, task-taken}
 use Rattle.position.specs.Range.{pages-in, blocks-in, acts-in, strobes-in, reads-in, place-in-range, running-in-range, point-in-range, in-range}
 use Rattle.position.specs.Position.{page-list, pages-from, writes-from, reads-from, at-act, point-position, position}
 use Rattle.position.proofs.Finding.{task-act}

@@ -11,7 +11,7 @@ use lib.ListN.{length}
 use Rattle.laws.proofs.Testing.{by-test}
 use Rattle.wire.specs.Step.{code}
 use Rattle.wire.specs.Exchange.{asks}
-use Rattle.wire.specs.Frames.{sends, frame}
+use Rattle.wire.specs.Frames.{frame}
 use Rattle.wire.specs.Place.{place, step-at}
 use Rattle.wire.specs.declared.Frame.the-variants.{AddressWrite, DataWrite}
 use Rattle.wire.specs.declared.Place.{Place}
