@@ -1,6 +1,8 @@
 -- `figure::lead_left` meets its contract: each return by the tests on its way and what the calls give.
+use mathlib.Core.Path.{refl}
 use borrow.Author.Needs.{needs}
-use Rattle.laws.proofs.Pick.{picks}
+use native.Mathlib.Omega.{arith}
+use Rattle.laws.proofs.Pick.{picks, pick-eq, pick-ne}
 use Rattle.figure.proofs.lead_left.Statement.{statement}
 use Rattle.figure.proofs.lead_left.Tie as tie
 
@@ -53,13 +55,13 @@ add-result-6 : tie.Need-add-result-6
 add-result-6 c = search needs
 
 returns-6 : tie.Need-returns-6
-returns-6 c = search (needs, picks) depth 12 fits 4000
+returns-6 c = (pick-ne _ _ _ _ _ (c .before .before .before .before .before .if1 .left) (pick-ne _ _ _ _ _ (c .before .before .before .before .if2 .left) (pick-ne _ _ _ _ _ (c .before .before .before .if3 .left) (pick-ne _ _ _ _ _ (c .before .before .if4 .left) (pick-ne _ _ _ _ _ (c .before .if5 .left) (pick-eq _ _ _ _ _ (c .if6 .taken) refl))))), omega arith)
 
 returns-7 : tie.Need-returns-7
-returns-7 c = search (needs, picks) depth 12 fits 4000
+returns-7 c = (pick-ne _ _ _ _ _ (c .before .before .before .before .before .before .if1 .left) (pick-ne _ _ _ _ _ (c .before .before .before .before .before .if2 .left) (pick-ne _ _ _ _ _ (c .before .before .before .before .if3 .left) (pick-ne _ _ _ _ _ (c .before .before .before .if4 .left) (pick-ne _ _ _ _ _ (c .before .before .if5 .left) (pick-ne _ _ _ _ _ (c .before .if6 .left) (pick-eq _ _ _ _ _ (c .if7 .taken) refl)))))), omega arith)
 
 returns-8 : tie.Need-returns-8
-returns-8 c = search (needs, picks) depth 12 fits 4000
+returns-8 c = (pick-ne _ _ _ _ _ (c .before .before .before .before .before .before .if1 .left) (pick-ne _ _ _ _ _ (c .before .before .before .before .before .if2 .left) (pick-ne _ _ _ _ _ (c .before .before .before .before .if3 .left) (pick-ne _ _ _ _ _ (c .before .before .before .if4 .left) (pick-ne _ _ _ _ _ (c .before .before .if5 .left) (pick-ne _ _ _ _ _ (c .before .if6 .left) (pick-ne _ _ _ _ _ (c .if7 .left) refl)))))), omega arith)
 
 pub lead-left-spec : {M : Type 1} → statement M
 lead-left-spec =
