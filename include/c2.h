@@ -116,6 +116,12 @@ typedef struct {
     uint64_t taken;  /* replies taken, and so steps written; 0 when refused */
 } c2_advanced;
 
+/* The answer to c2_steps_left. */
+typedef struct {
+    uint32_t number; /* the session's number: C2_RUNNING, C2_DONE or 9 to 15; 6 for a record that holds none */
+    uint64_t steps;  /* the most steps still to come with a reply; 0 exactly for an ended session, and with number 6 */
+} c2_remaining;
+
 /*
  * Opens a session that programs the image from page first_page on.
  *
@@ -148,6 +154,23 @@ c2_opened c2_open(uint8_t *record, size_t record_len, const uint8_t *image, size
  */
 c2_advanced c2_advance(uint8_t *record, size_t record_len, const uint8_t *image, size_t image_len,
                        const uint8_t *replies, size_t replies_len, uint8_t *steps, size_t steps_len, size_t place);
+
+/*
+ * Tells where a session stands and the most steps still to come, the one that awaits its reply included. It writes nothing and
+ * wants nothing but the record; ask whenever you like.
+ *
+ * Answers 6 and 0 for a record that is not 32 bytes long or holds no session within its ranges. Any other record gives the
+ * session's number, 0 while it runs, and the figure.
+ *
+ * The figure counts every WAIT still to come or under way to 20 strobes and every poll to 256 reads, less those done. Each reply
+ * taken lowers it by at least 1, and no replies take more than it says; most devices answer sooner and take far fewer. It is 0
+ * exactly for an ended session. Just opened, a session of k pages has, with B blocks of 256 bytes to a page (2 or 4),
+ *
+ *     152 + k * (18,648 + 2 * B * 813,784)
+ *
+ * steps at most: 3,273,936 for one page of 512 bytes. That figure divides a progress bar: (start - now) / start.
+ */
+c2_remaining c2_steps_left(const uint8_t *record, size_t record_len);
 
 #ifdef __cplusplus
 }

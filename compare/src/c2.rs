@@ -30,6 +30,13 @@ pub struct Advanced {
     pub taken: u64,
 }
 
+#[repr(C)]
+#[derive(Clone, Copy, Debug, PartialEq, Eq)]
+pub struct Remaining {
+    pub number: u32,
+    pub steps: u64,
+}
+
 extern "C" {
     fn c2_open(
         record: *mut u8,
@@ -50,6 +57,7 @@ extern "C" {
         steps_len: usize,
         place: usize,
     ) -> Advanced;
+    fn c2_steps_left(record: *const u8, record_len: usize) -> Remaining;
 }
 
 impl From<&Settings> for DeviceSettings {
@@ -112,14 +120,23 @@ pub fn advance(record: &[u8], image: &[u8], replies: &[u8], steps: &[u8], place:
     Called { answer, record: record.bytes().to_vec(), steps: steps.bytes().to_vec(), stray }
 }
 
-/// Both calls, lent nothing at all: every length is 0 and every pointer null.
-pub fn lent_nothing(settings: &Settings) -> (Opened, Advanced) {
+pub fn steps_left(record: &[u8]) -> Called<Remaining> {
+    let record = Lent::copy(record);
+    // SAFETY: the pointer is that of a live copy with the length beside it.
+    let answer = unsafe { c2_steps_left(record.as_ptr(), record.len()) };
+    let stray = first_stray(&[(record.guards_kept(), "beside the record")]);
+    Called { answer, record: record.bytes().to_vec(), steps: Vec::new(), stray }
+}
+
+/// Every call, lent nothing at all: every length is 0 and every pointer null.
+pub fn lent_nothing(settings: &Settings) -> (Opened, Advanced, Remaining) {
     let (nothing, nothing_mut) = (ptr::null(), ptr::null_mut());
     // SAFETY: a pointer with length 0 is not followed.
     unsafe {
         (
             c2_open(nothing_mut, 0, nothing, 0, settings.into(), 0),
             c2_advance(nothing_mut, 0, nothing, 0, nothing, 0, nothing_mut, 0, 0),
+            c2_steps_left(nothing, 0),
         )
     }
 }

@@ -1,6 +1,6 @@
-//! A session driven on both sides, with refused calls in between.
+//! A session driven on both sides, with refused calls and questions in between.
 
-use crate::driver::{open, take, Opening, Taking};
+use crate::driver::{ask, open, take, Opening, Taking};
 use crate::random::Random;
 use crate::record::{read, RECORD_LEN};
 use crate::report::Failure;
@@ -58,11 +58,13 @@ impl Driven {
         Ok(())
     }
 
-    /// A call in between that is refused, and so leaves the session where it is.
-    pub fn refused(&mut self, random: &mut Random) -> Result<(), Failure> {
+    /// A call in between that leaves the session where it is: a question, or a call that is refused.
+    pub fn in_between(&mut self, random: &mut Random) -> Result<(), Failure> {
         self.calls += 1;
-        match random.below(3) {
-            0 => self.refused_opening(random),
+        match random.below(5) {
+            0 => ask(Some(&self.session), &self.record),
+            1 => ask(None, &wrong_record(random, &self.record)),
+            2 => self.refused_opening(random),
             _ => {
                 let reasons = random.between(1, 7);
                 self.refused_taking(Reasons::of(reasons), random)

@@ -1,8 +1,9 @@
-//! Makes each call on the proved code and on our own session, and compares all that comes back.
+//! Makes each call on the proved code and on our own session, and compares all that comes back. After each
+//! one both sides are asked how much is left.
 
-use crate::c2::{self, Advanced, Opened};
+use crate::c2::{self, Advanced, Opened, Remaining};
 use crate::numbers;
-use crate::record::{pack, RECORD_LEN};
+use crate::record::{pack, read, RECORD_LEN};
 use crate::report::{expect, expect_bytes, hex, Failure};
 use crate::session::{Session, FIRST_STEP};
 use crate::settings::Settings;
@@ -77,7 +78,13 @@ pub fn open(call: &Opening) -> Result<Option<(Session, Vec<u8>)>, Failure> {
     expect(answer, came.answer, inputs)?;
     expect_bytes("record", &record, &came.record, inputs)?;
     expect(None, came.stray, inputs)?;
-    let Ok(session) = session else { return Ok(None) };
+    let Ok(session) = session else {
+        // the record that was lent may hold any session, or none
+        let held = read(&came.record).map(|held| Session::resume(&held));
+        ask(held.as_ref(), &came.record)?;
+        return Ok(None);
+    };
+    ask(Some(&session), &came.record)?;
     Ok(Some((session, came.record)))
 }
 
@@ -99,5 +106,19 @@ pub fn take(mut session: Option<&mut Session>, call: &Taking) -> Result<Vec<u8>,
     expect_bytes("record", &record, &came.record, inputs)?;
     expect_bytes("step buffer", &steps, &came.steps, inputs)?;
     expect(None, came.stray, inputs)?;
+    ask(session.as_deref(), &came.record)?;
     Ok(came.record)
+}
+
+/// Asks both sides how much is left. `session` is as above; the record must stay as it is.
+pub fn ask(session: Option<&Session>, record: &[u8]) -> Result<(), Failure> {
+    let answer = match session {
+        None => Remaining { number: numbers::RECORD, steps: 0 },
+        Some(session) => Remaining { number: session.outcome().number, steps: session.most_steps_left() },
+    };
+    let inputs = || format!("asking how much is left: record {}", hex(record));
+    let came = c2::steps_left(record);
+    expect(answer, came.answer, inputs)?;
+    expect_bytes("record", record, &came.record, inputs)?;
+    expect(None, came.stray, inputs)
 }

@@ -1,7 +1,7 @@
 //! The proved driver's calls against our own session: openings, whole sessions, refusals.
 
 use super::{Check, Run};
-use crate::c2::{self, Advanced, Opened};
+use crate::c2::{self, Advanced, Opened, Remaining};
 use crate::device::Device;
 use crate::driven::{any_settings, mostly, random_replies, Driven, Reasons};
 use crate::driver::{open, take, Opening, Taking};
@@ -60,7 +60,7 @@ fn opened(fault: Fault, random: &mut Random) -> Result<(Driven, Vec<u8>), Failur
     Ok((driven, replies))
 }
 
-/// The same replies, cut into calls of any length with refused calls between them.
+/// The same replies, cut into calls of any length with refused calls and questions between them.
 fn play(driven: &mut Driven, replies: &[u8], most: usize, random: &mut Random) -> Result<(), Failure> {
     let mut rest = replies;
     while !rest.is_empty() {
@@ -73,7 +73,7 @@ fn play(driven: &mut Driven, replies: &[u8], most: usize, random: &mut Random) -
         driven.take(now, random)?;
         rest = later;
         if random.below(4) == 0 {
-            driven.refused(random)?;
+            driven.in_between(random)?;
         }
     }
     after_the_end(driven, random)
@@ -83,7 +83,7 @@ fn play(driven: &mut Driven, replies: &[u8], most: usize, random: &mut Random) -
 fn after_the_end(driven: &mut Driven, random: &mut Random) -> Result<(), Failure> {
     for _ in 0..3 {
         driven.take(&random_replies(random), random)?;
-        driven.refused(random)?;
+        driven.in_between(random)?;
     }
     Ok(())
 }
@@ -199,7 +199,8 @@ fn nulls(run: &mut Run) -> Checked {
     let refused = |number| Opened { number, step: u32::from(OFF) };
     let inputs = || "null pointers with length 0".to_string();
     let bad_record = Advanced { number: numbers::RECORD, offset: 0, taken: 0 };
-    let nothing = (refused(numbers::RECORD), bad_record);
+    let no_session = Remaining { number: numbers::RECORD, steps: 0 };
+    let nothing = (refused(numbers::RECORD), bad_record, no_session);
     expect(nothing, c2::lent_nothing(&SETTINGS), inputs)?;
 
     let driven = Driven::open(&SETTINGS, 0, &[0x55; 512], &mut run.random)?;
@@ -208,5 +209,5 @@ fn nulls(run: &mut Run) -> Checked {
     expect(record_only, c2::lent_a_record_only(&driven.record, &SETTINGS), inputs)?;
     let running = Advanced { number: numbers::RUNNING, offset: 0, taken: 0 };
     expect(running, c2::lent_no_replies(&driven.record, &driven.image), inputs)?;
-    Ok(5)
+    Ok(6)
 }

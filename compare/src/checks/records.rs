@@ -4,7 +4,7 @@
 //! about, is a session, and both sides go on from it alike.
 
 use super::{Check, Run};
-use crate::driver::{take, Taking};
+use crate::driver::{ask, take, Taking};
 use crate::frames::Place;
 use crate::job::Job;
 use crate::numbers;
@@ -90,7 +90,7 @@ fn some_replies(random: &mut Random) -> Vec<u8> {
         .collect()
 }
 
-/// One call with this record: `session` is ours that it holds, if it holds one.
+/// The question and one call with this record: `session` is ours that it holds, if it holds one.
 fn call_with(
     session: Option<&mut Session>,
     record: &[u8],
@@ -109,6 +109,7 @@ fn call_taking(
 ) -> Result<(), Failure> {
     let (place, after) = (random.below(4), random.below(4));
     let steps = random.bytes(place + replies.len() + after);
+    ask(session.as_deref(), record)?;
     take(session, &Taking { record, image, replies, steps: &steps, place }).map(|_| ())
 }
 
