@@ -2,13 +2,23 @@
 
 CARGO := cargo run --quiet --offline --manifest-path compare/Cargo.toml --target-dir target/compare --
 
+# Crates come in levels, and edits crate by crate: four at a time leave no processor idle at the end of one.
+export RT_JOBS ?= 4
+
 LIBRARIES := target/staticlib/libprobe.a target/staticlib/libc2.a
 
-.PHONY: help library test compare compare-long prove clean
+PROGRAM := target/bin/flash
+
+EXAMPLES := target/examples/first target/examples/driver
+STRICT := -Wall -Wextra -Werror -Iinclude
+
+.PHONY: help library flash test compare compare-long examples prove clean
 
 help:
 	@echo "make library       build the driver's library, target/staticlib/libc2.a; its header is include/c2.h"
-	@echo "make test          compare with the second implementation in Rust, then prove everything from nothing"
+	@echo "make flash <image  program a modelled target with the image on standard input"
+	@echo "make examples      build and run the C examples, examples/first.c and examples/driver.c"
+	@echo "make test          compare with the second implementation in Rust, run the examples, then prove everything from nothing"
 	@echo "make compare       the comparison alone, some seconds"
 	@echo "make compare-long  the comparison over many more cases"
 	@echo "make prove         prove what has changed since the last time"
@@ -16,17 +26,37 @@ help:
 
 library: target/staticlib/libc2.a
 
-test: compare
+flash: $(PROGRAM)
+	@$(PROGRAM)
+
+test: compare examples
 	@rt ci
 
-compare: $(LIBRARIES)
-	@$(CARGO)
+compare: $(LIBRARIES) $(PROGRAM)
+	@$(CARGO) --program $(PROGRAM)
 
-compare-long: $(LIBRARIES)
-	@$(CARGO) --long
+compare-long: $(LIBRARIES) $(PROGRAM)
+	@$(CARGO) --long --program $(PROGRAM)
+
+# The first one is the program of README.md, word for word below its first line.
+examples: $(EXAMPLES)
+	@sed -n '/^```c$$/,/^```$$/{/^```/!p;}' README.md >target/examples/readme.c
+	@sed 1d examples/first.c | diff - target/examples/readme.c
+	@target/examples/first
+	@target/examples/driver
+
+# As C11, and as C++ too, since drivers are written in both.
+target/examples/%: examples/%.c examples/c2_text.h include/c2.h target/staticlib/libc2.a
+	@mkdir -p target/examples
+	@$(CXX) -x c++ -std=c++20 $(STRICT) -fsyntax-only $<
+	@$(CC) -std=c11 -O2 $(STRICT) $< target/staticlib/libc2.a -o $@
 
 target/staticlib/lib%.a: $(wildcard crates/*/src/*.rt)
 	@rt staticlib $*
+
+# Its proof goes to the error stream, so that only the program writes to standard output.
+$(PROGRAM): $(wildcard crates/*/src/*.rt)
+	@rt check flash </dev/null >&2
 
 prove:
 	@rt check

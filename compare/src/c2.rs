@@ -8,7 +8,7 @@ use crate::settings::Settings;
 
 #[repr(C)]
 #[derive(Clone, Copy)]
-struct DeviceSettings {
+pub struct DeviceSettings {
     device_id: u8,
     fpdat: u8,
     page_size: u32,
@@ -77,7 +77,7 @@ pub struct Called<Answer> {
 }
 
 /// The first of these that does not hold.
-fn first_stray(kept: &[(bool, &'static str)]) -> Option<&'static str> {
+pub fn first_stray(kept: &[(bool, &'static str)]) -> Option<&'static str> {
     kept.iter().find(|(kept, _)| !kept).map(|&(_, what)| what)
 }
 
@@ -118,6 +118,18 @@ pub fn advance(record: &[u8], image: &[u8], replies: &[u8], steps: &[u8], place:
         (steps.guards_kept(), "beside the step buffer"),
     ]);
     Called { answer, record: record.bytes().to_vec(), steps: steps.bytes().to_vec(), stray }
+}
+
+/// A call with one reply, on the memory where it stands, for loops that take millions; gives the step too.
+pub fn advance_once(record: &mut [u8], image: &[u8], reply: u8) -> (Advanced, u8) {
+    let mut step = 0;
+    let (record_ptr, record_len) = (record.as_mut_ptr(), record.len());
+    // SAFETY: each pointer is that of a slice or of a local with the length beside it; what may be written
+    // overlaps nothing else.
+    let answer = unsafe {
+        c2_advance(record_ptr, record_len, image.as_ptr(), image.len(), &reply, 1, &mut step, 1, 0)
+    };
+    (answer, step)
 }
 
 pub fn steps_left(record: &[u8]) -> Called<Remaining> {

@@ -1,4 +1,6 @@
 //! A target together with what each step lends it.
+//!
+//! The target is our own or the proved one: what is said of a device can be tried on either.
 
 use crate::frames::{End, Frame, Kind};
 use crate::numbers;
@@ -6,17 +8,34 @@ use crate::session::{Session, FIRST_STEP, WAIT_LIMIT};
 use crate::settings::Settings;
 use crate::target::Target;
 
+/// A target that takes steps.
+pub trait Modelled {
+    fn fresh() -> Self;
+
+    /// Takes one step; gives the number and the reply.
+    fn step(&mut self, settings: &Settings, flash: &mut [u8], delays: &[u8], step: u8) -> (u32, u8);
+
+    fn collision(&self) -> bool;
+}
+
 #[derive(Clone, Debug)]
-pub struct Device {
+pub struct Device<T = Target> {
     pub settings: Settings,
-    pub target: Target,
+    pub target: T,
     pub flash: Vec<u8>,
     pub delays: Vec<u8>,
 }
 
 impl Device {
+    /// A device with our own target.
     pub fn fresh(settings: Settings, flash: Vec<u8>, delays: Vec<u8>) -> Device {
-        Device { settings, target: Target::fresh(), flash, delays }
+        Device::new(settings, flash, delays)
+    }
+}
+
+impl<T: Modelled> Device<T> {
+    pub fn new(settings: Settings, flash: Vec<u8>, delays: Vec<u8>) -> Device<T> {
+        Device { settings, target: T::fresh(), flash, delays }
     }
 
     /// The reply to a step; the device's own settings and flash are in order.

@@ -47,15 +47,16 @@ impl Driven {
         Ok(Driven { session, record, image: image.to_vec(), calls: 1 })
     }
 
-    /// An accepted call: the steps go somewhere into a buffer that holds anything.
-    pub fn take(&mut self, replies: &[u8], random: &mut Random) -> Result<(), Failure> {
+    /// An accepted call: the steps go somewhere into a buffer that holds anything. Gives the steps written.
+    pub fn take(&mut self, replies: &[u8], random: &mut Random) -> Result<Vec<u8>, Failure> {
         let (place, after) = (spare_room(random), spare_room(random));
         let steps = random.bytes(place + replies.len() + after);
         let (record, image) = (&self.record, &self.image);
         let call = Taking { record, image, replies, steps: &steps, place };
-        self.record = take(Some(&mut self.session), &call)?;
+        let came = take(Some(&mut self.session), &call)?;
+        self.record = came.record;
         self.calls += 1;
-        Ok(())
+        Ok(came.steps[place..][..came.answer.taken as usize].to_vec())
     }
 
     /// A call in between that leaves the session where it is: a question, or a call that is refused.

@@ -1,7 +1,7 @@
 //! Makes each call on the proved code and on our own session, and compares all that comes back. After each
 //! one both sides are asked how much is left.
 
-use crate::c2::{self, Advanced, Opened, Remaining};
+use crate::c2::{self, Advanced, Called, Opened, Remaining};
 use crate::numbers;
 use crate::record::{pack, read, RECORD_LEN};
 use crate::report::{expect, expect_bytes, hex, Failure};
@@ -88,9 +88,9 @@ pub fn open(call: &Opening) -> Result<Option<(Session, Vec<u8>)>, Failure> {
     Ok(Some((session, came.record)))
 }
 
-/// Takes replies on both sides. `session` is our session that the
-/// record holds, none if it holds none in range. Gives the record as the proved code left it.
-pub fn take(mut session: Option<&mut Session>, call: &Taking) -> Result<Vec<u8>, Failure> {
+/// Takes replies on both sides. `session` is our session that the record holds, none if it holds none in
+/// range. Gives what the proved code gave.
+pub fn take(mut session: Option<&mut Session>, call: &Taking) -> Result<Called<Advanced>, Failure> {
     let mut steps = call.steps.to_vec();
     let (answer, record) = match &mut session {
         None => (Advanced { number: numbers::RECORD, offset: 0, taken: 0 }, call.record.to_vec()),
@@ -107,7 +107,7 @@ pub fn take(mut session: Option<&mut Session>, call: &Taking) -> Result<Vec<u8>,
     expect_bytes("step buffer", &steps, &came.steps, inputs)?;
     expect(None, came.stray, inputs)?;
     ask(session.as_deref(), &came.record)?;
-    Ok(came.record)
+    Ok(came)
 }
 
 /// Asks both sides how much is left. `session` is as above; the record must stay as it is.

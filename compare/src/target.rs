@@ -3,6 +3,7 @@
 use std::collections::VecDeque;
 use std::ops::Range;
 
+use crate::device::Modelled;
 use crate::frames::Kind;
 use crate::interface::{BLOCK_READ, BLOCK_WRITE, FAILED, FPCTL, IN_BUSY, KEYS, OKAY, OUT_READY, PAGE_ERASE};
 use crate::numbers;
@@ -20,7 +21,7 @@ struct Lent<'a> {
 }
 
 #[derive(Clone, Copy, Debug, PartialEq, Eq)]
-enum Field {
+pub enum Field {
     Ins,
     Length,
     /// ADDRESS or DATA from the master
@@ -40,23 +41,23 @@ impl Field {
 
 /// A frame as far as the target has seen it.
 #[derive(Clone, Debug)]
-struct Frame {
-    field: Field,
+pub struct Frame {
+    pub field: Field,
     /// strobes of this field already seen
-    done: u32,
-    ins: u8,
-    length: u8,
+    pub done: u32,
+    pub ins: u8,
+    pub length: u8,
     /// the first byte written
-    written: u8,
+    pub written: u8,
     /// the first byte to send; any others are zeros
-    sent: u8,
+    pub sent: u8,
     /// zeros still to be sent in the WAIT
-    zeros: u8,
+    pub zeros: u8,
 }
 
 impl Frame {
     /// A frame whose START has been seen.
-    fn started() -> Frame {
+    pub fn started() -> Frame {
         Frame { field: Field::Ins, done: 0, ins: 0, length: 0, written: 0, sent: 0, zeros: 0 }
     }
 
@@ -77,22 +78,22 @@ impl Frame {
 
 #[derive(Clone, Debug, Default)]
 pub struct Target {
-    address: u8,
-    interface_on: bool,
-    collision: bool,
-    delay_place: usize,
-    frame: Option<Frame>,
+    pub address: u8,
+    pub interface_on: bool,
+    pub collision: bool,
+    pub delay_place: usize,
+    pub frame: Option<Frame>,
     /// the last three Data Writes since the reset, oldest first: address and byte
-    data_writes: VecDeque<(u8, u8)>,
+    pub data_writes: VecDeque<(u8, u8)>,
     /// a frame has begun after the last of them
-    frame_since: bool,
+    pub frame_since: bool,
     /// the bytes put so far of a command that has not had them all
-    command: Vec<u8>,
-    output: VecDeque<u8>,
+    pub command: Vec<u8>,
+    pub output: VecDeque<u8>,
     /// Address Reads that will still show InBusy (document 01's d)
-    busy_reads: u8,
+    pub busy_reads: u8,
     /// Address Reads after those that will still not show OutReady (document 01's e)
-    unready_reads: u8,
+    pub unready_reads: u8,
 }
 
 /// The lowest refusal in the order of the tests: 1 to 3, 17, 16.
@@ -106,17 +107,13 @@ fn refusal(settings: &Settings, flash_len: usize, step: u8) -> Option<u32> {
     (step == 1 || step > OFF).then_some(numbers::UNKNOWN_STEP)
 }
 
-impl Target {
-    pub fn fresh() -> Target {
+impl Modelled for Target {
+    fn fresh() -> Target {
         Target::default()
     }
 
-    pub fn collision(&self) -> bool {
-        self.collision
-    }
-
-    /// Takes one step; gives the number and the reply. A refused step changes nothing and replies 1.
-    pub fn step(&mut self, settings: &Settings, flash: &mut [u8], delays: &[u8], step: u8) -> (u32, u8) {
+    /// A refused step changes nothing and replies 1.
+    fn step(&mut self, settings: &Settings, flash: &mut [u8], delays: &[u8], step: u8) -> (u32, u8) {
         if let Some(number) = refusal(settings, flash.len(), step) {
             return (number, 1);
         }
@@ -128,6 +125,17 @@ impl Target {
             _ => self.strobe(step, &mut lent),
         };
         (numbers::RUNNING, u8::from(high))
+    }
+
+    fn collision(&self) -> bool {
+        self.collision
+    }
+}
+
+impl Target {
+    /// A frame has begun and not yet passed its STOP.
+    pub fn in_frame(&self) -> bool {
+        self.frame.is_some()
     }
 
     /// Drops all but the flash, the mark and the place in the delays.
@@ -208,13 +216,12 @@ impl Target {
         true
     }
 
+    /// The place moves on by one from where the delay was taken, also in a list that is empty.
     fn take_delay(&mut self, lent: &Lent) -> u8 {
         if self.delay_place >= lent.delays.len() {
             self.delay_place = 0;
         }
-        let Some(&delay) = lent.delays.get(self.delay_place) else {
-            return 0;
-        };
+        let delay = lent.delays.get(self.delay_place).copied().unwrap_or(0);
         self.delay_place += 1;
         delay
     }

@@ -1,10 +1,16 @@
 //! The checks: what is compared, over which inputs.
 
 pub mod calls;
+pub mod closed;
+pub mod model;
+pub mod program;
 pub mod programming;
 pub mod records;
+pub mod states;
 pub mod target;
 pub mod wire;
+
+use std::path::PathBuf;
 
 use crate::random::Random;
 use crate::report::Checked;
@@ -13,6 +19,8 @@ use crate::report::Checked;
 pub struct Run {
     pub long: bool,
     pub random: Random,
+    /// document 01's program, if it is to be run
+    pub program: Option<PathBuf>,
 }
 
 impl Run {
@@ -31,6 +39,19 @@ pub struct Check {
     pub run: fn(&mut Run) -> Checked,
 }
 
-pub fn all() -> impl Iterator<Item = &'static Check> {
-    [wire::CHECKS, target::CHECKS, programming::CHECKS, calls::CHECKS, records::CHECKS].into_iter().flatten()
+/// Every check; those of the program only if there is one.
+pub fn all(with_program: bool) -> impl Iterator<Item = &'static Check> {
+    [
+        wire::CHECKS,
+        target::CHECKS,
+        model::CHECKS,
+        states::CHECKS,
+        programming::CHECKS,
+        calls::CHECKS,
+        records::CHECKS,
+        closed::CHECKS,
+        if with_program { program::CHECKS } else { &[] },
+    ]
+    .into_iter()
+    .flatten()
 }

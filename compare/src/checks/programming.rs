@@ -1,7 +1,7 @@
 //! Our own session, alone and against our own target.
 
 use super::{Check, Run};
-use crate::device::Device;
+use crate::device::{Device, Modelled};
 use crate::job::{open, Job};
 use crate::numbers;
 use crate::random::Random;

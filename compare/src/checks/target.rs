@@ -1,33 +1,43 @@
-//! Our own target, sentence by sentence of document 01's "The modelled target".
+//! Both targets, each by itself, sentence by sentence of document 01's "The modelled target".
 
 use super::{Check, Run};
-use crate::device::Device;
+use crate::device::{Device, Modelled};
 use crate::frames::{self, End, Kind};
 use crate::interface::{BLOCK_READ, BLOCK_WRITE, FAILED, FPCTL, IN_BUSY, KEYS, OKAY, OUT_READY, PAGE_ERASE};
+use crate::model::Proved;
 use crate::numbers;
 use crate::report::{expect, Checked, Failure};
 use crate::session::WAIT_LIMIT;
 use crate::settings::Settings;
 use crate::steps::{HIGH, LOW, OFF, PAUSE, RELEASED, RESET};
+use crate::target::Target;
 
 pub const CHECKS: &[Check] = &[
-    Check { name: "our target: refusals, in their order", run: refusals },
-    Check { name: "our target: frames and registers", run: registers },
-    Check { name: "our target: collisions", run: collisions },
-    Check { name: "our target: delays in WAITs", run: waits },
-    Check { name: "our target: frames with LENGTH not 0", run: lengths },
-    Check { name: "our target: the keys that turn the interface on", run: keys },
-    Check { name: "our target: InBusy and OutReady", run: status_bits },
-    Check { name: "our target: commands", run: commands },
+    Check { name: "our target: refusals, in their order", run: refusals::<Target> },
+    Check { name: "our target: frames and registers", run: registers::<Target> },
+    Check { name: "our target: collisions", run: collisions::<Target> },
+    Check { name: "our target: delays in WAITs", run: waits::<Target> },
+    Check { name: "our target: frames with LENGTH not 0", run: lengths::<Target> },
+    Check { name: "our target: the keys that turn the interface on", run: keys::<Target> },
+    Check { name: "our target: InBusy and OutReady", run: status_bits::<Target> },
+    Check { name: "our target: commands", run: commands::<Target> },
+    Check { name: "target: refusals, in their order", run: refusals::<Proved> },
+    Check { name: "target: frames and registers", run: registers::<Proved> },
+    Check { name: "target: collisions", run: collisions::<Proved> },
+    Check { name: "target: delays in WAITs", run: waits::<Proved> },
+    Check { name: "target: frames with LENGTH not 0", run: lengths::<Proved> },
+    Check { name: "target: the keys that turn the interface on", run: keys::<Proved> },
+    Check { name: "target: InBusy and OutReady", run: status_bits::<Proved> },
+    Check { name: "target: commands", run: commands::<Proved> },
 ];
 
 const SETTINGS: Settings = Settings { device_id: 0x5A, fpdat: 0xB4, page_size: 512, page_count: 2 };
 
-fn device(delays: &[u8]) -> Device {
-    Device::fresh(SETTINGS, vec![0xF0; 1024], delays.to_vec())
+fn device<T: Modelled>(delays: &[u8]) -> Device<T> {
+    Device::new(SETTINGS, vec![0xF0; 1024], delays.to_vec())
 }
 
-impl Device {
+impl<T: Modelled> Device<T> {
     fn address_write(&mut self, address: u8) {
         self.frame(Kind::AddressWrite, address);
     }
@@ -44,6 +54,13 @@ impl Device {
         self.frame(Kind::DataRead, 0)
     }
 
+    /// These delays come next, in this order. The list lent so far was empty, which leaves the place at 1.
+    fn lend_delays(&mut self, delays: &[u8]) {
+        assert!(self.delays.is_empty());
+        self.delays = delays.to_vec();
+        self.delays.rotate_right(1.min(delays.len()));
+    }
+
     fn write_keys(&mut self) {
         self.address_write(FPCTL);
         for key in KEYS {
@@ -53,12 +70,12 @@ impl Device {
 }
 
 /// A fresh device with its interface on, FPDAT selected, and these delays from there on.
-fn ready(delays: &[u8]) -> Device {
+fn ready<T: Modelled>(delays: &[u8]) -> Device<T> {
     let mut device = device(&[]);
     device.write_keys();
     device.step(PAUSE);
     device.address_write(SETTINGS.fpdat);
-    device.delays = delays.to_vec();
+    device.lend_delays(delays);
     device
 }
 
@@ -82,7 +99,7 @@ impl Tally {
     }
 }
 
-fn refusals(_: &mut Run) -> Checked {
+fn refusals<T: Modelled>(_: &mut Run) -> Checked {
     let bad = Settings { device_id: 0, fpdat: 2, page_size: 500, page_count: 0 };
     let rows = [
         (bad, 1024, 1, numbers::FPDAT_ADDRESS),
@@ -100,7 +117,7 @@ fn refusals(_: &mut Run) -> Checked {
     let mut tally = Tally::default();
     for (settings, flash_len, step, number) in rows {
         // in the middle of an Address Write, to see that nothing changes
-        let mut device = device(&[]);
+        let mut device = device::<T>(&[]);
         let steps = frames::play(Kind::AddressWrite, 0x77, &[1; 12], WAIT_LIMIT).steps;
         device.steps(&steps[..6]);
         let mut flash = vec![0; flash_len];
@@ -113,9 +130,9 @@ fn refusals(_: &mut Run) -> Checked {
     Ok(tally.0)
 }
 
-fn registers(_: &mut Run) -> Checked {
+fn registers<T: Modelled>(_: &mut Run) -> Checked {
     let mut tally = Tally::default();
-    let mut device = device(&[]);
+    let mut device = device::<T>(&[]);
     tally.gives("device ID after power on", SETTINGS.device_id, device.data_read())?;
     let steps = [0, 3, 3, 2, 3, 2, 2, 2, 2, 2, 2, 0];
     let replies = vec![1, 1, 1, 0, 1, 0, 0, 0, 0, 0, 0, 1];
@@ -139,10 +156,10 @@ fn registers(_: &mut Run) -> Checked {
 
 /// Every strobe of every frame, driven: the mark is set unless the strobe is the master's, and the
 /// replies are those of the same frame left alone.
-fn collisions(_: &mut Run) -> Checked {
+fn collisions<T: Modelled>(_: &mut Run) -> Checked {
     let mut tally = Tally::default();
     for kind in Kind::ALL {
-        let replies = device(&[2]).steps(&frames_steps(kind));
+        let replies = device::<T>(&[2]).steps(&frames_steps(kind));
         for strobe in 0..replies.len() {
             for drive in [LOW, HIGH] {
                 let mut steps = frames_steps(kind);
@@ -150,7 +167,7 @@ fn collisions(_: &mut Run) -> Checked {
                 if !masters {
                     steps[strobe] = drive;
                 }
-                let mut device = device(&[2]);
+                let mut device = device::<T>(&[2]);
                 let inputs = format!("{kind:?}, steps {steps:?}");
                 tally.expect(&inputs, &replies, &device.steps(&steps))?;
                 tally.expect(&inputs, !masters, device.target.collision())?;
@@ -170,18 +187,18 @@ fn frames_steps(kind: Kind) -> Vec<u8> {
     frames::play(kind, 0x33, &replies, WAIT_LIMIT).steps
 }
 
-fn waits(_: &mut Run) -> Checked {
+fn waits<T: Modelled>(_: &mut Run) -> Checked {
     let mut tally = Tally::default();
     let before_wait = [RELEASED, LOW, LOW, LOW, LOW];
     for delay in 0..=255 {
-        let mut device = device(&[delay]);
+        let mut device = device::<T>(&[delay]);
         device.steps(&before_wait);
         let zeros = (0..).take_while(|_| device.step(RELEASED) == 0).count();
         let inputs = format!("zeros in the WAIT of a Data Read, delay {delay}");
         tally.expect(&inputs, usize::from(delay % 20), zeros)?;
     }
     // a reset just before a WAIT: its delay is not yet taken; a reset within it: it is
-    let mut device = device(&[3, 25]);
+    let mut device = device::<T>(&[3, 25]);
     device.steps(&before_wait);
     device.step(RESET);
     for (zeros, inputs) in [(3, "first delay"), (5, "second"), (3, "first again")] {
@@ -211,10 +228,10 @@ fn data_frame(kind: Kind, length: u32, data: u32) -> Vec<u8> {
     steps
 }
 
-fn lengths(_: &mut Run) -> Checked {
+fn lengths<T: Modelled>(_: &mut Run) -> Checked {
     let mut tally = Tally::default();
     for length in 1..=3 {
-        let mut at_id = device(&[]);
+        let mut at_id = device::<T>(&[]);
         let came = at_id.steps(&data_frame(Kind::DataRead, length, 0));
         // START, INS, LENGTH, WAIT, then the zeros read and STOP
         let mut replies = vec![1, 0, 0, (length & 1) as u8, (length >> 1) as u8, 1];
@@ -223,7 +240,7 @@ fn lengths(_: &mut Run) -> Checked {
         tally.expect("Data Read at address 0, LENGTH not 0", replies, came)?;
         tally.gives("the next frame", 0, at_id.address_read())?;
 
-        let mut ready = ready(&[]);
+        let mut ready = ready::<T>(&[]);
         ready.steps(&data_frame(Kind::DataWrite, length, 0x0808_0808));
         tally.gives("no command was put", 0, ready.address_read())?;
         ready.data_write(PAGE_ERASE);
@@ -236,15 +253,16 @@ fn lengths(_: &mut Run) -> Checked {
 }
 
 /// Where the interface is on, an Address Read at FPDAT gives the status bits.
-fn interface_on(device: &mut Device) -> bool {
+fn interface_on<T: Modelled>(device: &mut Device<T>) -> bool {
     device.address_write(SETTINGS.fpdat);
     device.address_read() == End::Passed(0)
 }
 
-fn keys(_: &mut Run) -> Checked {
-    type Act = fn(&mut Device);
-    let nothing: Act = |_| ();
-    let rows: [(&str, bool, Act, Act); 11] = [
+type Act<T> = fn(&mut Device<T>);
+
+fn keys<T: Modelled>(_: &mut Run) -> Checked {
+    let nothing: Act<T> = |_| ();
+    let rows: [(&str, bool, Act<T>, Act<T>); 11] = [
         ("nothing between or after", true, nothing, nothing),
         ("an Address Read between", true, |d| _ = d.address_read(), nothing),
         ("a Data Read between", true, |d| _ = d.data_read(), nothing),
@@ -259,7 +277,7 @@ fn keys(_: &mut Run) -> Checked {
     ];
     let mut tally = Tally::default();
     for (inputs, on, between, after) in rows {
-        let mut device = device(&[]);
+        let mut device = device::<T>(&[]);
         device.data_write(0x02);
         device.address_write(FPCTL);
         device.data_write(KEYS[0]);
@@ -273,17 +291,17 @@ fn keys(_: &mut Run) -> Checked {
         device.step(RESET);
         tally.expect("off after reset", false, interface_on(&mut device))?;
     }
-    pause_in_mid_frame(&mut tally)?;
+    pause_in_mid_frame::<T>(&mut tally)?;
     Ok(tally.0)
 }
 
-fn long_write(device: &mut Device) {
+fn long_write<T: Modelled>(device: &mut Device<T>) {
     device.steps(&data_frame(Kind::DataWrite, 1, 0x0102));
 }
 
 /// Step 5 in mid-frame changes nothing: the frame goes on, and its START has spoilt the keys.
-fn pause_in_mid_frame(tally: &mut Tally) -> Result<(), Failure> {
-    let mut device = device(&[]);
+fn pause_in_mid_frame<T: Modelled>(tally: &mut Tally) -> Result<(), Failure> {
+    let mut device = device::<T>(&[]);
     device.write_keys();
     device.steps(&[RELEASED, PAUSE, LOW, PAUSE, HIGH, OFF]);
     let replies = vec![0, 1, 0, 0, 0, 0, 0, 0, 1];
@@ -291,11 +309,11 @@ fn pause_in_mid_frame(tally: &mut Tally) -> Result<(), Failure> {
     tally.expect("step 5 in mid-frame", false, interface_on(&mut device))
 }
 
-fn status_bits(_: &mut Run) -> Checked {
+fn status_bits<T: Modelled>(_: &mut Run) -> Checked {
     let mut tally = Tally::default();
     for (d, e) in [(0, 0), (1, 0), (0, 1), (3, 2), (255, 255)] {
         // the WAIT of the put takes the first delay, then come d and e
-        let mut device = ready(&[7, d, e, 0]);
+        let mut device = ready::<T>(&[7, d, e, 0]);
         device.data_write(PAGE_ERASE);
         let inputs = format!("d {d}, e {e}");
         for _ in 0..d {
@@ -309,16 +327,16 @@ fn status_bits(_: &mut Run) -> Checked {
         tally.gives(&inputs, 0, device.address_read())?;
         tally.gives("a read without output", 0, device.data_read())?;
     }
-    early_read(&mut tally)?;
-    put_while_busy(&mut tally)?;
-    delay_after_a_read(&mut tally)?;
-    put_without_output(&mut tally)?;
+    early_read::<T>(&mut tally)?;
+    put_while_busy::<T>(&mut tally)?;
+    delay_after_a_read::<T>(&mut tally)?;
+    put_without_output::<T>(&mut tally)?;
     Ok(tally.0)
 }
 
 /// A Data Read while OutReady is 0 gives 0 and takes nothing away.
-fn early_read(tally: &mut Tally) -> Result<(), Failure> {
-    let mut device = ready(&[0, 1, 1, 0]);
+fn early_read<T: Modelled>(tally: &mut Tally) -> Result<(), Failure> {
+    let mut device = ready::<T>(&[0, 1, 1, 0]);
     device.data_write(PAGE_ERASE);
     tally.gives("a read while InBusy is 1", 0, device.data_read())?;
     tally.gives("d is not used up", IN_BUSY, device.address_read())?;
@@ -333,8 +351,8 @@ fn early_read(tally: &mut Tally) -> Result<(), Failure> {
 }
 
 /// A put is taken while InBusy is 1, and drops output, d and e.
-fn put_while_busy(tally: &mut Tally) -> Result<(), Failure> {
-    let mut device = ready(&[0, 200, 200, 0, 0, 0]);
+fn put_while_busy<T: Modelled>(tally: &mut Tally) -> Result<(), Failure> {
+    let mut device = ready::<T>(&[0, 200, 200, 0, 0, 0]);
     device.data_write(PAGE_ERASE);
     tally.gives("busy", IN_BUSY, device.address_read())?;
     device.data_write(1);
@@ -349,12 +367,12 @@ fn put_while_busy(tally: &mut Tally) -> Result<(), Failure> {
 }
 
 /// After a read with more output waiting a new e is taken.
-fn delay_after_a_read(tally: &mut Tally) -> Result<(), Failure> {
-    let mut device = ready(&[]);
+fn delay_after_a_read<T: Modelled>(tally: &mut Tally) -> Result<(), Failure> {
+    let mut device = ready::<T>(&[]);
     for byte in [BLOCK_READ, 0, 0, 2] {
         device.data_write(byte);
     }
-    device.delays = vec![0, 2];
+    device.lend_delays(&[0, 2]);
     tally.gives("status of the block read", OKAY, device.data_read())?;
     tally.gives("e 2", 0, device.address_read())?;
     tally.gives("e 1", 0, device.address_read())?;
@@ -368,10 +386,10 @@ fn delay_after_a_read(tally: &mut Tally) -> Result<(), Failure> {
 }
 
 /// A put that brings no output takes d and no e.
-fn put_without_output(tally: &mut Tally) -> Result<(), Failure> {
-    let mut device = ready(&[]);
+fn put_without_output<T: Modelled>(tally: &mut Tally) -> Result<(), Failure> {
+    let mut device = ready::<T>(&[]);
     device.data_write(BLOCK_READ);
-    device.delays = vec![0, 1, 2];
+    device.lend_delays(&[0, 1, 2]);
     device.data_write(0x00);
     for status in [IN_BUSY, 0] {
         tally.gives("address high put: WAIT 0, d 1", status, device.address_read())?;
@@ -385,13 +403,13 @@ fn put_without_output(tally: &mut Tally) -> Result<(), Failure> {
     Ok(())
 }
 
-fn put_all(device: &mut Device, bytes: &[u8]) {
+fn put_all<T: Modelled>(device: &mut Device<T>, bytes: &[u8]) {
     for &byte in bytes {
         device.data_write(byte);
     }
 }
 
-fn commands(_: &mut Run) -> Checked {
+fn commands<T: Modelled>(_: &mut Run) -> Checked {
     let mut tally = Tally::default();
     for (status, bytes) in [
         (OKAY, &[PAGE_ERASE, 1, 0x00][..]),
@@ -404,7 +422,7 @@ fn commands(_: &mut Run) -> Checked {
         (FAILED, &[BLOCK_READ, 0x03, 0x01, 0]),
         (OKAY, &[BLOCK_READ, 0x03, 0x01, 255]),
     ] {
-        let mut device = ready(&[]);
+        let mut device = ready::<T>(&[]);
         put_all(&mut device, bytes);
         let inputs = format!("puts {bytes:02x?}");
         tally.gives(&inputs, status, device.data_read())?;
@@ -414,14 +432,14 @@ fn commands(_: &mut Run) -> Checked {
         put_all(&mut device, &[PAGE_ERASE]);
         tally.gives("the next put is a new command", OKAY, device.data_read())?;
     }
-    unknown_commands(&mut tally)?;
-    length_codes(&mut tally)?;
+    unknown_commands::<T>(&mut tally)?;
+    length_codes::<T>(&mut tally)?;
     Ok(tally.0)
 }
 
-fn unknown_commands(tally: &mut Tally) -> Result<(), Failure> {
+fn unknown_commands<T: Modelled>(tally: &mut Tally) -> Result<(), Failure> {
     for command in (0..=255).filter(|command| ![BLOCK_READ, BLOCK_WRITE, PAGE_ERASE].contains(command)) {
-        let mut device = ready(&[]);
+        let mut device = ready::<T>(&[]);
         device.data_write(command);
         tally.gives(&format!("command {command:#04x}"), FAILED, device.data_read())?;
     }
@@ -440,10 +458,10 @@ fn flash_after(bytes: &[u8], status: u8) -> Vec<u8> {
 }
 
 /// P5 and P6: code 0 means 256, 255 means 255, for writes and reads.
-fn length_codes(tally: &mut Tally) -> Result<(), Failure> {
+fn length_codes<T: Modelled>(tally: &mut Tally) -> Result<(), Failure> {
     for (code, len) in [(0, 256), (1, 1), (255, 255)] {
         let inputs = format!("length code {code}");
-        let mut device = ready(&[]);
+        let mut device = ready::<T>(&[]);
         put_all(&mut device, &[BLOCK_WRITE, 0x01, 0x02, code]);
         for _ in 0..len {
             tally.gives(&inputs, 0, device.address_read())?;

@@ -16,7 +16,7 @@ use Rattle.record.specs.Record.{unpacked}
 use Rattle.c2.specs.declared.Remaining.{Remaining}
 use Rattle.c2.specs.Calls.{image-length, blank, remaining-answer}
 use Rattle.c2.specs.Claims.{Figure-of-any}
-use Rattle.c2.specs.Loop.{number-of}
+use Rattle.outcome.specs.Standing.{number-of}
 use Rattle.c2.proofs.Meeting.{Lent, outcome-now}
 use Rattle.c2.proofs.Calling.{lent-held}
 

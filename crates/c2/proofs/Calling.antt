@@ -16,7 +16,8 @@ use Rattle.record.specs.Record.{packed, unpacked}
 use Rattle.record.proofs.Claimed.{small, packed-whole, unpack-pack, unpacked-exactly}
 use Rattle.c2.specs.declared.Advanced.{Advanced}
 use Rattle.c2.specs.Calls.{image-length, exchange-at, after-replies, taken-answer, refused-answer, steps-written, advance-answer, advance-steps, advance-record}
-use Rattle.c2.specs.Loop.{number-of, offset-of, ran, wrote}
+use Rattle.outcome.specs.Standing.{number-of, offset-of}
+use Rattle.c2.specs.Loop.{ran, wrote}
 use Rattle.c2.proofs.Meeting.{Lent, ran-is, wrote-is, outcome-is}
 use Rattle.wire.specs.Exchange
 

@@ -9,7 +9,8 @@ use lib.ListN.{length, getD, set, take, drop, length-set, take-append-drop, drop
 use lib.Seq.{drop-cons, take-suc-set, drop-set-lt, drop-drop, length-take-le, take-all}
 use Rattle.session.specs.declared.Session.{Session}
 use Rattle.session.specs.Machine.{advanced, step-of}
-use Rattle.c2.specs.Loop.{is-running, ran, wrote}
+use Rattle.outcome.specs.Standing.{is-running}
+use Rattle.c2.specs.Loop.{ran, wrote}
 
 -- a session that has ended takes nothing
 ran-stops : (image : List ℕ) (s : Session) (rs : List ℕ) → is-running (s .point) ≡ false → ran image s rs ≡ s

@@ -25,7 +25,8 @@ use Rattle.position.proofs.Keeping.{advanced-in-range}
 use Rattle.position.proofs.Asking.{asks-step}
 use Rattle.position.proofs.Exchanging.{position-valid, exchange-advances}
 use Rattle.c2.specs.Calls.{image-length, exchange-at, after-replies}
-use Rattle.c2.specs.Loop.{is-running, number-of, offset-of, ran, wrote}
+use Rattle.outcome.specs.Standing.{is-running, number-of, offset-of}
+use Rattle.c2.specs.Loop.{ran, wrote}
 use Rattle.wire.specs.Exchange
 use Rattle.order.specs.Point
 
@@ -86,7 +87,7 @@ position-runs s image h e = go (s .point) e (point-of 20 256 s (h .range))
     go (Ended n o) f r = absurd (let z : _≡_ {A = ℕ} 0 1 = cc in omega arith)
 
 -- and so its exchange asks for a step
-still-asks : (s : Session) (image : List ℕ) → Lent s image → is-running (s .point) ≡ true
+pub still-asks : (s : Session) (image : List ℕ) → Lent s image → is-running (s .point) ≡ true
     → (f : Field) × (x : Step) × (k : Bool → Exchange) × (exchange-at s image ≡ strobe f x k)
 unfolding left-to-say
 still-asks s image h e = go (position s image) (position-valid 20 256 s image (h .id) (h .bytes) (h .range) (h .whole)) (position-runs s image h e)
@@ -98,7 +99,7 @@ still-asks s image h e = go (position s image) (position-valid 20 256 s image (h
     go (Point.ended o) v u = absurd u
 
 -- an ended session's exchange is over, with its outcome
-ended-over : (s : Session) (image : List ℕ) → is-running (s .point) ≡ false
+pub ended-over : (s : Session) (image : List ℕ) → is-running (s .point) ≡ false
     → exchange-at s image ≡ Exchange.ended (record { number = number-of (s .point); offset = offset-of (s .point) })
 unfolding left-to-say point-position
 ended-over s image e = go (s .point) e

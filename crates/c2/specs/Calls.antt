@@ -12,7 +12,7 @@ use Rattle.order.specs.Opening.{opening-refusal}
 use Rattle.order.specs.Conversation.{session-limits}
 use Rattle.order.specs.Point.{left-to-say}
 use Rattle.order.specs.Figure.{figure}
-use Rattle.session.specs.declared.Stage.the-variants.{Lead}
+use Rattle.tasks.specs.declared.Stage.the-variants.{Lead}
 use Rattle.session.specs.declared.Point.the-variants.{Running}
 use Rattle.session.specs.declared.Session.{Session}
 use Rattle.session.specs.Machine.{advanced}

@@ -1,24 +1,11 @@
 -- For the code: the session reached and the steps written, reply by reply. Nothing here needs to be believed: `Looping` in proofs/ has the laws
 -- that these are the steps of the exchange and the session after the replies.
-use mathlib.Core.Bool.{Bool, true, false, cond}
+use mathlib.Core.Bool.{cond}
 use mathlib.Core.List.{List, [], _∷_}
 use Prim.Native.Nat.{ℕ}
-use Rattle.session.specs.declared.Point.{Point}
-use Rattle.session.specs.declared.Point.the-variants.{Running, Ended}
 use Rattle.session.specs.declared.Session.{Session}
 use Rattle.session.specs.Machine.{advanced, step-of}
-
-abbrev pub is-running : Point → Bool
-is-running (Running g i j k q c v) = true
-is-running (Ended n o) = false
-
-abbrev pub number-of : Point → ℕ
-number-of (Running g i j k q c v) = 0
-number-of (Ended n o) = n
-
-abbrev pub offset-of : Point → ℕ
-offset-of (Running g i j k q c v) = 0
-offset-of (Ended n o) = o
+use Rattle.outcome.specs.Standing.{is-running}
 
 abbrev pub ran : (image : List ℕ) → Session → List ℕ → Session
 ran image s [] = s

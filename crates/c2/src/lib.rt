@@ -5,17 +5,25 @@ ghost use Prim.Native.Nat.{_≤_};
 ghost use lib.ListN.{length, drop};
 ghost use Rattle.order.specs.Opening.{opening-refusal};
 ghost use Rattle.record.specs.Record.{unpacked};
+ghost use Rattle.outcome.specs.Standing.{number-of, offset-of};
+ghost use Rattle.target.specs.Target.{fresh};
+ghost use Rattle.model.specs.State.{state-of};
+ghost use Rattle.model.specs.Model.{model-answer, model-flash};
 ghost use Rattle.c2.specs.Calls.{opening-number, opened-session, opening-answer, record-opened, refused-answer, advance-answer, advance-steps, advance-record, remaining-answer};
-ghost use Rattle.c2.specs.Loop.{is-running, number-of, offset-of, ran, wrote};
+ghost use Rattle.c2.specs.Loop.{ran, wrote};
+use model::ModelReplied;
+use model::State;
 use numbers::BAD_RECORD;
 use numbers::NO_ROOM;
 use numbers::OTHER_IMAGE;
 use numbers::RUNNING;
+use outcome::is_running;
+use outcome::outcome_of;
 use record::Unpacked;
 use session::Point;
 use session::Session;
-use session::Stage;
 use settings::Settings;
+use tasks::Stage;
 
 // The number of an opening, and its first step: 4, or 6 when refused.
 #[repr(C)]
@@ -42,26 +50,6 @@ pub struct Remaining {
 struct Ran {
     session: Session,
     taken: usize,
-}
-
-fn is_running(point: Point) -> bool
-    ensures { λ r. ⌜ r ≡ is-running point ⌝ }
-{
-    match point {
-        Point::Running {
-            stage: _,
-            page: _,
-            block: _,
-            act: _,
-            strobe: _,
-            count: _,
-            bits: _,
-        } => true,
-        Point::Ended {
-            number: _,
-            offset: _,
-        } => false,
-    }
 }
 
 // Takes replies as long as the session runs, and writes the step that follows each.
@@ -101,47 +89,14 @@ fn refused(number: u32) -> Advanced
     }
 }
 
-fn number_of(point: Point) -> u32
-    ensures { λ r. ⌜ r ≡ number-of point ⌝ }
-{
-    match point {
-        Point::Running {
-            stage: _,
-            page: _,
-            block: _,
-            act: _,
-            strobe: _,
-            count: _,
-            bits: _,
-        } => RUNNING,
-        Point::Ended { number, offset: _ } => number,
-    }
-}
-
-fn offset_of(point: Point) -> u32
-    ensures { λ r. ⌜ r ≡ offset-of point ⌝ }
-{
-    match point {
-        Point::Running {
-            stage: _,
-            page: _,
-            block: _,
-            act: _,
-            strobe: _,
-            count: _,
-            bits: _,
-        } => 0,
-        Point::Ended { number: _, offset } => offset,
-    }
-}
-
 fn answer(s: Session, taken: usize) -> Advanced
     ensures { λ r. ⌜ (r .number ≡ number-of (s .point)) × (r .offset ≡ offset-of (s .point)) × (r .taken ≡ taken) ⌝ }
 {
     let point = s.point;
+    let outcome = outcome_of(point);
     Advanced {
-        number: number_of(point),
-        offset: offset_of(point),
+        number: outcome.number,
+        offset: outcome.offset,
         taken: taken as u64,
     }
 }
@@ -241,8 +196,32 @@ pub extern "C" fn c2_steps_left(held: &[u8]) -> Remaining
         };
     };
     let point = s.point;
+    let outcome = outcome_of(point);
     Remaining {
-        number: number_of(point),
+        number: outcome.number,
         steps: figure::steps_left(s) as u64,
     }
+}
+
+// The state of a fresh modelled target.
+#[no_mangle]
+pub extern "C" fn c2_target_fresh() -> State
+    ensures { λ r. ⌜ r ≡ state-of fresh ⌝ }
+{
+    model::fresh()
+}
+
+// One step of the modelled target whose state this is: the answer, and the flash afterwards.
+#[no_mangle]
+pub extern "C" fn c2_target_step(
+    t: Settings,
+    state: State,
+    flash: &mut [u8],
+    delays: &[u8],
+    step: u8,
+) -> ModelReplied
+    ensures { λ r. ⌜ r ≡ model-answer t state (now (flash .entry)) (now (delays .entry)) step ⌝ }
+    ensures { λ _. ⌜ now (flash .exit) ≡ model-flash t state (now (flash .entry)) (now (delays .entry)) step ⌝ }
+{
+    model::step(t, state, flash, delays, step)
 }

@@ -14,12 +14,12 @@ use Rattle.order.specs.Acts.{Act, reset-pulse, Block}
 use Rattle.order.specs.Conversation.{limits}
 use Rattle.order.specs.Figure.{cost, costs}
 use Rattle.order.proofs.Costs.{costs-append, costs-erase, costs-block-write, costs-block-read}
-use Rattle.session.specs.declared.Stage.{Stage}
-use Rattle.session.specs.declared.Stage.the-variants.{Lead, Erase, Write, Read, Close}
-use Rattle.session.specs.declared.Task.{Task}
-use Rattle.session.specs.declared.Task.the-variants.{Reset, Pause, Address, Send, Input, Output, Ident, Status, Compare}
+use Rattle.tasks.specs.declared.Stage.{Stage}
+use Rattle.tasks.specs.declared.Stage.the-variants.{Lead, Erase, Write, Read, Close}
+use Rattle.tasks.specs.declared.Task.{Task}
+use Rattle.tasks.specs.declared.Task.the-variants.{Reset, Pause, Address, Send, Input, Output, Ident, Status, Compare}
 use Rattle.session.specs.declared.Session.{Session}
-use Rattle.session.specs.Tasks.{task-of, last-act}
+use Rattle.tasks.specs.Tasks.{task-of, last-act}
 use Rattle.session.specs.Machine.{at}
 use Rattle.position.specs.Range.{pages-in, blocks-in, acts-in}
 use Rattle.position.specs.Position.{page-at, block-at, stage-acts, pages-from, writes-from, reads-from, after-stage}

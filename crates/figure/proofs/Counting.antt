@@ -17,11 +17,12 @@ use Rattle.order.specs.Conversation.{limits}
 use Rattle.order.specs.Point.{strobes-of}
 use Rattle.order.specs.Figure.{reads-left, figure}
 use Rattle.order.proofs.Costs.{costs-append}
-use Rattle.session.specs.declared.Task.{Task}
-use Rattle.session.specs.declared.Task.the-variants.{Reset, Pause, Address, Send, Input, Output, Ident, Status, Compare}
+use Rattle.tasks.specs.declared.Task.{Task}
+use Rattle.tasks.specs.declared.Task.the-variants.{Reset, Pause, Address, Send, Input, Output, Ident, Status, Compare}
 use Rattle.session.specs.declared.Point.the-variants.{Running, Ended}
 use Rattle.session.specs.declared.Session.{Session}
-use Rattle.session.specs.Tasks.{task-of, compared-offset}
+use Rattle.tasks.specs.Tasks.{task-of}
+use Rattle.session.specs.Sent.{compared-offset}
 use Rattle.session.specs.Machine.{at}
 use Rattle.position.specs.Range.{strobes-in, place-in-range, point-in-range, in-range}
 use Rattle.position.specs.Position.{stage-acts, after-stage, point-position, position}

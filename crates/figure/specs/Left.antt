@@ -3,14 +3,14 @@
 use mathlib.Core.Bool.{cond}
 use Prim.Native.Nat.{ℕ, _+_, _-_, _*_, _/_, _%_}
 use lib.Dec.{eqb, ltb}
-use Rattle.session.specs.declared.Stage.{Stage}
-use Rattle.session.specs.declared.Stage.the-variants.{Lead, Erase, Write, Read, Close}
-use Rattle.session.specs.declared.Task.{Task}
-use Rattle.session.specs.declared.Task.the-variants.{Reset, Pause, Address, Send, Input, Output, Ident, Status, Compare}
+use Rattle.tasks.specs.declared.Stage.{Stage}
+use Rattle.tasks.specs.declared.Stage.the-variants.{Lead, Erase, Write, Read, Close}
+use Rattle.tasks.specs.declared.Task.{Task}
+use Rattle.tasks.specs.declared.Task.the-variants.{Reset, Pause, Address, Send, Input, Output, Ident, Status, Compare}
 use Rattle.session.specs.declared.Point.{Point}
 use Rattle.session.specs.declared.Point.the-variants.{Running, Ended}
 use Rattle.session.specs.declared.Session.{Session}
-use Rattle.session.specs.Tasks.{task-of}
+use Rattle.tasks.specs.Tasks.{task-of}
 
 -- the most steps of an act,
 abbrev pub task-cost : (wait-limit poll-limit : ℕ) → Task → ℕ

@@ -5,9 +5,9 @@ ghost use Prim.Native.Nat.{_+_, _-_, _*_, _/_, _<_, _≤_};
 ghost use Rattle.figure.specs.Left.{task-cost, page-cost, wait-left, poll-left, act-left, lead-left, bytes-left, stage-left, pages-left, blocks-left, page-blocks, after-left, point-left, steps-left};
 use session::Point;
 use session::Session;
-use session::Stage;
-use session::Task;
-use session::task_of;
+use tasks::Stage;
+use tasks::Task;
+use tasks::task_of;
 
 // A byte put or got: a frame with a WAIT, and a poll. A block has 262 of them, an erase 6, each after an Address Write.
 const BYTE: usize = 14 + Session::WAIT_LIMIT + Session::POLL_LIMIT * 12;

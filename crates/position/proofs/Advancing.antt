@@ -26,15 +26,16 @@ use Rattle.order.specs.Conversation.{limits}
 use Rattle.order.specs.Point.{begin, strobes-of}
 use Rattle.order.specs.Opening.{opening-refusal}
 use Rattle.order.proofs.Opened.{Opened, opened}
-use Rattle.session.specs.declared.Stage.{Stage}
-use Rattle.session.specs.declared.Stage.the-variants.{Lead, Erase, Write, Read, Close}
-use Rattle.session.specs.declared.Task.{Task}
-use Rattle.session.specs.declared.Task.the-variants.{Reset, Pause, Address, Send, Input, Output, Ident, Status, Compare}
+use Rattle.tasks.specs.declared.Stage.{Stage}
+use Rattle.tasks.specs.declared.Stage.the-variants.{Lead, Erase, Write, Read, Close}
+use Rattle.tasks.specs.declared.Task.{Task}
+use Rattle.tasks.specs.declared.Task.the-variants.{Reset, Pause, Address, Send, Input, Output, Ident, Status, Compare}
 use Rattle.session.specs.declared.At.{At}
 use Rattle.session.specs.declared.Point.the-variants.{Running, Ended}
 use Rattle.session.specs.declared.Session.{Session}
 use Rattle.session.specs.declared.Wanted.the-variants.{Byte}
-use Rattle.session.specs.Tasks.{task-of, image-byte, sent-offset, compared-offset}
+use Rattle.tasks.specs.Tasks.{task-of}
+use Rattle.session.specs.Sent.{image-byte, sent-offset, compared-offset}
 use Rattle.session.specs.Machine.{at, running, onward, again, differs, compared, judged, sends-image, drives-image, wants, stays, settled, task-taken}
 use Rattle.position.specs.Range.{pages-in, blocks-in, acts-in, strobes-in, reads-in, place-in-range, running-in-range, point-in-range, in-range}
 use Rattle.position.specs.Position.{page-list, pages-from, writes-from, reads-from, at-act, point-position, position}

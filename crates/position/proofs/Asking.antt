@@ -20,13 +20,14 @@ use Rattle.wire.proofs.Roles.{exists-any-byte}
 use Rattle.order.specs.Acts.{Act}
 use Rattle.order.specs.Conversation.{limits}
 use Rattle.order.specs.Point.{strobes-of, follow-up, left-to-say}
-use Rattle.session.specs.declared.Stage.{Stage}
-use Rattle.session.specs.declared.Stage.the-variants.{Lead, Erase, Write, Read, Close}
-use Rattle.session.specs.declared.Task.{Task}
-use Rattle.session.specs.declared.Task.the-variants.{Reset, Pause, Address, Send, Input, Output, Ident, Status, Compare}
+use Rattle.tasks.specs.declared.Stage.{Stage}
+use Rattle.tasks.specs.declared.Stage.the-variants.{Lead, Erase, Write, Read, Close}
+use Rattle.tasks.specs.declared.Task.{Task}
+use Rattle.tasks.specs.declared.Task.the-variants.{Reset, Pause, Address, Send, Input, Output, Ident, Status, Compare}
 use Rattle.session.specs.declared.Point.the-variants.{Running, Ended}
 use Rattle.session.specs.declared.Session.{Session}
-use Rattle.session.specs.Tasks.{task-of, read-task, stage-byte, byte-of, compared-offset}
+use Rattle.tasks.specs.Tasks.{task-of, read-task}
+use Rattle.session.specs.Sent.{stage-byte, byte-of, compared-offset}
 use Rattle.session.specs.Machine.{at, running, task-step, point-step, step-of}
 use Rattle.position.specs.Range.{strobes-in, reads-in, in-range, point-in-range}
 use Rattle.position.specs.Position.{point-position, position}

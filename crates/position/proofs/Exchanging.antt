@@ -20,13 +20,13 @@ use Rattle.order.specs.Point.{left-to-say, strobes-of}
 use Rattle.order.proofs.Sound.{Sound, Every, none, more, _then_, reads-of, Valid}
 use Rattle.order.proofs.Every.{sound, every-erase, every-block-write, every-block-read, every-blocks, every-pages, every-lead}
 use Rattle.order.proofs.Moving.{next-says}
-use Rattle.session.specs.declared.Stage.{Stage}
-use Rattle.session.specs.declared.Stage.the-variants.{Lead, Erase, Write, Read, Close}
-use Rattle.session.specs.declared.Task.{Task}
-use Rattle.session.specs.declared.Task.the-variants.{Reset, Pause, Address, Send, Input, Output, Ident, Status, Compare}
+use Rattle.tasks.specs.declared.Stage.{Stage}
+use Rattle.tasks.specs.declared.Stage.the-variants.{Lead, Erase, Write, Read, Close}
+use Rattle.tasks.specs.declared.Task.{Task}
+use Rattle.tasks.specs.declared.Task.the-variants.{Reset, Pause, Address, Send, Input, Output, Ident, Status, Compare}
 use Rattle.session.specs.declared.Point.the-variants.{Running, Ended}
 use Rattle.session.specs.declared.Session.{Session}
-use Rattle.session.specs.Tasks.{task-of}
+use Rattle.tasks.specs.Tasks.{task-of}
 use Rattle.session.specs.Machine.{at, advanced}
 use Rattle.position.specs.Range.{strobes-in, reads-in, in-range, point-in-range}
 use Rattle.position.specs.Position.{page-list, page-at, block-at, stage-acts, pages-from, writes-from, reads-from, after-stage, acts-from, point-position, position}

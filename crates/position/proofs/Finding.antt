@@ -16,10 +16,11 @@ use Rattle.wire.specs.Exchange.{outcome}
 use Rattle.settings.specs.declared.Settings.{Settings}
 use Rattle.order.specs.Acts.{Act, poll, expect, reset-pulse, pause-20-ms, address-write, data-write, input-taken, output-ready, put, get, status, puts, compares, length-code, Block, erase, block-command, block-write, block-read}
 use Rattle.order.specs.Order.{lead}
-use Rattle.session.specs.declared.Stage.the-variants.{Lead, Erase, Write, Read}
-use Rattle.session.specs.declared.Task.{Task}
-use Rattle.session.specs.declared.Task.the-variants.{Reset, Pause, Address, Send, Input, Output, Ident, Status, Compare}
-use Rattle.session.specs.Tasks.{task-of, lead-byte}
+use Rattle.tasks.specs.declared.Stage.the-variants.{Lead, Erase, Write, Read}
+use Rattle.tasks.specs.declared.Task.{Task}
+use Rattle.tasks.specs.declared.Task.the-variants.{Reset, Pause, Address, Send, Input, Output, Ident, Status, Compare}
+use Rattle.tasks.specs.Tasks.{task-of}
+use Rattle.session.specs.Sent.{lead-byte}
 
 -- the act of a task that sends this byte, expects this one at this image offset, on a device with this ID
 abbrev pub task-act : Task → (byte id offset : ℕ) → Act

@@ -21,14 +21,15 @@ use Rattle.wire.specs.declared.Moved.the-variants.{Within, Stopped, WaitLimit}
 use Rattle.wire.proofs.Following.{Whole, Exists, exists-after, followed-exists, first-exists}
 use Rattle.wire.proofs.Frames.{whole-address-write, whole-address-read, whole-data-write, whole-data-read, whole-step}
 use Rattle.order.specs.Opening.{opening-refusal}
-use Rattle.session.specs.declared.Stage.{Stage}
-use Rattle.session.specs.declared.Stage.the-variants.{Lead, Erase, Write, Read, Close}
-use Rattle.session.specs.declared.Task.{Task}
-use Rattle.session.specs.declared.Task.the-variants.{Reset, Pause, Address, Send, Input, Output, Ident, Status, Compare}
+use Rattle.tasks.specs.declared.Stage.{Stage}
+use Rattle.tasks.specs.declared.Stage.the-variants.{Lead, Erase, Write, Read, Close}
+use Rattle.tasks.specs.declared.Task.{Task}
+use Rattle.tasks.specs.declared.Task.the-variants.{Reset, Pause, Address, Send, Input, Output, Ident, Status, Compare}
 use Rattle.session.specs.declared.Point.{Point}
 use Rattle.session.specs.declared.Point.the-variants.{Running, Ended}
 use Rattle.session.specs.declared.Session.{Session}
-use Rattle.session.specs.Tasks.{task-of, last-act, compared-offset}
+use Rattle.tasks.specs.Tasks.{task-of, last-act}
+use Rattle.session.specs.Sent.{compared-offset}
 use Rattle.session.specs.Machine.{at, running, begins, next-write, next-page, next-read, next-stage, onward, again, differs, compared, judged, settled, task-taken, replied, point-advanced, advanced}
 use Rattle.position.specs.Range.{pages-in, blocks-in, acts-in, strobes-in, reads-in, place-in-range, running-in-range, ends-session, offsets-of, ended-in-range, point-in-range, in-range}
 use Rattle.position.proofs.Standing.{Fits, image-small}

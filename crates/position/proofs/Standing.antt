@@ -13,11 +13,12 @@ use lib.Seq.{getD-take, getD-drop, length-take-le}
 use Rattle.settings.proofs.Accepting.{Facts}
 use Rattle.order.specs.Acts.{Act, Block, length-code}
 use Rattle.order.specs.Order.{Page, pages, blocks}
-use Rattle.session.specs.declared.Stage.{Stage}
-use Rattle.session.specs.declared.Stage.the-variants.{Lead, Erase, Write, Read, Close}
+use Rattle.tasks.specs.declared.Stage.{Stage}
+use Rattle.tasks.specs.declared.Stage.the-variants.{Lead, Erase, Write, Read, Close}
 use Rattle.session.specs.declared.At.{At}
 use Rattle.session.specs.declared.Session.{Session}
-use Rattle.session.specs.Tasks.{task-of, erase-byte, block-byte, image-byte, sent-offset, compared-offset, write-byte, stage-byte, byte-of}
+use Rattle.tasks.specs.Tasks.{task-of}
+use Rattle.session.specs.Sent.{erase-byte, block-byte, image-byte, sent-offset, compared-offset, write-byte, stage-byte, byte-of}
 use Rattle.session.specs.Machine.{at}
 use Rattle.position.specs.Range.{pages-in, blocks-in, acts-in}
 use Rattle.position.specs.Position.{page-list, page-at, block-at, stage-acts}

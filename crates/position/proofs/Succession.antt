@@ -12,10 +12,10 @@ use Rattle.wire.specs.Place.{place}
 use Rattle.order.specs.Acts.{Act, reset-pulse, Block, put, get, status, erase, block-write, block-read}
 use Rattle.order.specs.Order.{joined, lead, page-acts}
 use Rattle.order.specs.Point.{begin}
-use Rattle.session.specs.declared.Stage.{Stage}
-use Rattle.session.specs.declared.Stage.the-variants.{Lead, Erase, Write, Read, Close}
+use Rattle.tasks.specs.declared.Stage.{Stage}
+use Rattle.tasks.specs.declared.Stage.the-variants.{Lead, Erase, Write, Read, Close}
 use Rattle.session.specs.declared.Session.{Session}
-use Rattle.session.specs.Tasks.{last-act}
+use Rattle.tasks.specs.Tasks.{last-act}
 use Rattle.session.specs.Machine.{at, next-write, next-page, next-read, next-stage, onward}
 use Rattle.position.specs.Range.{pages-in, blocks-in, acts-in}
 use Rattle.position.specs.Position.{page-list, page-at, blocks-at, block-at, stage-acts, pages-from, writes-from, reads-from, after-stage, acts-from, at-act, point-position}

@@ -8,8 +8,8 @@ use Rattle.wire.specs.Place.{place}
 use Rattle.wire.specs.declared.Place.{Place}
 use Rattle.order.specs.Acts.{Act, reset-pulse, Block, erase, block-write, block-read}
 use Rattle.order.specs.Order.{Page, pages, rising, joined, page-blocks, lead, page-acts}
-use Rattle.session.specs.declared.Stage.{Stage}
-use Rattle.session.specs.declared.Stage.the-variants.{Lead, Erase, Write, Read, Close}
+use Rattle.tasks.specs.declared.Stage.{Stage}
+use Rattle.tasks.specs.declared.Stage.the-variants.{Lead, Erase, Write, Read, Close}
 use Rattle.session.specs.declared.Session.{Session}
 use Rattle.session.specs.declared.Point.the-variants.{Running, Ended}
 use Rattle.order.specs.Point

@@ -11,14 +11,14 @@ use Rattle.wire.specs.Frames.{Strobe, plain, frame}
 use Rattle.wire.specs.Place.{strobe-at, samples, count-limit}
 use Rattle.wire.specs.declared.Frame.the-variants.{AddressWrite, AddressRead, DataWrite, DataRead}
 use Rattle.order.specs.Opening.{opening-refusal}
-use Rattle.session.specs.declared.Stage.{Stage}
-use Rattle.session.specs.declared.Stage.the-variants.{Lead, Erase, Write, Read, Close}
-use Rattle.session.specs.declared.Task.{Task}
-use Rattle.session.specs.declared.Task.the-variants.{Reset, Pause, Address, Send, Input, Output, Ident, Status, Compare}
+use Rattle.tasks.specs.declared.Stage.{Stage}
+use Rattle.tasks.specs.declared.Stage.the-variants.{Lead, Erase, Write, Read, Close}
+use Rattle.tasks.specs.declared.Task.{Task}
+use Rattle.tasks.specs.declared.Task.the-variants.{Reset, Pause, Address, Send, Input, Output, Ident, Status, Compare}
 use Rattle.session.specs.declared.Point.{Point}
 use Rattle.session.specs.declared.Point.the-variants.{Running, Ended}
 use Rattle.session.specs.declared.Session.{Session}
-use Rattle.session.specs.Tasks.{task-of}
+use Rattle.tasks.specs.Tasks.{task-of}
 
 -- how many pages, blocks of a page and acts a stage has; one that is not in use is 0
 abbrev pub pages-in : Stage → (pages : ℕ) → ℕ

@@ -27,7 +27,7 @@ module _ (t : Settings) (first : ℕ) (image : List ℕ) (o : Opening t first im
   by rs = by-replies t first image rs
 
   -- an accepted opening tells what no replies do
-  opens : (held : List ℕ) → length held ≡ 32 → opened held image t first ≡ by []
+  pub opens : (held : List ℕ) → length held ≡ 32 → opened held image t first ≡ by []
   unfolding opened by-replies opening-number opened-session record-opened opening-answer after-replies fed steps taken outcome-of
   opens held e =
       let s = session-after t first image [] in
@@ -76,7 +76,7 @@ lists-alike t first image held o e calls others m n q =
     whole t first image held o e calls m ∙ ap (λ (rs : List ℕ). by-replies t first image rs) q ∙ sym (whole t first image held o e others n)
 
 -- a single call is accepted where there is room
-accepts : (t : Settings) (first : ℕ) (image held rs buffer : List ℕ) → Opening t first image → length held ≡ 32 → length rs ≤ length buffer
+pub accepts : (t : Settings) (first : ℕ) (image held rs buffer : List ℕ) → Opening t first image → length held ≡ 32 → length rs ≤ length buffer
     → refusal (taking (opened held image t first .held) image rs buffer 0) ≡ 0
 unfolding refusal by-replies
 accepts t first image held rs buffer o e h =

@@ -1,1 +1,157 @@
-// What whole lists of a driver's calls come to. These are definitions, in specs/, and laws of them, in proofs/; there is no code here.
+// A session run against a fresh target, over lent buffers. The claims about whole lists of calls, with and without the target, stand in specs/ and
+// are proved in proofs/.
+ghost use mathlib.Core.Path.{_≡_};
+ghost use mathlib.Core.Bool.{false};
+ghost use Prim.Native.Nat.{_*_, _%_};
+ghost use Rattle.target.specs.Target.{fresh};
+ghost use Rattle.programming.specs.Closed.{closed};
+ghost use Rattle.programming.specs.Run.{run-answer, run-flash};
+use c2::c2_open;
+use numbers::BAD_RECORD;
+use numbers::NO_POINT;
+use numbers::RUNNING;
+use outcome::is_running;
+use outcome::outcome_of;
+use record::Unpacked;
+use session::Session;
+use settings::Settings;
+use target::Command;
+use target::Device;
+use target::Link;
+use target::Output;
+use target::Point;
+use target::Target;
+
+// The session's number and the image offset for 14, the replies that it took, and whether the target has marked a collision.
+pub struct Run {
+    pub number: u32,
+    pub offset: u32,
+    pub replies: usize,
+    pub collision: bool,
+}
+
+struct Ran {
+    session: Session,
+    target: Target,
+    replies: usize,
+}
+
+// A target before its first step.
+fn fresh() -> Target
+    ensures { λ r. ⌜ r ≡ fresh ⌝ }
+{
+    Target {
+        point: Point::Start,
+        place: 0,
+        collision: false,
+        device: Device {
+            address: 0,
+            on: false,
+            keys: 0,
+            link: Link {
+                command: Command::Ready,
+                output: Output::Empty,
+                busy: 0,
+                late: 0,
+            },
+        },
+    }
+}
+
+fn low(x: u32) -> u8
+    ensures { λ r. ⌜ r ≡ x % 256 ⌝ }
+{
+    (x % 256) as u8
+}
+
+// Gives the target the step that the session waits at, and the session the target's reply, until the session has ended or the budget is spent.
+fn play(
+    start: Session,
+    t: Settings,
+    image: &[u8],
+    flash: &mut [u8],
+    delays: &[u8],
+    budget: usize,
+) -> Ran
+    ensures { λ r. ⌜ r .session ≡ closed budget 0 t (now (delays .entry)) (now (image .entry)) start fresh (now (flash .entry)) .session ⌝ }
+    ensures { λ r. ⌜ r .target ≡ closed budget 0 t (now (delays .entry)) (now (image .entry)) start fresh (now (flash .entry)) .target ⌝ }
+    ensures { λ r. ⌜ r .replies ≡ closed budget 0 t (now (delays .entry)) (now (image .entry)) start fresh (now (flash .entry)) .replies ⌝ }
+    ensures { λ _. ⌜ now (flash .exit) ≡ closed budget 0 t (now (delays .entry)) (now (image .entry)) start fresh (now (flash .entry)) .flash ⌝ }
+{
+    let mut s = start;
+    let mut target = fresh();
+    let mut n = 0;
+    while n < budget {
+        let point = s.point;
+        if !is_running(point) {
+            return Ran {
+                session: s,
+                target: target,
+                replies: n,
+            };
+        }
+        let replied = target::step(t, target, flash, delays, s.step(image));
+        target = replied.target;
+        s = s.advance(low(replied.reply), image);
+        n += 1;
+    }
+    Ran {
+        session: s,
+        target: target,
+        replies: n,
+    }
+}
+
+fn refused(number: u32) -> Run
+    ensures { λ r. ⌜ r ≡ record { number = number; offset = 0; replies = 0; collision = false } ⌝ }
+{
+    Run {
+        number: number,
+        offset: 0,
+        replies: 0,
+        collision: false,
+    }
+}
+
+fn flash_bytes(size: u32, count: u32) -> usize
+    ensures { λ r. ⌜ r ≡ size * count ⌝ }
+{
+    (size as usize) * (count as usize)
+}
+
+// Programs a fresh target with these settings, flash and delays: opens a session for the image from the first page on, and runs it for at most
+// so many replies. Refused by 1 to 5 as an opening is, and by 17 for a flash that is not size times count bytes; the flash is then unchanged.
+pub fn program(
+    t: Settings,
+    first: u32,
+    image: &[u8],
+    flash: &mut [u8],
+    delays: &[u8],
+    budget: usize,
+) -> Run
+    ensures { λ r. ⌜ r ≡ run-answer t first (now (image .entry)) (now (flash .entry)) (now (delays .entry)) budget ⌝ }
+    ensures { λ _. ⌜ now (flash .exit) ≡ run-flash t first (now (image .entry)) (now (flash .entry)) (now (delays .entry)) budget ⌝ }
+{
+    let mut held = [0u8; 32];
+    let opened = c2_open(&mut held, image, t, first);
+    if opened.number != RUNNING {
+        return refused(opened.number);
+    }
+    if flash.len() != flash_bytes(t.size, t.count) {
+        return refused(NO_POINT);
+    }
+    let Unpacked::Held(s) = record::unpack(&held) else {
+        return refused(BAD_RECORD);
+    };
+    let ran = play(s, t, image, flash, delays, budget);
+    let end = ran.session;
+    let point = end.point;
+    let outcome = outcome_of(point);
+    let target = ran.target;
+    Run {
+        number: outcome.number,
+        offset: outcome.offset,
+        replies: ran.replies,
+        collision: target.collision,
+    }
+}

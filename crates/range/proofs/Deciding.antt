@@ -7,10 +7,10 @@ use native.Mathlib.Omega.{arith}
 use borrow.Author.Tests.{lt-ltb, le-ltb, eq-eqb, ne-eqb}
 use lib.Dec.{ltb}
 use Rattle.order.specs.Opening.{opening-refusal}
-use Rattle.session.specs.declared.Stage.{Stage}
-use Rattle.session.specs.declared.Task.{Task}
+use Rattle.tasks.specs.declared.Stage.{Stage}
+use Rattle.tasks.specs.declared.Task.{Task}
 use Rattle.session.specs.declared.Session.{Session}
-use Rattle.session.specs.Tasks.{task-of}
+use Rattle.tasks.specs.Tasks.{task-of}
 use Rattle.position.specs.Range.{pages-in, blocks-in, acts-in, strobes-in, reads-in, place-in-range, running-in-range, point-in-range, in-range}
 use Rattle.range.specs.Bounds.{strobes-by, limit-by, sampled-by}
 use Rattle.range.proofs.Shapes.{place-by}

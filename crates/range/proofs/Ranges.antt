@@ -14,11 +14,11 @@ use Rattle.wire.specs.Place.{strobe-at, samples, count-limit}
 use Rattle.settings.specs.Accepted.{is-fpdat, is-page-size, is-page-count, settings-refusal}
 use Rattle.settings.specs.declared.Settings.{Settings}
 use Rattle.order.specs.Opening.{is-image, are-pages, opening-refusal}
-use Rattle.session.specs.declared.Stage.{Stage}
+use Rattle.tasks.specs.declared.Stage.{Stage}
 use Rattle.session.specs.declared.Point.{Point}
 use Rattle.session.specs.declared.Point.the-variants.{Running, Ended}
 use Rattle.session.specs.declared.Session.{Session}
-use Rattle.session.specs.Tasks.{task-of}
+use Rattle.tasks.specs.Tasks.{task-of}
 use Rattle.position.specs.Range.{pages-in, blocks-in, acts-in, strobes-in, reads-in, place-in-range, running-in-range, ends-session, offsets-of, ended-in-range, point-in-range, in-range}
 use Rattle.range.specs.Claims.{Opening-passes, Point-exists, Outcome-stands, Point-stands, Within-ranges, Ranges-are}
 

@@ -11,8 +11,8 @@ use Rattle.laws.proofs.Below.{upto, same-below}
 use Rattle.wire.specs.Bits.{bits}
 use Rattle.wire.specs.Frames.{sends, ins-code, frame}
 use Rattle.wire.specs.Place.{strobe-at, samples, count-limit}
-use Rattle.session.specs.declared.Task.{Task}
-use Rattle.session.specs.declared.Task.the-variants.{Reset, Pause, Address, Send, Input, Output, Ident, Status, Compare}
+use Rattle.tasks.specs.declared.Task.{Task}
+use Rattle.tasks.specs.declared.Task.the-variants.{Reset, Pause, Address, Send, Input, Output, Ident, Status, Compare}
 use Rattle.position.specs.Range.{strobes-in, reads-in, place-in-range}
 use Rattle.range.specs.Bounds.{strobes-by, limit-by, sampled-by}
 

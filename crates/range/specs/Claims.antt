@@ -8,11 +8,11 @@ use lib.ListN.{length, take}
 use Rattle.numbers.specs.Numbers.{done, bad-reply, compare-differs, no-image-byte}
 use Rattle.wire.specs.Place.{strobe-at, samples, count-limit}
 use Rattle.settings.specs.declared.Settings.{Settings}
-use Rattle.session.specs.declared.Stage.{Stage}
+use Rattle.tasks.specs.declared.Stage.{Stage}
 use Rattle.session.specs.declared.Point.{Point}
 use Rattle.session.specs.declared.Point.the-variants.{Running, Ended}
 use Rattle.session.specs.declared.Session.{Session}
-use Rattle.session.specs.Tasks.{task-of}
+use Rattle.tasks.specs.Tasks.{task-of}
 use Rattle.position.specs.Range.{pages-in, blocks-in, acts-in, strobes-in, reads-in, in-range}
 
 -- what opening asks of settings and pages would pass (numbers 1 to 5),

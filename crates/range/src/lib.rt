@@ -12,9 +12,9 @@ use opening::opening_refusal;
 use session::At;
 use session::Point;
 use session::Session;
-use session::Stage;
-use session::Task;
-use session::task_of;
+use tasks::Stage;
+use tasks::Task;
+use tasks::task_of;
 use wire::Place;
 
 // How many pages, blocks of a page and acts a stage has.

@@ -5,8 +5,8 @@ ghost use lib.ListN.{length};
 ghost use Rattle.record.specs.Record.{stage-code, fields-of, laid, packed, settings-read, fields-read, stage-named, running-at, point-of, checked, unpacked};
 use session::Point;
 use session::Session;
-use session::Stage;
 use settings::Settings;
+use tasks::Stage;
 
 // What a record holds: a session, or nothing that is one.
 pub enum Unpacked {

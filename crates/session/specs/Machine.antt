@@ -10,17 +10,18 @@ use Rattle.wire.specs.declared.Frame.the-variants.{AddressWrite, AddressRead, D
 use Rattle.wire.specs.declared.Place.{Place}
 use Rattle.wire.specs.declared.Moved.{Moved}
 use Rattle.wire.specs.declared.Moved.the-variants.{Within, Stopped, WaitLimit}
-use Rattle.session.specs.declared.Stage.{Stage}
-use Rattle.session.specs.declared.Stage.the-variants.{Lead, Erase, Write, Read, Close}
-use Rattle.session.specs.declared.Task.{Task}
-use Rattle.session.specs.declared.Task.the-variants.{Reset, Pause, Address, Send, Input, Output, Ident, Status, Compare}
+use Rattle.tasks.specs.declared.Stage.{Stage}
+use Rattle.tasks.specs.declared.Stage.the-variants.{Lead, Erase, Write, Read, Close}
+use Rattle.tasks.specs.declared.Task.{Task}
+use Rattle.tasks.specs.declared.Task.the-variants.{Reset, Pause, Address, Send, Input, Output, Ident, Status, Compare}
 use Rattle.session.specs.declared.At.{At}
 use Rattle.session.specs.declared.Point.{Point}
 use Rattle.session.specs.declared.Point.the-variants.{Running, Ended}
 use Rattle.session.specs.declared.Session.{Session}
 use Rattle.session.specs.declared.Wanted.{Wanted}
 use Rattle.session.specs.declared.Wanted.the-variants.{Byte, Missing}
-use Rattle.session.specs.Tasks.{task-of, frame-of, last-act, image-byte, sent-offset, compared-offset, stage-byte, byte-of}
+use Rattle.tasks.specs.Tasks.{task-of, frame-of, last-act}
+use Rattle.session.specs.Sent.{image-byte, sent-offset, compared-offset, stage-byte, byte-of}
 
 abbrev pub at : Stage → (page block act : ℕ) → At
 at stage page block act = record { stage = stage; page = page; block = block; act = act }

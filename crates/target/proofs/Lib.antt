@@ -1,12 +1,3 @@
-pub mod Frames
-pub mod Serving
-pub mod Commands
-pub mod Pages
-pub mod Session
-pub mod Points
-pub mod Knowing
-pub mod Whole
-pub mod Replying
-pub mod Keeping
-pub mod Left
-pub mod Examples
+pub mod Steps
+pub mod Ranges
+pub mod Flashed

@@ -12,6 +12,10 @@ pub record Setup : Type 0 where
   pub wait : ℕ
   pub delays : List ℕ
 
+-- The target of document 01: a WAIT sends (delay mod 20) zeros.
+abbrev pub setup : Settings → (delays : List ℕ) → Setup
+setup s ds = record { settings = s; wait = 20; delays = ds }
+
 -- a place at or past the list's end is the start
 unfoldable pub within : List ℕ → (place : ℕ) → ℕ
 within ds p = cond (ltb p (length ds)) p 0

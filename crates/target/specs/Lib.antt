@@ -4,5 +4,4 @@ pub mod Interface
 pub mod Strobes
 pub mod Known
 pub mod Target
-pub mod Playing
-pub mod Programmed
+pub mod Parts

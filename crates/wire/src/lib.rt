@@ -42,7 +42,7 @@ enum Role {
 }
 
 // The step that drives a bit of a byte.
-pub fn driven(byte: u8, i: usize) -> u8
+fn driven(byte: u8, i: usize) -> u8
     ensures { λ r. ⌜ r ≡ drives-bit byte i ⌝ }
 {
     if i < 8 {

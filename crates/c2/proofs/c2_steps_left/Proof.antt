@@ -1,6 +1,7 @@
 -- `c2::c2_steps_left` meets its contract: each return by the laws of Asking.
-use mathlib.Core.Path.{refl, sym, _∙_}
+use mathlib.Core.Path.{refl, sym, ap, _∙_}
 use borrow.Author.Needs.{needs}
+use Rattle.outcome.specs.declared.Outcome.{Outcome}
 use Rattle.c2.proofs.Asking.{asks-refused, asks-held}
 use Rattle.c2.proofs.c2_steps_left.Statement.{statement}
 use Rattle.c2.proofs.c2_steps_left.Tie as tie
@@ -17,15 +18,15 @@ enum-told c = search needs
 returns : tie.Need-returns
 returns c = asks-refused _ _ (sym (c .before .before .unpack .ensures) ∙ c .enum-told .given .1) refl
 
-number-of-requires : tie.Need-number-of-requires
-number-of-requires c κs = search needs
+outcome-of-requires : tie.Need-outcome-of-requires
+outcome-of-requires c κs = search needs
 
 steps-left-requires : tie.Need-steps-left-requires
 steps-left-requires c κs = search needs
 
 returns-2 : tie.Need-returns-2
 returns-2 c =
-    asks-held _ _ _ _ (c .before .before .before .before .before .unpack .ensures) (c .before .before .before .s .given .1) (c .before .number-of .ensures) (c .steps-left .ensures)
+    asks-held _ _ _ _ (c .before .before .before .before .before .unpack .ensures) (c .before .before .before .s .given .1) (ap (λ (o : Outcome). o .number) (c .before .outcome-of .ensures)) (c .steps-left .ensures)
 
 pub c2-steps-left-spec : {M : Type 1} → statement M
 c2-steps-left-spec =
@@ -35,6 +36,6 @@ c2-steps-left-spec =
     enum-known-s
     enum-told
     returns
-    number-of-requires
+    outcome-of-requires
     steps-left-requires
     returns-2)

@@ -1,7 +1,7 @@
 -- `session::lead_byte` meets its contract: each return by the tests on its way and what the calls give.
 use borrow.Author.Needs.{needs}
 use Rattle.laws.proofs.Pick.{picks}
-use Rattle.session.specs.Tasks.{lead-byte}
+use Rattle.session.specs.Sent.{lead-byte}
 use Rattle.session.proofs.lead_byte.Statement.{statement}
 use Rattle.session.proofs.lead_byte.Tie as tie
 

@@ -1,7 +1,7 @@
 -- `session::Session::block_byte` meets its contract: each return by the tests on its way and what the calls give.
 use borrow.Author.Needs.{needs}
 use Rattle.laws.proofs.Pick.{picks}
-use Rattle.session.specs.Tasks.{block-byte}
+use Rattle.session.specs.Sent.{block-byte}
 use Rattle.session.proofs.Session.block_byte.Statement.{statement}
 use Rattle.session.proofs.Session.block_byte.Tie as tie
 

@@ -1,7 +1,7 @@
 -- `session::Session::compared_offset` meets its contract: each return by the tests on its way and what the calls give.
 use borrow.Author.Needs.{needs}
 use Rattle.laws.proofs.Pick.{picks}
-use Rattle.session.specs.Tasks.{compared-offset}
+use Rattle.session.specs.Sent.{compared-offset}
 use Rattle.session.proofs.Session.compared_offset.Statement.{statement}
 use Rattle.session.proofs.Session.compared_offset.Tie as tie
 

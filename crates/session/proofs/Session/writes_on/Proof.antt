@@ -3,7 +3,7 @@ use mathlib.Core.Path.{sym, _∙_}
 use borrow.Author.Needs.{needs}
 use Rattle.laws.proofs.Pick.{picks}
 use Rattle.session.specs.Machine.{drives-image}
-use Rattle.session.specs.Tasks.{image-byte, sent-offset}
+use Rattle.session.specs.Sent.{image-byte, sent-offset}
 use Rattle.session.proofs.Session.writes_on.Statement.{statement}
 use Rattle.session.proofs.Session.writes_on.Tie as tie
 

@@ -1,0 +1,59 @@
+-- What the loop of `play` keeps: at its start, after a turn, and where it is left.
+use mathlib.Core.Path.{_≡_, refl, sym, ap, _∙_}
+use mathlib.Core.Bool.{true, false}
+use mathlib.Core.List.{List}
+use Prim.Native.Nat.{ℕ, zero, suc, _+_, _-_, _%_, _<_, _≤_}
+use native.Mathlib.Omega.{arith}
+use lib.ListN.{length}
+use Rattle.settings.specs.declared.Settings.{Settings}
+use Rattle.session.specs.declared.Session.{Session}
+use Rattle.session.specs.Machine.{advanced, step-of}
+use Rattle.outcome.specs.Standing.{is-running}
+use Rattle.target.specs.declared.Target.{Target}
+use Rattle.target.specs.Delays.{setup}
+use Rattle.target.specs.Target.{fresh, answer, flash-after}
+use Rattle.programming.specs.Closed.{Closed, stopped, closed}
+
+pub record Sofar (t : Settings) (image f₀ ds : List ℕ) (budget : ℕ) (s₀ : Session) (f : List ℕ) (s : Session) (y : Target) (n : ℕ) : Type 0 where
+  pub small : n ≤ budget
+  pub long : length f ≡ length f₀
+  pub same : closed budget 0 t ds image s₀ fresh f₀ ≡ closed (budget - n) n t ds image s y f
+
+module _ (t : Settings) (image f₀ ds : List ℕ) (budget : ℕ) (s₀ : Session) where
+  pub starts : Sofar t image f₀ ds budget s₀ f₀ s₀ fresh 0
+  starts = let z : budget - 0 ≡ budget = omega arith in record { small = omega arith; long = refl; same = rw z }
+
+  module _ (f : List ℕ) (s : Session) (y : Target) (n : ℕ) (k : Sofar t image f₀ ds budget s₀ f s y n) where
+    pub goes : n < budget → is-running (s .point) ≡ true → length (flash-after (setup t ds) y f (step-of s image)) ≡ length f
+        → Sofar t image f₀ ds budget s₀ (flash-after (setup t ds) y f (step-of s image))
+        (advanced 20 256 s (answer (setup t ds) y f (step-of s image) .reply % 256) image) (answer (setup t ds) y f (step-of s image) .target) (n + 1)
+    unfolding closed
+    goes h run l =
+        let z : budget - n ≡ suc (budget - (n + 1)) = omega arith in
+        record { small = omega arith; long = l ∙ k .long; same = k .same ∙ rw (z, run) }
+
+    pub done : budget ≤ n → closed budget 0 t ds image s₀ fresh f₀ ≡ stopped n s y f
+    unfolding closed
+    done h = let z : budget - n ≡ 0 = omega arith in k .same ∙ rw z
+
+    pub stops : is-running (s .point) ≡ false → closed budget 0 t ds image s₀ fresh f₀ ≡ stopped n s y f
+    unfolding closed
+    stops p = k .same ∙ go (budget - n)
+      where
+        go : (m : ℕ) → closed m n t ds image s y f ≡ stopped n s y f
+        go zero = refl
+        go (suc m) = rw p
+
+-- what is due where the loop is left
+module _ {x : Closed} {s : Session} {y : Target} {f : List ℕ} {n : ℕ} (e : x ≡ stopped n s y f) where
+  pub session-at : s ≡ x .session
+  session-at = sym (ap (λ (z : Closed). z .session) e)
+
+  pub target-at : y ≡ x .target
+  target-at = sym (ap (λ (z : Closed). z .target) e)
+
+  pub replies-at : n ≡ x .replies
+  replies-at = sym (ap (λ (z : Closed). z .replies) e)
+
+  pub flash-at : f ≡ x .flash
+  flash-at = sym (ap (λ (z : Closed). z .flash) e)

@@ -1,0 +1,171 @@
+-- The session and the target, step by step, are the exchange played against the target; and what the function answers by them.
+use mathlib.Core.Path.{_≡_, refl, sym, ap, _∙_}
+use mathlib.Core.Bool.{Bool, true, false}
+use mathlib.Core.List.{List, []}
+use Prim.Native.Nat.{ℕ, zero, suc, _+_, _*_, _%_, _<_}
+use native.Mathlib.Nat.{mod-eq-of-lt}
+use native.Mathlib.Omega.{arith}
+use borrow.Author.Tests.{eq-eqb, ne-eqb}
+use lib.Dec.{eqb}
+use lib.ListN.{length}
+use Rattle.laws.proofs.Testing.{by-test}
+use Rattle.numbers.specs.Numbers.{no-point}
+use Rattle.wire.specs.Bits.{Bytes}
+use Rattle.wire.specs.Step.{Step}
+use Rattle.wire.specs.Field.{Field}
+use Rattle.wire.specs.Exchange.{Exchange, Outcome, strobe, fed, asks, outcome-of}
+use Rattle.settings.specs.declared.Settings.{Settings}
+use Rattle.order.specs.Opening.{opening-refusal}
+use Rattle.order.specs.Claims.{Opening}
+use Rattle.session.specs.declared.Session.{Session}
+use Rattle.session.specs.Machine.{advanced, step-of}
+use Rattle.outcome.specs.Standing.{is-running, number-of, offset-of}
+use Rattle.position.proofs.Asking.{asks-step}
+use Rattle.position.proofs.Exchanging.{exchange-advances}
+use Rattle.target.specs.declared.Target.{Target}
+use Rattle.target.specs.Delays.{Setup, setup}
+use Rattle.target.specs.Target.{fresh, answer, flash-after}
+use Rattle.target.specs.Target as target
+use Rattle.record.specs.declared.Unpacked.the-variants.{Held, Refused}
+use Rattle.record.specs.Record.{packed, unpacked}
+use Rattle.c2.specs.declared.Opened.{Opened}
+use Rattle.playing.proofs.Replying.{reply-small}
+use Rattle.c2.specs.Calls.{opening-number, opened-session, opening-answer, record-opened, exchange-at, after-replies}
+use Rattle.c2.proofs.Meeting.{Lent, lent-advances, still-asks, ended-over, outcome-now}
+use Rattle.c2.proofs.Calling.{lent-held}
+use Rattle.programming.specs.Closed.{Closed, closed}
+use Rattle.programming.specs.Run.{Left, one-more, played, run-refusal, run, run-answer, run-flash}
+use Rattle.programming.specs.declared.Run.{Run}
+use Rattle.programming.proofs.Taking.{after}
+use Rattle.wire.specs.Exchange
+
+-- one as the other, from any session and target on
+pub record Same (image : List ℕ) (i : ℕ) (p : Left) (c : Closed) : Type 0 where
+  pub exchange : p .exchange ≡ exchange-at (c .session) image
+  pub target : p .target ≡ c .target
+  pub flash : p .flash ≡ c .flash
+  pub replies : i + p .replies ≡ c .replies
+
+-- one reply more, of an exchange that has not ended
+played-on : (n : ℕ) (u : Setup) (e : Exchange) (y : Target) (f : List ℕ) {g : Field} {x : Step} {k : Bool → Exchange} → e ≡ strobe g x k
+    → played (suc n) u e y f
+    ≡ one-more (played n u (Exchange.after e (answer u y f (asks e) .reply)) (answer u y f (asks e) .target) (flash-after u y f (asks e)))
+unfolding played asks
+played-on n u e y f p = rw p
+
+turn : (n : ℕ) (t : Settings) (ds image : List ℕ) (s : Session) (y : Target) (f : List ℕ) → Lent s image → is-running (s .point) ≡ true
+    → played (suc n) (setup t ds) (exchange-at s image) y f
+    ≡ one-more (played n (setup t ds) (exchange-at (advanced 20 256 s (answer (setup t ds) y f (step-of s image) .reply % 256) image) image) (answer (setup t ds) y f (step-of s image) .target) (flash-after (setup t ds) y f (step-of s image)))
+turn n t ds image s y f h p =
+    let u = setup t ds in
+    let r = answer u y f (step-of s image) .reply in
+    let small : r % 256 ≡ r = mod-eq-of-lt (omega (arith, reply-small u y f (step-of s image))) in
+    let moves = exchange-advances 20 256 (omega arith) (omega arith) s image (h .id) (h .bytes) (h .range) (h .whole) r in
+    played-on n u (exchange-at s image) y f (still-asks s image h p .3)
+    ∙ rw (sym (asks-step 20 256 s image (h .range) (h .whole)), small, moves)
+
+pub same : (n i : ℕ) (t : Settings) (ds image : List ℕ) (s : Session) (y : Target) (f : List ℕ) → Lent s image
+    → Same image i (played n (setup t ds) (exchange-at s image) y f) (closed n i t ds image s y f)
+unfolding played closed
+same zero i t ds image s y f h = record { exchange = refl; target = refl; flash = refl; replies = omega arith }
+same (suc n) i t ds image s y f h =
+    let a = answer (setup t ds) y f (step-of s image) in
+    go (is-running (s .point)) refl
+    (same n (i + 1) t ds image (advanced 20 256 s (a .reply % 256) image) (a .target) (flash-after (setup t ds) y f (step-of s image)) (lent-advances s image (a .reply % 256) h))
+  where
+    go : (b : Bool) → is-running (s .point) ≡ b
+        → Same image (i + 1)
+        (played n (setup t ds) (exchange-at (advanced 20 256 s (answer (setup t ds) y f (step-of s image) .reply % 256) image) image) (answer (setup t ds) y f (step-of s image) .target) (flash-after (setup t ds) y f (step-of s image)))
+        (closed n (i + 1) t ds image (advanced 20 256 s (answer (setup t ds) y f (step-of s image) .reply % 256) image) (answer (setup t ds) y f (step-of s image) .target) (flash-after (setup t ds) y f (step-of s image)))
+        → Same image i (played (suc n) (setup t ds) (exchange-at s image) y f) (closed (suc n) i t ds image s y f)
+    go true p k =
+        rw (turn n t ds image s y f h p, p)
+        (record { exchange = k .exchange; target = k .target; flash = k .flash; replies = omega (arith, k .replies) })
+    go false p k = rw (ended-over s image p, p) (record { exchange = sym (ended-over s image p); target = refl; flash = refl; replies = omega arith })
+
+closed-lent : (n i : ℕ) (t : Settings) (ds image : List ℕ) (s : Session) (y : Target) (f : List ℕ) → Lent s image → Lent (closed n i t ds image s y f .session) image
+unfolding closed
+closed-lent zero i t ds image s y f h = h
+closed-lent (suc n) i t ds image s y f h =
+    let a = answer (setup t ds) y f (step-of s image) in
+    let k = closed-lent n (i + 1) t ds image (advanced 20 256 s (a .reply % 256) image) (a .target) (flash-after (setup t ds) y f (step-of s image)) (lent-advances s image (a .reply % 256) h) in
+    by-test (is-running (s .point)) (λ p. rw p k) (λ p. rw p h)
+
+-- what the function answers and leaves, at each of its returns
+abbrev pub Leaves : Settings → (first : ℕ) → (image flash delays : List ℕ) → (budget : ℕ) → Run → (flash₁ : List ℕ) → Type 0
+Leaves t first image f ds n a f₁ = (a ≡ run-answer t first image f ds n) × (f₁ ≡ run-flash t first image f ds n)
+
+module _ (t : Settings) (first : ℕ) (image f ds : List ℕ) (n : ℕ) (h : List ℕ) (e : length h ≡ 32) (q : Opened)
+    (opens : q ≡ opening-answer (opening-number (length h) t first (length image))) where
+  number-is : q .number ≡ opening-refusal t first (length image)
+  unfolding opening-answer opening-number
+  number-is = ap (λ (x : Opened). x .number) opens ∙ rw e
+
+  pub refuses-opening : (q .number ≡ 0 → ⊥) → (a : Run) → a ≡ record { number = q .number; offset = 0; replies = 0; collision = false } → Leaves t first image f ds n a f
+  unfolding run-answer run-flash run-refusal
+  refuses-opening differs a d =
+      let z : eqb (opening-refusal t first (length image)) 0 ≡ false = ne-eqb _ 0 (λ x. differs (number-is ∙ x)) in
+      rw (z, z) (d ∙ ap (λ (m : ℕ). record { number = m; offset = 0; replies = 0; collision = false }) number-is, refl)
+
+  module _ (opened : q .number ≡ 0) where
+    accepted : opening-refusal t first (length image) ≡ 0
+    accepted = sym number-is ∙ opened
+
+    pub refuses-flash : (length f ≡ t .size * t .count → ⊥) → (a : Run) → a ≡ record { number = no-point; offset = 0; replies = 0; collision = false }
+        → Leaves t first image f ds n a f
+    unfolding run-answer run-flash run-refusal
+    refuses-flash differs a d = rw (accepted, ne-eqb (length f) (t .size * t .count) differs) (d, refl)
+
+    module _ (i : t .id < 256) (p : t .fpdat < 256) (b : Bytes image) (held : List ℕ)
+        (keeps : held ≡ record-opened (opening-number (length h) t first (length image)) (opened-session t first (length image)) h) where
+      o : Opening t first image
+      o = record { id = i; fpdat = p; bytes = b; accepted = accepted }
+
+      abbrev os : Session
+      os = opened-session t first (length image)
+
+      held-is : unpacked 20 256 held ≡ Held (opened-session t first (length image))
+      unfolding opening-number record-opened after-replies
+      held-is = ap (unpacked 20 256) (keeps ∙ rw (e, accepted)) ∙ after t first image o [] .held
+
+      -- the record holds the session that was opened
+      pub never : unpacked 20 256 held ≡ Refused → ⊥
+      never r = let d : Refused ≡ Held os = sym r ∙ held-is in let z : _≡_ {A = ℕ} 0 1 = cc in omega arith
+
+      lent : Lent os image
+      unfolding after-replies
+      lent = let k = after t first image o [] in lent-held (packed os) image os (k .held) b (k .whole)
+
+      abbrev end : Closed
+      end = closed n 0 t ds image os fresh f
+
+      abbrev ran : Left
+      ran = run t first image f ds n
+
+      -- the run is the session and the target, step by step
+      run-is : Same image 0 ran end
+      unfolding run after-replies fed
+      run-is = rw (sym (after t first image o [] .left)) (same n 0 t ds image os fresh f lent)
+
+      outcome-is : outcome-of (ran .exchange) ≡ record { number = number-of (end .session .point); offset = offset-of (end .session .point) }
+      outcome-is =
+          ap outcome-of (run-is .exchange) ∙ outcome-now (end .session) image (closed-lent n 0 t ds image os fresh f lent)
+
+      pub accepts : (s : Session) → unpacked 20 256 held ≡ Held s → length f ≡ t .size * t .count → (x : Session) (y : Target) (m : ℕ) (f₁ : List ℕ)
+          → x ≡ closed n 0 t ds image s fresh f .session → y ≡ closed n 0 t ds image s fresh f .target → m ≡ closed n 0 t ds image s fresh f .replies
+          → f₁ ≡ closed n 0 t ds image s fresh f .flash
+          → (a : Run) → a ≡ record { number = number-of (x .point); offset = offset-of (x .point); replies = m; collision = y .collision }
+          → Leaves t first image f ds n a f₁
+      unfolding run-answer run-flash run-refusal
+      accepts s g l x y m f₁ ex ey em ef a ea =
+          let d : Held s ≡ Held os = sym g ∙ held-is in
+          let so : s ≡ os = cc in
+          let point = ap (λ (z : Session). z .point) (rw so at ex) in
+          let number = ap number-of point ∙ sym (ap (λ (z : Outcome). z .number) outcome-is) in
+          let offset = ap offset-of point ∙ sym (ap (λ (z : Outcome). z .offset) outcome-is) in
+          let replies : m ≡ ran .replies = omega (arith, rw so at em, run-is .replies) in
+          let mark = ap (λ (z : Target). z .collision) (rw so at ey ∙ sym (run-is .target)) in
+          rw (accepted, eq-eqb (length f) (t .size * t .count) l) (
+            ea ∙ (λ j. record { number = number j; offset = offset j; replies = replies j; collision = mark j }),
+            rw so at ef ∙ sym (run-is .flash),
+          )

@@ -1,0 +1,12 @@
+-- `programming::fresh` meets its contract: the target of the definition, by computing.
+use mathlib.Core.Path.{refl}
+use Rattle.target.specs.Target.{cleared, fresh}
+use Rattle.programming.proofs.fresh.Statement.{statement}
+use Rattle.programming.proofs.fresh.Tie as tie
+
+returns : tie.Need-returns
+unfolding fresh cleared
+returns c = refl
+
+pub fresh-spec : {M : Type 1} → statement M
+fresh-spec = tie.close (tie.spec returns)

@@ -1,0 +1,80 @@
+-- What the tests of a state say of its numbers.
+use mathlib.Core.Path.{_≡_, sym, _∙_}
+use mathlib.Core.Bool.{true, false, _&&_}
+use mathlib.Core.List.{List}
+use Prim.Native.Nat.{ℕ, suc, _+_, _-_, _*_, _%_, _^_, _<_, _≤_}
+use native.Mathlib.Nat.{mul-le-mul-right, mod-eq-of-lt, pow-le-pow-right}
+use native.Mathlib.Omega.{arith}
+use borrow.Author.Tests.{ltb-true, leb-true, leb-false, eqb-true, le-leb, lt-leb}
+use lib.Dec.{eqb, ltb, leb}
+use lib.ListN.{length}
+use Rattle.laws.proofs.Testing.{both, by-test}
+use Rattle.wire.proofs.Bits.{weight-small}
+use Rattle.target.specs.declared.Link.{Link}
+use Rattle.target.specs.declared.Target.{Target}
+use Rattle.target.specs.Delays.{Setup}
+use Rattle.target.specs.Known.{hearing, is-byte, known-point, is-count, known-block, known-command, known-output, known-link, known}
+
+-- fewer than eight bits heard, and their value is a byte
+pub hearing-says : (w n v : ℕ) → w ≤ 8 → hearing w n v ≡ true → (n < 8) × (v < 256)
+unfolding hearing
+hearing-says w n v k e =
+    let h = both (ltb n w) (ltb v (2 ^ n)) e in
+    let p : n < w = ltb-true n w (h .0) in
+    let q : v < 2 ^ n = ltb-true v (2 ^ n) (h .1) in
+    let r : 2 ^ n ≤ 128 = weight-small n (omega arith) in
+    (omega arith, omega arith)
+
+pub byte-says : (b : ℕ) → is-byte b ≡ true → b < 256
+unfolding is-byte
+byte-says b e = ltb-true b 256 e
+
+-- a block has a byte, and lies in the flash
+pub block-says : (end a n : ℕ) → known-block end a n ≡ true → (1 ≤ n) × (a + n ≤ end)
+unfolding known-block is-count
+block-says end a n e =
+    let h = both (leb 1 n && leb n 256) (leb (a + n) end) e in
+    (leb-true 1 n (both (leb 1 n) (leb n 256) (h .0) .0), leb-true (a + n) end (h .1))
+
+-- so does a page
+pub page-says : (size count p end : ℕ) → ltb p count ≡ true → end ≡ size * count → p * size + size ≤ end
+page-says size count p end e h = let k : suc p * size ≤ count * size = mul-le-mul-right size (ltb-true p count e) in omega arith
+
+pub link-command : (count end : ℕ) (l : Link) → known-link count end l ≡ true → known-command count end (l .command) ≡ true
+unfolding known-link
+link-command count end l e = both (known-command count end (l .command)) _ e .0
+
+pub link-output : (count end : ℕ) (l : Link) → known-link count end l ≡ true → known-output end (l .output) ≡ true
+unfolding known-link
+link-output count end l e = both (known-output end (l .output)) _ (both (known-command count end (l .command)) _ e .1) .0
+
+-- what a state that exists has
+pub record Exists (u : Setup) (t : Target) (f : List ℕ) : Type 0 where
+  pub flash : length f ≡ u .settings .size * u .settings .count
+  pub point : known-point (u .wait) (t .point) ≡ true
+  pub link : known-link (u .settings .count) (length f) (t .device .link) ≡ true
+
+pub exists : (u : Setup) (t : Target) (f : List ℕ) → known u t f ≡ true → Exists u t f
+unfolding known
+exists u t f k =
+    let d = t .device in
+    let a = both (eqb (length f) (u .settings .size * u .settings .count)) _ k in
+    let b = both (known-point (u .wait) (t .point)) _ (a .1) in
+    let c = both (is-byte (d .address)) _ (b .1) in
+    record { flash = eqb-true (length f) (u .settings .size * u .settings .count) (a .0); point = b .0; link = both (leb (d .keys) 3) _ (c .1) .1 }
+
+-- a block of n bytes from a on, by the room that is left there
+pub room : (a n end : ℕ) → a ≤ end → leb n (end - a) ≡ leb (a + n) end
+room a n end h =
+    by-test (leb n (end - a)) (λ e. e ∙ sym (le-leb (a + n) end (omega (arith, leb-true n (end - a) e))))
+    (λ e. e ∙ sym (lt-leb (a + n) end (omega (arith, leb-false n (end - a) e))))
+
+pub no-room : (a n end : ℕ) → end < a → false ≡ leb (a + n) end
+no-room a n end h = sym (lt-leb (a + n) end (omega arith))
+
+-- a power of two of up to eight bits is no remainder
+pub power-fits : (n : ℕ) → n ≤ 8 → (1 * 2 ^ n) % 18446744073709551616 ≡ 2 ^ n
+power-fits n h =
+    let b = pow-le-pow-right {n = 2} (omega arith) {i = n} {j = 8} h in
+    let e : 1 * 2 ^ n ≡ 2 ^ n = omega arith in
+    rw e (mod-eq-of-lt (omega (arith, b)))

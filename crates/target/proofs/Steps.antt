@@ -1,0 +1,75 @@
+-- What a step's byte puts on the line, and what a step gives by its refusal.
+use mathlib.Core.Path.{_≡_, sym, _∙_}
+use mathlib.Core.Bool.{true, false, cond, not}
+use mathlib.Core.List.{List}
+use Prim.Native.Nat.{ℕ, suc, _≤_}
+use native.Mathlib.Omega.{arith}
+use borrow.Author.Tests.{eqb-false, leb-true, eq-eqb, ne-eqb}
+use lib.Dec.{eqb, leb}
+use Rattle.laws.proofs.Testing.{both, by-test, passes}
+use Rattle.numbers.specs.Numbers.{no-step, no-point}
+use Rattle.wire.specs.Step.{drives}
+use Rattle.settings.specs.Accepted.{settings-refusal}
+use Rattle.target.specs.declared.Target.{Target}
+use Rattle.target.specs.Delays.{Setup}
+use Rattle.target.specs.Strobes.{line, strobed}
+use Rattle.target.specs.Known.{known}
+use Rattle.target.specs.Target.{stepped, is-step, step-of, refusal, answer, flash-after}
+use Rattle.target.specs.Parts.{replied}
+
+-- only step 2 drives the line low
+pub line-high : (x : ℕ) → eqb x 2 ≡ false → line (step-of x) ≡ true
+unfolding line step-of
+line-high x e =
+    by-test (eqb x 0) (λ a. rw a)
+    (λ a. rw (a, e) (by-test (eqb x 3) (λ b. rw b) (λ b. rw b (by-test (eqb x 4) (λ d. rw d) (λ d. rw d (by-test (eqb x 5) (λ g. rw g) (λ g. rw g)))))))
+
+-- only steps 2 and 3 drive it
+pub not-driving : (x : ℕ) → eqb x 2 ≡ false → eqb x 3 ≡ false → drives (step-of x) ≡ false
+unfolding drives step-of
+not-driving x e h =
+    by-test (eqb x 0) (λ a. rw a) (λ a. rw (a, e, h) (by-test (eqb x 4) (λ d. rw d) (λ d. rw d (by-test (eqb x 5) (λ g. rw g) (λ g. rw g)))))
+
+at-most : (x k : ℕ) → x ≤ suc k → (x ≡ suc k → ⊥) → x ≤ k
+at-most x k h e = omega arith
+
+-- a step that is neither 4, 5 nor 6 is a strobe
+pub is-strobe : (u : Setup) (t : Target) (f : List ℕ) (x : ℕ) → is-step x ≡ true → (x ≡ 4 → ⊥) → (x ≡ 5 → ⊥) → (x ≡ 6 → ⊥)
+    → stepped u t f (step-of x) ≡ strobed u t f (step-of x)
+unfolding stepped step-of is-step
+is-strobe u t f x k p q r =
+    let h = both (leb x 6) (not (eqb x 1)) k in
+    let m = at-most x 3 (at-most x 4 (at-most x 5 (leb-true x 6 (h .0)) r) q) p in
+    by-test (eqb x 0) (λ a. rw a)
+    (λ a. rw a (by-test (eqb x 2) (λ b. rw b)
+    (λ b. rw b (by-test (eqb x 3) (λ d. rw d)
+    (λ d. absurd (not-one (h .1) (low a (at-most x 1 (at-most x 2 m (eqb-false x 3 d)) (eqb-false x 2 b))))))))
+    )
+  where
+    low : eqb x 0 ≡ false → x ≤ 1 → x ≡ 1
+    low a h = let z = eqb-false x 0 a in omega arith
+
+    not-one : not (eqb x 1) ≡ true → x ≡ 1 → ⊥
+    not-one g e = let w : false ≡ true = rw (eq-eqb x 1 e) at g in let z : _≡_ {A = ℕ} 0 1 = cc in omega arith
+
+-- a refused step changes nothing and replies 1
+pub refused : (u : Setup) (t : Target) (f : List ℕ) (x n : ℕ) → n ≡ refusal u t f x → (n ≡ 0 → ⊥)
+    → (record { number = n; reply = 1; target = t } ≡ answer u t f x) × (f ≡ flash-after u t f x)
+unfolding answer flash-after
+refused u t f x n e h = let k = ne-eqb (refusal u t f x) 0 (λ z. h (e ∙ z)) in (rw (k, e), rw k)
+
+-- and any other is what the definition of a step says
+pub accepted : (u : Setup) (t : Target) (f : List ℕ) (x n : ℕ) → n ≡ refusal u t f x → n ≡ 0
+    → (replied (stepped u t f (step-of x)) ≡ answer u t f x) × (stepped u t f (step-of x) .flash ≡ flash-after u t f x)
+unfolding answer flash-after
+accepted u t f x n e h = let k = eq-eqb (refusal u t f x) 0 (sym e ∙ h) in (rw k, rw k)
+
+-- it is one of a state that exists, and a step
+pub accepts : (u : Setup) (t : Target) (f : List ℕ) (x n : ℕ) → n ≡ refusal u t f x → n ≡ 0 → (known u t f ≡ true) × (is-step x ≡ true)
+unfolding refusal
+accepts u t f x n e h =
+    let w : refusal u t f x ≡ 0 = sym e ∙ h in
+    by-test (eqb (settings-refusal (u .settings)) 0)
+    (λ a. let p = passes (known u t f) (cond (is-step x) 0 no-step) no-point (omega arith) (rw a at w) in
+    (p .0, passes (is-step x) 0 no-step (omega arith) (p .1) .0))
+    (λ a. absurd (eqb-false (settings-refusal (u .settings)) 0 a (rw a at w)))

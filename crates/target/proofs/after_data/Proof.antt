@@ -1,0 +1,16 @@
+-- `target::after_data` meets its contract: each return by the tests on its way and what the calls give.
+use borrow.Author.Tests.{lt-ltb, le-ltb}
+use Rattle.target.specs.Strobes.{after-data}
+use Rattle.target.proofs.after_data.Statement.{statement}
+use Rattle.target.proofs.after_data.Tie as tie
+
+returns : tie.Need-returns
+unfolding after-data
+returns c = rw (lt-ltb _ _ (c .if1 .taken))
+
+returns-2 : tie.Need-returns-2
+unfolding after-data
+returns-2 c = rw (le-ltb _ _ (c .if1 .left))
+
+pub after-data-spec : {M : Type 1} → statement M
+after-data-spec = tie.close (tie.spec returns returns-2)

@@ -1,0 +1,63 @@
+-- The act of a number, by arithmetic: what it does. Nothing here needs to be believed: `Finding` of the crate position has the law that these are
+-- the acts of the session's order.
+use mathlib.Core.Bool.{cond}
+use Prim.Native.Nat.{ℕ, _%_}
+use lib.Dec.{eqb, ltb}
+use Rattle.wire.specs.declared.Frame.{Frame}
+use Rattle.wire.specs.declared.Frame.the-variants.{AddressWrite, AddressRead, DataWrite, DataRead}
+use Rattle.tasks.specs.declared.Stage.{Stage}
+use Rattle.tasks.specs.declared.Stage.the-variants.{Lead, Erase, Write, Read, Close}
+use Rattle.tasks.specs.declared.Task.{Task}
+use Rattle.tasks.specs.declared.Task.the-variants.{Reset, Pause, Address, Send, Input, Output, Ident, Status, Compare}
+
+abbrev pub lead-task : ℕ → Task
+lead-task act =
+    cond (eqb act 0) Reset (cond (eqb act 1) Ident (cond (eqb act 2) Reset (cond (eqb act 3) Address (cond (ltb act 7) Send Pause))))
+
+-- a byte put, in two acts, or a status
+abbrev pub put-task : ℕ → Task
+put-task act = cond (eqb (act % 2) 1) Send Input
+
+abbrev pub erase-task : ℕ → Task
+erase-task act =
+    cond (eqb act 0) Address
+    (cond (eqb (act % 4) 1) Send (cond (eqb (act % 4) 2) Input (cond (eqb (act % 4) 3) Output Status)))
+
+abbrev pub write-task : ℕ → Task
+write-task act =
+    cond (eqb act 0) Address
+    (cond (eqb act 3) Output (cond (eqb act 4) Status (cond (ltb act 523) (put-task act) (cond (eqb act 523) Output Status))))
+
+abbrev pub read-task : ℕ → Task
+read-task act =
+    cond (eqb act 0) Address
+    (cond (eqb act 3) Output
+    (cond (eqb act 4) Status
+    (cond (ltb act 11) (put-task act) (cond (eqb (act % 2) 1) Output (cond (eqb act 12) Status Compare)))))
+
+abbrev pub task-of : Stage → ℕ → Task
+task-of Lead act = lead-task act
+task-of Erase act = erase-task act
+task-of Write act = write-task act
+task-of Read act = read-task act
+task-of Close act = Reset
+
+-- the frame of an act; a step that stands in no frame has none, and this one is not looked at
+abbrev pub frame-of : Task → Frame
+frame-of Reset = AddressWrite
+frame-of Pause = AddressWrite
+frame-of Address = AddressWrite
+frame-of Send = DataWrite
+frame-of Input = AddressRead
+frame-of Output = AddressRead
+frame-of Ident = DataRead
+frame-of Status = DataRead
+frame-of Compare = DataRead
+
+-- the number of a stage's last act
+abbrev pub last-act : Stage → ℕ
+last-act Lead = 7
+last-act Erase = 12
+last-act Write = 524
+last-act Read = 524
+last-act Close = 0
