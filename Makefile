@@ -9,15 +9,18 @@ LIBRARIES := target/staticlib/libprobe.a target/staticlib/libc2.a
 
 PROGRAM := target/bin/flash
 
-EXAMPLES := target/examples/first target/examples/driver
+EXAMPLES := target/examples/first target/examples/driver target/examples/waves
+WAVES := target/waves/page.vcd
+SHORT := 200
 STRICT := -Wall -Wextra -Werror -Iinclude
 
-.PHONY: help library flash test compare compare-long examples prove clean
+.PHONY: help library flash test compare compare-long examples waves prove clean
 
 help:
 	@echo "make library       build the driver's library, target/staticlib/libc2.a; its header is include/c2.h"
 	@echo "make flash <image  program a modelled target with the image on standard input"
-	@echo "make examples      build and run the C examples, examples/first.c and examples/driver.c"
+	@echo "make examples      build and run the C examples: examples/first.c, driver.c and waves.c"
+	@echo "make waves         write a session's strobes as a waveform, $(WAVES), for gtkwave or PulseView"
 	@echo "make test          compare with the second implementation in Rust, run the examples, then prove everything from nothing"
 	@echo "make compare       the comparison alone, some seconds"
 	@echo "make compare-long  the comparison over many more cases"
@@ -38,12 +41,24 @@ compare: $(LIBRARIES) $(PROGRAM)
 compare-long: $(LIBRARIES) $(PROGRAM)
 	@$(CARGO) --long --program $(PROGRAM)
 
-# The first one is the program of README.md, word for word below its first line.
+# The first one is the program of README.md, word for word below its first line. The waveform has a header and, in so many steps, a
+# falling edge of C2CK for each but 5 and 6.
 examples: $(EXAMPLES)
 	@sed -n '/^```c$$/,/^```$$/{/^```/!p;}' README.md >target/examples/readme.c
 	@sed 1d examples/first.c | diff - target/examples/readme.c
 	@target/examples/first
 	@target/examples/driver
+	@target/examples/waves $(SHORT) >target/examples/short.vcd
+	@sed '/^#/,$$d' target/examples/short.vcd | tr '\n' ' ' | grep -q '^$$version .*$$timescale 1 ns $$end .*$$enddefinitions $$end $$'
+	@test $$(grep -c '^0k' target/examples/short.vcd) -eq $$(($(SHORT) - $$(grep -cE '^b00000(101|110) s' target/examples/short.vcd)))
+	@echo "ok     waves: $(SHORT) steps, one low pulse on C2CK for each but pauses and the end"
+
+waves: $(WAVES)
+	@echo "$(WAVES): the session of one page; gtkwave and PulseView can open it"
+
+$(WAVES): target/examples/waves
+	@mkdir -p $(@D)
+	@target/examples/waves >$@ || { rm -f $@; false; }
 
 # As C11, and as C++ too, since drivers are written in both.
 target/examples/%: examples/%.c examples/c2_text.h include/c2.h target/staticlib/libc2.a
