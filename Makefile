@@ -35,10 +35,11 @@ flash: $(PROGRAM)
 test: compare examples
 	@rt ci
 
-compare: $(LIBRARIES) $(PROGRAM)
+# The program first: its crates are proved level by level, and the libraries' are then among them.
+compare: $(PROGRAM) $(LIBRARIES)
 	@$(CARGO) --program $(PROGRAM)
 
-compare-long: $(LIBRARIES) $(PROGRAM)
+compare-long: $(PROGRAM) $(LIBRARIES)
 	@$(CARGO) --long --program $(PROGRAM)
 
 # The first one is the program of README.md, word for word below its first line. The waveform has a header and, in so many steps, a
