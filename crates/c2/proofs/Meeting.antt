@@ -17,7 +17,7 @@ use Rattle.order.proofs.Sound.{reads-of, Valid}
 use Rattle.session.specs.declared.Point.the-variants.{Running, Ended}
 use Rattle.session.specs.declared.Session.{Session}
 use Rattle.session.specs.Machine.{point-advanced, advanced, step-of}
-use Rattle.position.specs.Range.{in-range, point-in-range}
+use Rattle.session.specs.Range.{in-range, point-in-range}
 use Rattle.position.specs.Position.{position, point-position}
 use Rattle.position.proofs.Advancing.{SessionPoint, exists-of, fits-of, point-of}
 use Rattle.position.proofs.Succession.{acts-here}

@@ -13,7 +13,7 @@ use Rattle.order.specs.Conversation.{session-limits}
 use Rattle.order.specs.Figure.{figure}
 use Rattle.order.specs.Claims.{exchange-of, point-after}
 use Rattle.session.specs.declared.Session.{Session}
-use Rattle.position.specs.Range.{in-range}
+use Rattle.session.specs.Range.{in-range}
 use Rattle.position.specs.Position.{position}
 use Rattle.record.specs.declared.Unpacked.the-variants.{Held}
 use Rattle.record.specs.Record.{packed, unpacked}

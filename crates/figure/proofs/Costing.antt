@@ -19,9 +19,9 @@ use Rattle.tasks.specs.declared.Stage.the-variants.{Lead, Erase, Write, Read, C
 use Rattle.tasks.specs.declared.Task.{Task}
 use Rattle.tasks.specs.declared.Task.the-variants.{Reset, Pause, Address, Send, Input, Output, Ident, Status, Compare}
 use Rattle.session.specs.declared.Session.{Session}
-use Rattle.tasks.specs.Tasks.{task-of, last-act}
+use Rattle.tasks.specs.Tasks.{task-of, acts-in}
 use Rattle.session.specs.Machine.{at}
-use Rattle.position.specs.Range.{pages-in, blocks-in, acts-in}
+use Rattle.session.specs.Range.{pages-in, blocks-in}
 use Rattle.position.specs.Position.{page-at, block-at, stage-acts, pages-from, writes-from, reads-from, after-stage}
 use Rattle.position.proofs.Finding.{task-act}
 use Rattle.position.proofs.Standing.{Fits, block-is, block-length, act-here, stands}
@@ -119,44 +119,37 @@ module _ (w r : ℕ) where
   lead-on (suc (suc (suc (suc (suc (suc zero)))))) h = omega arith
   lead-on (suc (suc (suc (suc (suc (suc (suc k))))))) h = absurd (omega arith)
 
-  stage-on : (g : Stage) (k : ℕ) → k < last-act g → stage-left w r g k ≡ task-cost w r (task-of g (suc k)) + stage-left w r g (suc k)
-  stage-on Lead k h = lead-on k h
-  stage-on Erase k h = bytes-on (task-of Erase) 6 k refl h
-  stage-on Write k h = bytes-on (task-of Write) 262 k refl h
-  stage-on Read k h = bytes-on (task-of Read) 262 k refl h
+  stage-on : (g : Stage) (k : ℕ) → suc k < acts-in g → stage-left w r g k ≡ task-cost w r (task-of g (suc k)) + stage-left w r g (suc k)
+  stage-on Lead k h = lead-on k (omega arith)
+  stage-on Erase k h = bytes-on (task-of Erase) 6 k refl (omega arith)
+  stage-on Write k h = bytes-on (task-of Write) 262 k refl (omega arith)
+  stage-on Read k h = bytes-on (task-of Read) 262 k refl (omega arith)
   stage-on Close k h = absurd (omega arith)
 
-  stage-ends : (g : Stage) → stage-left w r g (last-act g) ≡ 0
+  stage-ends : (g : Stage) → stage-left w r g (acts-in g - 1) ≡ 0
   stage-ends Lead = refl
   stage-ends Erase = omega arith
   stage-ends Write = omega arith
   stage-ends Read = omega arith
   stage-ends Close = refl
 
-  acts-last : (g : Stage) → suc (last-act g) ≡ acts-in g
-  acts-last Lead = refl
-  acts-last Erase = refl
-  acts-last Write = refl
-  acts-last Read = refl
-  acts-last Close = refl
-
   module _ (s : Session) (image : List ℕ) (h : Fits s image) where
     -- the acts of a stage after one of them
     pub stage-costs : (g : Stage) (i j k : ℕ) → i < pages-in g (s .pages) → j < blocks-in g (s .settings .size) → k < acts-in g
         → costs (limits w r) (drop (suc k) (stage-acts g s image i j)) ≡ stage-left w r g k
     unfolding costs
-    stage-costs g i j k gi gj gk = down (last-act g - k) k (omega (arith, acts-last g))
+    stage-costs g i j k gi gj gk = down (acts-in g - 1 - k) k (omega arith)
       where
-        down : (m k : ℕ) → k + m ≡ last-act g → costs (limits w r) (drop (suc k) (stage-acts g s image i j)) ≡ stage-left w r g k
+        down : (m k : ℕ) → suc (k + m) ≡ acts-in g → costs (limits w r) (drop (suc k) (stage-acts g s image i j)) ≡ stage-left w r g k
         down zero k e =
-            let q : k ≡ last-act g = omega arith in
+            let q : k ≡ acts-in g - 1 = omega arith in
             let d : drop (suc k) (stage-acts g s image i j) ≡ []
-            = drop-of-length-le (stage-acts g s image i j) {i = suc k} (rw (stage-length s image h g i j gi gj) (omega (arith, acts-last g))) in
+            = drop-of-length-le (stage-acts g s image i j) {i = suc k} (rw (stage-length s image h g i j gi gj) (omega arith)) in
             rw d (rw q (sym (stage-ends g)))
         down (suc m) k e =
-            let l : suc k < length (stage-acts g s image i j) = rw (stage-length s image h g i j gi gj) (omega (arith, acts-last g)) in
+            let l : suc k < length (stage-acts g s image i j) = rw (stage-length s image h g i j gi gj) (omega arith) in
             let c : cost (limits w r) (act-here s image h g (at g i j (suc k))) ≡ task-cost w r (task-of g (suc k)) = act-costs (task-of g (suc k)) _ _ _ in
-            rw (drop-cons (stage-acts g s image i j) (suc k) reset-pulse l, stands s image h g i j (suc k) reset-pulse gi gj (omega (arith, acts-last g)))
+            rw (drop-cons (stage-acts g s image i j) (suc k) reset-pulse l, stands s image h g i j (suc k) reset-pulse gi gj (omega arith))
             (omega (arith, c, down m (suc k) (omega arith), stage-on g k (omega arith)))
 
     -- a block that is there

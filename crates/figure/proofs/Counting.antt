@@ -24,7 +24,7 @@ use Rattle.session.specs.declared.Session.{Session}
 use Rattle.tasks.specs.Tasks.{task-of}
 use Rattle.session.specs.Sent.{compared-offset}
 use Rattle.session.specs.Machine.{at}
-use Rattle.position.specs.Range.{strobes-in, place-in-range, point-in-range, in-range}
+use Rattle.session.specs.Range.{strobes-in, place-in-range, point-in-range, in-range}
 use Rattle.position.specs.Position.{stage-acts, after-stage, point-position, position}
 use Rattle.position.proofs.Finding.{task-act}
 use Rattle.position.proofs.Standing.{act-byte}

@@ -34,10 +34,10 @@ use Rattle.session.specs.declared.At.{At}
 use Rattle.session.specs.declared.Point.the-variants.{Running, Ended}
 use Rattle.session.specs.declared.Session.{Session}
 use Rattle.session.specs.declared.Wanted.the-variants.{Byte}
-use Rattle.tasks.specs.Tasks.{task-of}
+use Rattle.tasks.specs.Tasks.{task-of, acts-in}
 use Rattle.session.specs.Sent.{image-byte, sent-offset, compared-offset}
 use Rattle.session.specs.Machine.{at, running, onward, again, differs, compared, judged, sends-image, drives-image, wants, stays, settled, task-taken}
-use Rattle.position.specs.Range.{pages-in, blocks-in, acts-in, strobes-in, reads-in, place-in-range, running-in-range, point-in-range, in-range}
+use Rattle.session.specs.Range.{pages-in, blocks-in, strobes-in, reads-in, place-in-range, running-in-range, point-in-range, in-range}
 use Rattle.position.specs.Position.{page-list, pages-from, writes-from, reads-from, at-act, point-position, position}
 use Rattle.position.proofs.Finding.{task-act}
 use Rattle.position.proofs.Standing.{Fits, act-here, act-byte, page-inside, block-inside, image-small}

@@ -29,7 +29,7 @@ use Rattle.session.specs.declared.Session.{Session}
 use Rattle.tasks.specs.Tasks.{task-of, read-task}
 use Rattle.session.specs.Sent.{stage-byte, byte-of, compared-offset}
 use Rattle.session.specs.Machine.{at, running, task-step, point-step, step-of}
-use Rattle.position.specs.Range.{strobes-in, reads-in, in-range, point-in-range}
+use Rattle.session.specs.Range.{strobes-in, reads-in, in-range, point-in-range}
 use Rattle.position.specs.Position.{point-position, position}
 use Rattle.position.proofs.Finding.{task-act}
 use Rattle.position.proofs.Standing.{Fits, act-byte}

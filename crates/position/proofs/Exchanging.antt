@@ -28,7 +28,7 @@ use Rattle.session.specs.declared.Point.the-variants.{Running, Ended}
 use Rattle.session.specs.declared.Session.{Session}
 use Rattle.tasks.specs.Tasks.{task-of}
 use Rattle.session.specs.Machine.{at, advanced}
-use Rattle.position.specs.Range.{strobes-in, reads-in, in-range, point-in-range}
+use Rattle.session.specs.Range.{strobes-in, reads-in, in-range, point-in-range}
 use Rattle.position.specs.Position.{page-list, page-at, block-at, stage-acts, pages-from, writes-from, reads-from, after-stage, acts-from, point-position, position}
 use Rattle.position.proofs.Finding.{task-act}
 use Rattle.position.proofs.Standing.{Fits, act-byte}

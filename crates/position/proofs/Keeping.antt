@@ -28,10 +28,10 @@ use Rattle.tasks.specs.declared.Task.the-variants.{Reset, Pause, Address, Send,
 use Rattle.session.specs.declared.Point.{Point}
 use Rattle.session.specs.declared.Point.the-variants.{Running, Ended}
 use Rattle.session.specs.declared.Session.{Session}
-use Rattle.tasks.specs.Tasks.{task-of, last-act}
+use Rattle.tasks.specs.Tasks.{task-of, acts-in}
 use Rattle.session.specs.Sent.{compared-offset}
 use Rattle.session.specs.Machine.{at, running, begins, next-write, next-page, next-read, next-stage, onward, again, differs, compared, judged, settled, task-taken, replied, point-advanced, advanced}
-use Rattle.position.specs.Range.{pages-in, blocks-in, acts-in, strobes-in, reads-in, place-in-range, running-in-range, ends-session, offsets-of, ended-in-range, point-in-range, in-range}
+use Rattle.session.specs.Range.{pages-in, blocks-in, strobes-in, reads-in, place-in-range, running-in-range, ends-session, offsets-of, ended-in-range, point-in-range, in-range}
 use Rattle.position.proofs.Standing.{Fits, image-small}
 use Rattle.position.proofs.Advancing.{exists-of, fits-of, point-of, compares-late, wanted-there, stays-same}
 
@@ -134,20 +134,13 @@ module _ (w r : ℕ) (hw : 0 < w) (hr : 0 < r) (s : Session) (image : List ℕ) 
           rw (le-ltb (j + 1) (s .settings .size / 256) (omega arith), le-ltb (i + 1) (s .pages) (omega arith)) (begins-in Close 0 0 0 (omega arith) (omega arith) (omega arith))
   stage-in Close i j k gi gj = refl
 
-  acts-last : (g : Stage) → suc (last-act g) ≡ acts-in g
-  acts-last Lead = refl
-  acts-last Erase = refl
-  acts-last Write = refl
-  acts-last Read = refl
-  acts-last Close = refl
-
   onward-in : (g : Stage) (i j k : ℕ) → i < pages-in g (s .pages) → j < blocks-in g (s .settings .size) → k < acts-in g → In (onward s (at g i j k))
   unfolding onward
-  onward-in g i j k gi gj gk = go (decLt k (last-act g))
+  onward-in g i j k gi gj gk = go (decLt (k + 1) (acts-in g))
     where
-      go : Dec (k < last-act g) → In (onward s (at g i j k))
-      go (yes y) = rw (lt-ltb _ _ y) (begins-in g i j (k + 1) gi gj (omega (arith, acts-last g)))
-      go (no y) = rw (le-ltb k (last-act g) (omega arith)) (stage-in g i j k gi gj)
+      go : Dec (k + 1 < acts-in g) → In (onward s (at g i j k))
+      go (yes y) = rw (lt-ltb _ _ y) (begins-in g i j (k + 1) gi gj y)
+      go (no y) = rw (le-ltb (k + 1) (acts-in g) (omega arith)) (stage-in g i j k gi gj)
 
   module _ (g : Stage) (i j k : ℕ) (gi : i < pages-in g (s .pages)) (gj : j < blocks-in g (s .settings .size)) (gk : k < acts-in g) where
     -- a poll's next read

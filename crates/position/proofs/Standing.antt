@@ -17,10 +17,10 @@ use Rattle.tasks.specs.declared.Stage.{Stage}
 use Rattle.tasks.specs.declared.Stage.the-variants.{Lead, Erase, Write, Read, Close}
 use Rattle.session.specs.declared.At.{At}
 use Rattle.session.specs.declared.Session.{Session}
-use Rattle.tasks.specs.Tasks.{task-of}
+use Rattle.tasks.specs.Tasks.{task-of, acts-in}
 use Rattle.session.specs.Sent.{erase-byte, block-byte, image-byte, sent-offset, compared-offset, write-byte, stage-byte, byte-of}
 use Rattle.session.specs.Machine.{at}
-use Rattle.position.specs.Range.{pages-in, blocks-in, acts-in}
+use Rattle.session.specs.Range.{pages-in, blocks-in}
 use Rattle.position.specs.Position.{page-list, page-at, block-at, stage-acts}
 use Rattle.position.proofs.Parts.{pages-at, blocks-at-number}
 use Rattle.position.proofs.Finding.{task-act, lead-at, erase-at, command-byte, write-act-byte, write-at, read-act-byte, read-at}

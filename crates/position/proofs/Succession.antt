@@ -15,9 +15,9 @@ use Rattle.order.specs.Point.{begin}
 use Rattle.tasks.specs.declared.Stage.{Stage}
 use Rattle.tasks.specs.declared.Stage.the-variants.{Lead, Erase, Write, Read, Close}
 use Rattle.session.specs.declared.Session.{Session}
-use Rattle.tasks.specs.Tasks.{last-act}
+use Rattle.tasks.specs.Tasks.{acts-in}
 use Rattle.session.specs.Machine.{at, next-write, next-page, next-read, next-stage, onward}
-use Rattle.position.specs.Range.{pages-in, blocks-in, acts-in}
+use Rattle.session.specs.Range.{pages-in, blocks-in}
 use Rattle.position.specs.Position.{page-list, page-at, blocks-at, block-at, stage-acts, pages-from, writes-from, reads-from, after-stage, acts-from, at-act, point-position}
 use Rattle.position.proofs.Parts.{length-pages, length-blocks}
 use Rattle.position.proofs.Finding.{length-command, length-puts, length-compares, length-status}
@@ -137,22 +137,15 @@ module _ (s : Session) (image : List ℕ) (h : Fits s image) where
       let l : k < length (stage-acts g s image i j) = rw (stage-length g i j gi gj) gk in
       rw (drop-cons (stage-acts g s image i j) k reset-pulse l, stands s image h g i j k reset-pulse gi gj gk)
 
-  acts-last : (g : Stage) → suc (last-act g) ≡ acts-in g
-  acts-last Lead = refl
-  acts-last Erase = refl
-  acts-last Write = refl
-  acts-last Read = refl
-  acts-last Close = refl
-
   -- the next point stands where the order goes on
   pub goes-on : (g : Stage) (i j k : ℕ) → i < pages-in g (s .pages) → j < blocks-in g (s .settings .size) → k < acts-in g
       → begin (rest-from g i j k) ≡ point-position s image (onward s (at g i j k))
   unfolding onward point-position
-  goes-on g i j k gi gj gk = go (decLt k (last-act g))
+  goes-on g i j k gi gj gk = go (decLt (k + 1) (acts-in g))
     where
-      go : Dec (k < last-act g) → begin (rest-from g i j k) ≡ point-position s image (onward s (at g i j k))
-      go (yes y) = rw (lt-ltb k (last-act g) y, add-one k) (begin-at (rest-from g i j k))
+      go : Dec (k + 1 < acts-in g) → begin (rest-from g i j k) ≡ point-position s image (onward s (at g i j k))
+      go (yes y) = rw (lt-ltb (k + 1) (acts-in g) y, add-one k) (begin-at (rest-from g i j k))
       go (no y) =
           let e : drop (suc k) (stage-acts g s image i j) ≡ []
-          = drop-of-length-le (stage-acts g s image i j) {i = suc k} (rw (stage-length g i j gi gj) (omega (arith, acts-last g))) in
-          rw (le-ltb k (last-act g) (omega arith), e) (stage-over g i j k gi gj)
+          = drop-of-length-le (stage-acts g s image i j) {i = suc k} (rw (stage-length g i j gi gj) (omega arith)) in
+          rw (le-ltb (k + 1) (acts-in g) (omega arith), e) (stage-over g i j k gi gj)

@@ -10,8 +10,8 @@ use Rattle.order.specs.Opening.{opening-refusal}
 use Rattle.tasks.specs.declared.Stage.{Stage}
 use Rattle.tasks.specs.declared.Task.{Task}
 use Rattle.session.specs.declared.Session.{Session}
-use Rattle.tasks.specs.Tasks.{task-of}
-use Rattle.position.specs.Range.{pages-in, blocks-in, acts-in, strobes-in, reads-in, place-in-range, running-in-range, point-in-range, in-range}
+use Rattle.tasks.specs.Tasks.{task-of, acts-in}
+use Rattle.session.specs.Range.{pages-in, blocks-in, strobes-in, reads-in, place-in-range, running-in-range, point-in-range, in-range}
 use Rattle.range.specs.Bounds.{strobes-by, limit-by, sampled-by}
 use Rattle.range.proofs.Shapes.{place-by}
 

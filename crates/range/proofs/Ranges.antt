@@ -18,8 +18,8 @@ use Rattle.tasks.specs.declared.Stage.{Stage}
 use Rattle.session.specs.declared.Point.{Point}
 use Rattle.session.specs.declared.Point.the-variants.{Running, Ended}
 use Rattle.session.specs.declared.Session.{Session}
-use Rattle.tasks.specs.Tasks.{task-of}
-use Rattle.position.specs.Range.{pages-in, blocks-in, acts-in, strobes-in, reads-in, place-in-range, running-in-range, ends-session, offsets-of, ended-in-range, point-in-range, in-range}
+use Rattle.tasks.specs.Tasks.{task-of, acts-in}
+use Rattle.session.specs.Range.{pages-in, blocks-in, strobes-in, reads-in, place-in-range, running-in-range, ends-session, offsets-of, ended-in-range, point-in-range, in-range}
 use Rattle.range.specs.Claims.{Opening-passes, Point-exists, Outcome-stands, Point-stands, Within-ranges, Ranges-are}
 
 -- tests of settings

@@ -13,7 +13,7 @@ use Rattle.wire.specs.Frames.{sends, ins-code, frame}
 use Rattle.wire.specs.Place.{strobe-at, samples, count-limit}
 use Rattle.tasks.specs.declared.Task.{Task}
 use Rattle.tasks.specs.declared.Task.the-variants.{Reset, Pause, Address, Send, Input, Output, Ident, Status, Compare}
-use Rattle.position.specs.Range.{strobes-in, reads-in, place-in-range}
+use Rattle.session.specs.Range.{strobes-in, reads-in, place-in-range}
 use Rattle.range.specs.Bounds.{strobes-by, limit-by, sampled-by}
 
 strobes-are : (t : Task) → length (strobes-in t) ≡ strobes-by t

@@ -12,8 +12,8 @@ use Rattle.tasks.specs.declared.Stage.{Stage}
 use Rattle.session.specs.declared.Point.{Point}
 use Rattle.session.specs.declared.Point.the-variants.{Running, Ended}
 use Rattle.session.specs.declared.Session.{Session}
-use Rattle.tasks.specs.Tasks.{task-of}
-use Rattle.position.specs.Range.{pages-in, blocks-in, acts-in, strobes-in, reads-in, in-range}
+use Rattle.tasks.specs.Tasks.{task-of, acts-in}
+use Rattle.session.specs.Range.{pages-in, blocks-in, strobes-in, reads-in, in-range}
 
 -- what opening asks of settings and pages would pass (numbers 1 to 5),
 pub record Opening-passes (t : Settings) (first pages : ℕ) : Type 0 where

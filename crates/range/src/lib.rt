@@ -1,7 +1,8 @@
 // Which sessions are within their ranges (document 01, "What the driver keeps over sleep").
 ghost use mathlib.Core.Path.{_≡_};
 ghost use Prim.Native.Nat.{_^_, _≤_};
-ghost use Rattle.position.specs.Range.{pages-in, blocks-in, acts-in, strobes-in, reads-in, place-in-range, running-in-range, ends-session, offsets-of, ended-in-range, point-in-range, in-range};
+ghost use Rattle.tasks.specs.Tasks.{acts-in};
+ghost use Rattle.session.specs.Range.{pages-in, blocks-in, strobes-in, reads-in, place-in-range, running-in-range, ends-session, offsets-of, ended-in-range, point-in-range, in-range};
 ghost use Rattle.range.specs.Bounds.{strobes-by, limit-from, limit-by, sampled-from, sampled-by};
 use numbers::BAD_REPLY;
 use numbers::COMPARE_DIFFERS;
@@ -14,10 +15,11 @@ use session::Point;
 use session::Session;
 use tasks::Stage;
 use tasks::Task;
+use tasks::acts_in;
 use tasks::task_of;
 use wire::Place;
 
-// How many pages, blocks of a page and acts a stage has.
+// How many pages and blocks of a page a stage has.
 fn pages_in(stage: Stage, pages: u16) -> u16
     ensures { λ r. ⌜ r ≡ pages-in stage pages ⌝ }
 {
@@ -38,18 +40,6 @@ fn blocks_in(stage: Stage, size: u32) -> u32
         Stage::Erase => 1,
         Stage::Write => size / 256,
         Stage::Read => size / 256,
-        Stage::Close => 1,
-    }
-}
-
-fn acts_in(stage: Stage) -> u16
-    ensures { λ r. ⌜ r ≡ acts-in stage ⌝ }
-{
-    match stage {
-        Stage::Lead => 8,
-        Stage::Erase => 13,
-        Stage::Write => 525,
-        Stage::Read => 525,
         Stage::Close => 1,
     }
 }

@@ -18,8 +18,8 @@ use Rattle.tasks.specs.declared.Task.the-variants.{Reset, Pause, Address, Send,
 use Rattle.session.specs.declared.Point.{Point}
 use Rattle.session.specs.declared.Point.the-variants.{Running, Ended}
 use Rattle.session.specs.declared.Session.{Session}
-use Rattle.tasks.specs.Tasks.{task-of}
-use Rattle.position.specs.Range.{pages-in, blocks-in, acts-in, strobes-in, reads-in, place-in-range}
+use Rattle.tasks.specs.Tasks.{task-of, acts-in}
+use Rattle.session.specs.Range.{pages-in, blocks-in, strobes-in, reads-in, place-in-range}
 use Rattle.record.specs.declared.Named.the-variants.{Of}
 use Rattle.record.specs.declared.Reached.the-variants.{At}
 use Rattle.range.specs.Bounds.{strobes-by, limit-by, sampled-from, sampled-by}

@@ -10,7 +10,7 @@ use lib.ListN.{length}
 use Rattle.laws.proofs.Testing.{both, by-test}
 use Rattle.session.specs.declared.Point.{Point}
 use Rattle.session.specs.declared.Session.{Session}
-use Rattle.position.specs.Range.{in-range}
+use Rattle.session.specs.Range.{in-range}
 use Rattle.record.specs.declared.Reached.{Reached}
 use Rattle.record.specs.declared.Reached.the-variants.{At, Nowhere}
 use Rattle.record.specs.declared.Unpacked.{Unpacked}

@@ -7,7 +7,7 @@ use Prim.Native.Nat.{ℕ, _<_, _≤_}
 use lib.ListN.{length}
 use Rattle.wire.specs.Bits.{Bytes}
 use Rattle.session.specs.declared.Session.{Session}
-use Rattle.position.specs.Range.{in-range}
+use Rattle.session.specs.Range.{in-range}
 use Rattle.record.specs.declared.Unpacked.the-variants.{Held, Refused}
 use Rattle.record.specs.Record.{packed, unpacked}
 

@@ -10,7 +10,7 @@ use Rattle.tasks.specs.declared.Stage.the-variants.{Lead, Erase, Write, Read, C
 use Rattle.session.specs.declared.Point.{Point}
 use Rattle.session.specs.declared.Point.the-variants.{Running, Ended}
 use Rattle.session.specs.declared.Session.{Session}
-use Rattle.position.specs.Range.{in-range}
+use Rattle.session.specs.Range.{in-range}
 use Rattle.record.specs.declared.Fields.{Fields}
 use Rattle.record.specs.declared.Named.{Named}
 use Rattle.record.specs.declared.Named.the-variants.{Of, Nothing}

@@ -20,7 +20,7 @@ use Rattle.session.specs.declared.Point.the-variants.{Running, Ended}
 use Rattle.session.specs.declared.Session.{Session}
 use Rattle.session.specs.declared.Wanted.{Wanted}
 use Rattle.session.specs.declared.Wanted.the-variants.{Byte, Missing}
-use Rattle.tasks.specs.Tasks.{task-of, frame-of, last-act}
+use Rattle.tasks.specs.Tasks.{task-of, acts-in}
 use Rattle.session.specs.Sent.{image-byte, sent-offset, compared-offset, stage-byte, byte-of}
 
 abbrev pub at : Stage → (page block act : ℕ) → At
@@ -55,7 +55,7 @@ next-stage Close s a = ended done
 
 unfoldable pub onward : Session → At → Point
 onward s a =
-    cond (ltb (a .act) (last-act (a .stage))) (begins (a .stage) (a .page) (a .block) (a .act + 1)) (next-stage (a .stage) s a)
+    cond (ltb (a .act + 1) (acts-in (a .stage))) (begins (a .stage) (a .page) (a .block) (a .act + 1)) (next-stage (a .stage) s a)
 
 -- an unsatisfied read of a poll
 unfoldable pub again : (poll-limit : ℕ) → At → (reads : ℕ) → Point
@@ -113,13 +113,13 @@ settled limit WaitLimit k s a n image = ended wait-limit-reached
 abbrev pub task-taken : (wait-limit poll-limit : ℕ) → Task → Session → At → Place → Bool → List ℕ → Point
 task-taken w r Reset s a p b image = onward s a
 task-taken w r Pause s a p b image = onward s a
-task-taken w r Address s a p b image = settled r (followed w (frame (frame-of Address) 0) p b) Address s a (p .count) image
-task-taken w r Send s a p b image = settled r (followed w (frame (frame-of Send) 0) p b) Send s a (p .count) image
-task-taken w r Input s a p b image = settled r (followed w (frame (frame-of Input) 0) p b) Input s a (p .count) image
-task-taken w r Output s a p b image = settled r (followed w (frame (frame-of Output) 0) p b) Output s a (p .count) image
-task-taken w r Ident s a p b image = settled r (followed w (frame (frame-of Ident) 0) p b) Ident s a (p .count) image
-task-taken w r Status s a p b image = settled r (followed w (frame (frame-of Status) 0) p b) Status s a (p .count) image
-task-taken w r Compare s a p b image = settled r (followed w (frame (frame-of Compare) 0) p b) Compare s a (p .count) image
+task-taken w r Address s a p b image = settled r (followed w (frame AddressWrite 0) p b) Address s a (p .count) image
+task-taken w r Send s a p b image = settled r (followed w (frame DataWrite 0) p b) Send s a (p .count) image
+task-taken w r Input s a p b image = settled r (followed w (frame AddressRead 0) p b) Input s a (p .count) image
+task-taken w r Output s a p b image = settled r (followed w (frame AddressRead 0) p b) Output s a (p .count) image
+task-taken w r Ident s a p b image = settled r (followed w (frame DataRead 0) p b) Ident s a (p .count) image
+task-taken w r Status s a p b image = settled r (followed w (frame DataRead 0) p b) Status s a (p .count) image
+task-taken w r Compare s a p b image = settled r (followed w (frame DataRead 0) p b) Compare s a (p .count) image
 
 -- a reply that is neither 0 nor 1 comes first
 unfoldable pub replied : (wait-limit poll-limit : ℕ) → Session → At → Place → (reply : ℕ) → List ℕ → Point

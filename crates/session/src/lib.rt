@@ -5,7 +5,7 @@ ghost use mathlib.Core.Bool.{Bool, cond};
 ghost use Prim.Native.Nat.{ℕ, _+_, _*_, _/_, _%_, _<_, _≤_};
 ghost use lib.Dec.{eqb};
 ghost use lib.ListN.{length};
-ghost use Rattle.tasks.specs.Tasks.{task-of, frame-of, last-act};
+ghost use Rattle.tasks.specs.Tasks.{task-of, acts-in};
 ghost use Rattle.session.specs.Sent.{block-offset, high-byte, lead-byte, erase-byte, block-byte, image-byte, sent-offset, compared-offset, write-byte, stage-byte, byte-of};
 ghost use Rattle.session.specs.Machine.{at, running, ended, begins, next-write, next-page, next-read, next-stage, onward, again, differs, compared, compares, judged, sends-image, drives-image, wants, stays, settled, task-taken, replied, point-advanced, advanced, task-step, point-step, step-of};
 ghost use Rattle.wire.specs.Frames.{frame};
@@ -21,8 +21,7 @@ use numbers::WAIT_LIMIT_REACHED;
 use settings::Settings;
 use tasks::Stage;
 use tasks::Task;
-use tasks::frame_of;
-use tasks::last_act;
+use tasks::acts_in;
 use tasks::task_of;
 use wire::Frame;
 use wire::Moved;
@@ -350,7 +349,7 @@ impl Session {
     {
         let stage = at.stage;
         let act = at.act;
-        if act < last_act(stage) {
+        if (act as usize) + 1 < (acts_in(stage) as usize) {
             return begins(stage, at.page, at.block, act + 1);
         }
         self.next_stage(stage, at)
@@ -456,10 +455,10 @@ impl Session {
     }
 
     // A reply to a strobe of the act's frame.
-    fn framed(self, task: Task, at: At, place: Place, one: bool, image: &[u8]) -> Point
-        ensures { λ r. ⌜ r ≡ settled 256 (followed 20 (frame (frame-of task) 0) place one) task self at (place .count) (now (image .entry)) ⌝ }
+    fn framed(self, kind: Frame, task: Task, at: At, place: Place, one: bool, image: &[u8]) -> Point
+        ensures { λ r. ⌜ r ≡ settled 256 (followed 20 (frame kind 0) place one) task self at (place .count) (now (image .entry)) ⌝ }
     {
-        let moved = wire::follow(frame_of(task), place, one, Session::WAIT_LIMIT);
+        let moved = wire::follow(kind, place, one, Session::WAIT_LIMIT);
         self.settled(moved, task, at, place.count, image)
     }
 
@@ -470,13 +469,13 @@ impl Session {
         match task {
             Task::Reset => self.onward(at),
             Task::Pause => self.onward(at),
-            Task::Address => self.framed(Task::Address, at, place, one, image),
-            Task::Send => self.framed(Task::Send, at, place, one, image),
-            Task::Input => self.framed(Task::Input, at, place, one, image),
-            Task::Output => self.framed(Task::Output, at, place, one, image),
-            Task::Ident => self.framed(Task::Ident, at, place, one, image),
-            Task::Status => self.framed(Task::Status, at, place, one, image),
-            Task::Compare => self.framed(Task::Compare, at, place, one, image),
+            Task::Address => self.framed(Frame::AddressWrite, Task::Address, at, place, one, image),
+            Task::Send => self.framed(Frame::DataWrite, Task::Send, at, place, one, image),
+            Task::Input => self.framed(Frame::AddressRead, Task::Input, at, place, one, image),
+            Task::Output => self.framed(Frame::AddressRead, Task::Output, at, place, one, image),
+            Task::Ident => self.framed(Frame::DataRead, Task::Ident, at, place, one, image),
+            Task::Status => self.framed(Frame::DataRead, Task::Status, at, place, one, image),
+            Task::Compare => self.framed(Frame::DataRead, Task::Compare, at, place, one, image),
         }
     }
 

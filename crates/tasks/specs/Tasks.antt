@@ -3,8 +3,6 @@
 use mathlib.Core.Bool.{cond}
 use Prim.Native.Nat.{ℕ, _%_}
 use lib.Dec.{eqb, ltb}
-use Rattle.wire.specs.declared.Frame.{Frame}
-use Rattle.wire.specs.declared.Frame.the-variants.{AddressWrite, AddressRead, DataWrite, DataRead}
 use Rattle.tasks.specs.declared.Stage.{Stage}
 use Rattle.tasks.specs.declared.Stage.the-variants.{Lead, Erase, Write, Read, Close}
 use Rattle.tasks.specs.declared.Task.{Task}
@@ -42,22 +40,10 @@ task-of Write act = write-task act
 task-of Read act = read-task act
 task-of Close act = Reset
 
--- the frame of an act; a step that stands in no frame has none, and this one is not looked at
-abbrev pub frame-of : Task → Frame
-frame-of Reset = AddressWrite
-frame-of Pause = AddressWrite
-frame-of Address = AddressWrite
-frame-of Send = DataWrite
-frame-of Input = AddressRead
-frame-of Output = AddressRead
-frame-of Ident = DataRead
-frame-of Status = DataRead
-frame-of Compare = DataRead
-
--- the number of a stage's last act
-abbrev pub last-act : Stage → ℕ
-last-act Lead = 7
-last-act Erase = 12
-last-act Write = 524
-last-act Read = 524
-last-act Close = 0
+-- how many acts a stage has: for each page those of its erase, for each block those of its write and of its read
+abbrev pub acts-in : Stage → ℕ
+acts-in Lead = 8
+acts-in Erase = 13
+acts-in Write = 525
+acts-in Read = 525
+acts-in Close = 1

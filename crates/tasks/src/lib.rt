@@ -1,7 +1,6 @@
-// The acts of the order by their numbers: what an act of a stage does, in which frame, and how many acts a stage has.
+// The acts of the order by their numbers: what an act of a stage does, and how many acts a stage has.
 ghost use mathlib.Core.Path.{_≡_};
-ghost use Rattle.tasks.specs.Tasks.{lead-task, put-task, erase-task, write-task, read-task, task-of, frame-of, last-act};
-use wire::Frame;
+ghost use Rattle.tasks.specs.Tasks.{lead-task, put-task, erase-task, write-task, read-task, task-of, acts-in};
 
 // The stages of the order: up to the pause; then for each page its erase, its block writes and its block reads; and the last reset.
 pub enum Stage {
@@ -133,32 +132,15 @@ pub fn task_of(stage: Stage, act: u16) -> Task
     }
 }
 
-// The frame of an act. A step that stands in no frame has none, and what is said of it here is not used.
-pub fn frame_of(task: Task) -> Frame
-    ensures { λ r. ⌜ r ≡ frame-of task ⌝ }
-{
-    match task {
-        Task::Reset => Frame::AddressWrite,
-        Task::Pause => Frame::AddressWrite,
-        Task::Address => Frame::AddressWrite,
-        Task::Send => Frame::DataWrite,
-        Task::Input => Frame::AddressRead,
-        Task::Output => Frame::AddressRead,
-        Task::Ident => Frame::DataRead,
-        Task::Status => Frame::DataRead,
-        Task::Compare => Frame::DataRead,
-    }
-}
-
-// The number of a stage's last act.
-pub fn last_act(stage: Stage) -> u16
-    ensures { λ r. ⌜ r ≡ last-act stage ⌝ }
+// How many acts a stage has: of a page in Erase, of a block in Write and Read.
+pub fn acts_in(stage: Stage) -> u16
+    ensures { λ r. ⌜ r ≡ acts-in stage ⌝ }
 {
     match stage {
-        Stage::Lead => 7,
-        Stage::Erase => 12,
-        Stage::Write => 524,
-        Stage::Read => 524,
-        Stage::Close => 0,
+        Stage::Lead => 8,
+        Stage::Erase => 13,
+        Stage::Write => 525,
+        Stage::Read => 525,
+        Stage::Close => 1,
     }
 }

@@ -1,7 +1,7 @@
 -- `range::ended_in_range` meets its contract: each return by the tests on its way and what the calls give.
 use mathlib.Core.Path.{sym, _∙_}
 use borrow.Author.Needs.{needs}
-use Rattle.position.specs.Range.{ended-in-range}
+use Rattle.session.specs.Range.{ended-in-range}
 use Rattle.range.proofs.ended_in_range.Statement.{statement}
 use Rattle.range.proofs.ended_in_range.Tie as tie
 

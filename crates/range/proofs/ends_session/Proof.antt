@@ -1,6 +1,6 @@
 -- `range::ends_session` meets its contract: each return by the tests on its way and what the calls give.
 use borrow.Author.Tests.{le-leb, lt-leb, ne-eqb}
-use Rattle.position.specs.Range.{ends-session}
+use Rattle.session.specs.Range.{ends-session}
 use Rattle.wire.specs.Bits.{number}
 use Rattle.range.proofs.ends_session.Statement.{statement}
 use Rattle.range.proofs.ends_session.Tie as tie

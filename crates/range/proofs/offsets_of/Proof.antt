@@ -1,7 +1,7 @@
 -- `range::offsets_of` meets its contract: each return by the tests on its way and what the calls give.
 use borrow.Author.Needs.{needs}
 use Rattle.laws.proofs.Pick.{picks}
-use Rattle.position.specs.Range.{offsets-of}
+use Rattle.session.specs.Range.{offsets-of}
 use Rattle.wire.specs.Bits.{number}
 use Rattle.range.proofs.offsets_of.Statement.{statement}
 use Rattle.range.proofs.offsets_of.Tie as tie

@@ -3,9 +3,6 @@ use borrow.Author.Needs.{needs}
 use Rattle.session.proofs.Session.framed.Statement.{statement}
 use Rattle.session.proofs.Session.framed.Tie as tie
 
-frame-of-requires : tie.Need-frame-of-requires
-frame-of-requires c κs = search needs
-
 follow-requires : tie.Need-follow-requires
 follow-requires c κs = search needs
 
@@ -13,7 +10,7 @@ settled-requires : tie.Need-settled-requires
 settled-requires c κs = search needs
 
 returns : tie.Need-returns
-returns c = rw (c .settled .ensures, c .before .follow .ensures 0, c .before .before .frame-of .ensures)
+returns c = rw (c .settled .ensures, c .before .follow .ensures 0)
 
 pub framed-spec : {M : Type 1} → statement M
-framed-spec = tie.close (tie.spec frame-of-requires follow-requires settled-requires returns)
+framed-spec = tie.close (tie.spec follow-requires settled-requires returns)

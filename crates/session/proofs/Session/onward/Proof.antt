@@ -5,8 +5,17 @@ use Rattle.session.specs.Machine.{onward}
 use Rattle.session.proofs.Session.onward.Statement.{statement}
 use Rattle.session.proofs.Session.onward.Tie as tie
 
-last-act-requires : tie.Need-last-act-requires
-last-act-requires c κs = search needs
+cast-if1 : tie.Need-cast-if1
+cast-if1 c = search needs
+
+add-if1 : tie.Need-add-if1
+add-if1 c = search needs
+
+acts-in-requires : tie.Need-acts-in-requires
+acts-in-requires c κs = search needs
+
+cast-if1-2 : tie.Need-cast-if1-2
+cast-if1-2 c = search needs
 
 add-begins : tie.Need-add-begins
 add-begins c = search needs
@@ -28,4 +37,4 @@ returns-2 c = search (needs, picks)
 pub onward-spec : {M : Type 1} → statement M
 onward-spec =
     tie.close
-    (tie.spec last-act-requires add-begins begins-requires returns next-stage-requires returns-2)
+    (tie.spec cast-if1 add-if1 acts-in-requires cast-if1-2 add-begins begins-requires returns next-stage-requires returns-2)

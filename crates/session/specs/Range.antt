@@ -15,12 +15,12 @@ use Rattle.tasks.specs.declared.Stage.{Stage}
 use Rattle.tasks.specs.declared.Stage.the-variants.{Lead, Erase, Write, Read, Close}
 use Rattle.tasks.specs.declared.Task.{Task}
 use Rattle.tasks.specs.declared.Task.the-variants.{Reset, Pause, Address, Send, Input, Output, Ident, Status, Compare}
 use Rattle.session.specs.declared.Point.{Point}
 use Rattle.session.specs.declared.Point.the-variants.{Running, Ended}
 use Rattle.session.specs.declared.Session.{Session}
-use Rattle.tasks.specs.Tasks.{task-of}
+use Rattle.tasks.specs.Tasks.{task-of, acts-in}
 
--- how many pages, blocks of a page and acts a stage has; one that is not in use is 0
+-- how many pages and blocks of a page a stage has; one that is not in use is 0
 abbrev pub pages-in : Stage → (pages : ℕ) → ℕ
 pages-in Lead n = 1
 pages-in Erase n = n
@@ -34,13 +34,6 @@ blocks-in Erase size = 1
 blocks-in Write size = size / 256
 blocks-in Read size = size / 256
 blocks-in Close size = 1
-
-abbrev pub acts-in : Stage → ℕ
-acts-in Lead = 8
-acts-in Erase = 13
-acts-in Write = 525
-acts-in Read = 525
-acts-in Close = 1
 
 -- the strobes of an act's frame, whatever byte it sends
 abbrev pub strobes-in : Task → List Strobe
