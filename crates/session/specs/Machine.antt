@@ -1,11 +1,12 @@
 -- The session as a value, and what a reply and an image make of it: the successor that is handed back.
-use mathlib.Core.Bool.{Bool, false, cond}
+use mathlib.Core.Bool.{Bool, true, false, cond}
 use mathlib.Core.List.{List}
 use Prim.Native.Nat.{ℕ, _+_, _/_, _%_}
 use lib.Dec.{eqb, ltb}
 use Rattle.numbers.specs.Numbers.{done, bad-reply, wait-limit-reached, poll-limit-reached, other-device, bad-status, compare-differs, no-image-byte}
 use Rattle.wire.specs.Frames.{frame}
 use Rattle.wire.specs.Place.{place, step-at, followed}
+use Rattle.wire.specs.declared.Frame.{Frame}
 use Rattle.wire.specs.declared.Frame.the-variants.{AddressWrite, AddressRead, DataWrite, DataRead}
 use Rattle.wire.specs.declared.Place.{Place}
 use Rattle.wire.specs.declared.Moved.{Moved}
@@ -109,17 +110,44 @@ settled limit (Within p) k s a n image = stays (a .stage) s a p image
 settled limit (Stopped x) k s a n image = judged limit k s a n x image
 settled limit WaitLimit k s a n image = ended wait-limit-reached
 
+-- the step of an act that stands in no frame, 0 for any other act; the frame of those (of the two it is not asked); and whether it sends a byte
+abbrev pub alone : Task → ℕ
+alone Reset = 4
+alone Pause = 5
+alone Address = 0
+alone Send = 0
+alone Input = 0
+alone Output = 0
+alone Ident = 0
+alone Status = 0
+alone Compare = 0
+
+abbrev pub frame-of : Task → Frame
+frame-of Reset = AddressWrite
+frame-of Pause = AddressWrite
+frame-of Address = AddressWrite
+frame-of Send = DataWrite
+frame-of Input = AddressRead
+frame-of Output = AddressRead
+frame-of Ident = DataRead
+frame-of Status = DataRead
+frame-of Compare = DataRead
+
+abbrev pub sends : Task → Bool
+sends Reset = false
+sends Pause = false
+sends Address = true
+sends Send = true
+sends Input = false
+sends Output = false
+sends Ident = false
+sends Status = false
+sends Compare = false
+
 -- a reply of 0 or 1; a step that stands in no frame is over at its reply
 abbrev pub task-taken : (wait-limit poll-limit : ℕ) → Task → Session → At → Place → Bool → List ℕ → Point
-task-taken w r Reset s a p b image = onward s a
-task-taken w r Pause s a p b image = onward s a
-task-taken w r Address s a p b image = settled r (followed w (frame AddressWrite 0) p b) Address s a (p .count) image
-task-taken w r Send s a p b image = settled r (followed w (frame DataWrite 0) p b) Send s a (p .count) image
-task-taken w r Input s a p b image = settled r (followed w (frame AddressRead 0) p b) Input s a (p .count) image
-task-taken w r Output s a p b image = settled r (followed w (frame AddressRead 0) p b) Output s a (p .count) image
-task-taken w r Ident s a p b image = settled r (followed w (frame DataRead 0) p b) Ident s a (p .count) image
-task-taken w r Status s a p b image = settled r (followed w (frame DataRead 0) p b) Status s a (p .count) image
-task-taken w r Compare s a p b image = settled r (followed w (frame DataRead 0) p b) Compare s a (p .count) image
+task-taken w r k s a p b image =
+    cond (eqb (alone k) 0) (settled r (followed w (frame (frame-of k) 0) p b) k s a (p .count) image) (onward s a)
 
 -- a reply that is neither 0 nor 1 comes first
 unfoldable pub replied : (wait-limit poll-limit : ℕ) → Session → At → Place → (reply : ℕ) → List ℕ → Point
@@ -137,16 +165,11 @@ advanced w r s reply image =
     record { settings = s .settings; first = s .first; pages = s .pages; point = point-advanced w r (s .point) s reply image }
 
 -- the step that a session waits at
+abbrev pub task-byte : Task → Session → At → List ℕ → ℕ
+task-byte k s a image = cond (sends k) (byte-of (stage-byte (a .stage) s a image)) 0
+
 abbrev pub task-step : Task → Session → At → (strobe : ℕ) → List ℕ → ℕ
-task-step Reset s a q image = 4
-task-step Pause s a q image = 5
-task-step Address s a q image = step-at (frame AddressWrite (byte-of (stage-byte (a .stage) s a image))) q
-task-step Send s a q image = step-at (frame DataWrite (byte-of (stage-byte (a .stage) s a image))) q
-task-step Input s a q image = step-at (frame AddressRead 0) q
-task-step Output s a q image = step-at (frame AddressRead 0) q
-task-step Ident s a q image = step-at (frame DataRead 0) q
-task-step Status s a q image = step-at (frame DataRead 0) q
-task-step Compare s a q image = step-at (frame DataRead 0) q
+task-step k s a q image = cond (eqb (alone k) 0) (step-at (frame (frame-of k) (task-byte k s a image)) q) (alone k)
 
 abbrev pub point-step : Point → Session → List ℕ → ℕ
 point-step (Running g i j k q c v) s image = task-step (task-of g k) s (at g i j k) q image

@@ -7,9 +7,7 @@ ghost use lib.Dec.{eqb};
 ghost use lib.ListN.{length};
 ghost use Rattle.tasks.specs.Tasks.{task-of, acts-in};
 ghost use Rattle.session.specs.Sent.{block-offset, high-byte, lead-byte, erase-byte, block-byte, image-byte, sent-offset, compared-offset, write-byte, stage-byte, byte-of};
-ghost use Rattle.session.specs.Machine.{at, running, ended, begins, next-write, next-page, next-read, next-stage, onward, again, differs, compared, compares, judged, sends-image, drives-image, wants, stays, settled, task-taken, replied, point-advanced, advanced, task-step, point-step, step-of};
-ghost use Rattle.wire.specs.Frames.{frame};
-ghost use Rattle.wire.specs.Place.{followed};
+ghost use Rattle.session.specs.Machine.{at, running, ended, begins, next-write, next-page, next-read, next-stage, onward, again, differs, compared, compares, judged, sends-image, drives-image, wants, stays, settled, alone, frame-of, sends, task-taken, replied, point-advanced, advanced, task-byte, task-step, point-step, step-of};
 use numbers::BAD_REPLY;
 use numbers::BAD_STATUS;
 use numbers::COMPARE_DIFFERS;
@@ -204,6 +202,57 @@ fn wants(wanted: Wanted, at: At, place: Place) -> Point
     match wanted {
         Wanted::Byte(_) => running(at, place),
         Wanted::Missing => ended(NO_IMAGE_BYTE),
+    }
+}
+
+// The step of an act that stands in no frame, 0 for any other.
+fn alone(task: Task) -> u8
+    ensures { λ r. ⌜ r ≡ alone task ⌝ }
+{
+    match task {
+        Task::Reset => 4,
+        Task::Pause => 5,
+        Task::Address => 0,
+        Task::Send => 0,
+        Task::Input => 0,
+        Task::Output => 0,
+        Task::Ident => 0,
+        Task::Status => 0,
+        Task::Compare => 0,
+    }
+}
+
+// The frame of an act. One that stands in no frame is not asked for it.
+fn frame_of(task: Task) -> Frame
+    ensures { λ r. ⌜ r ≡ frame-of task ⌝ }
+{
+    match task {
+        Task::Reset => Frame::AddressWrite,
+        Task::Pause => Frame::AddressWrite,
+        Task::Address => Frame::AddressWrite,
+        Task::Send => Frame::DataWrite,
+        Task::Input => Frame::AddressRead,
+        Task::Output => Frame::AddressRead,
+        Task::Ident => Frame::DataRead,
+        Task::Status => Frame::DataRead,
+        Task::Compare => Frame::DataRead,
+    }
+}
+
+// Whether an act's frame sends a byte.
+fn sends(task: Task) -> bool
+    ensures { λ r. ⌜ r ≡ sends task ⌝ }
+{
+    match task {
+        Task::Reset => false,
+        Task::Pause => false,
+        Task::Address => true,
+        Task::Send => true,
+        Task::Input => false,
+        Task::Output => false,
+        Task::Ident => false,
+        Task::Status => false,
+        Task::Compare => false,
     }
 }
 
@@ -454,29 +503,15 @@ impl Session {
         }
     }
 
-    // A reply to a strobe of the act's frame.
-    fn framed(self, kind: Frame, task: Task, at: At, place: Place, one: bool, image: &[u8]) -> Point
-        ensures { λ r. ⌜ r ≡ settled 256 (followed 20 (frame kind 0) place one) task self at (place .count) (now (image .entry)) ⌝ }
-    {
-        let moved = wire::follow(kind, place, one, Session::WAIT_LIMIT);
-        self.settled(moved, task, at, place.count, image)
-    }
-
     // A step that stands in no frame is over at its reply.
     fn task_taken(self, task: Task, at: At, place: Place, one: bool, image: &[u8]) -> Point
         ensures { λ r. ⌜ r ≡ task-taken 20 256 task self at place one (now (image .entry)) ⌝ }
     {
-        match task {
-            Task::Reset => self.onward(at),
-            Task::Pause => self.onward(at),
-            Task::Address => self.framed(Frame::AddressWrite, Task::Address, at, place, one, image),
-            Task::Send => self.framed(Frame::DataWrite, Task::Send, at, place, one, image),
-            Task::Input => self.framed(Frame::AddressRead, Task::Input, at, place, one, image),
-            Task::Output => self.framed(Frame::AddressRead, Task::Output, at, place, one, image),
-            Task::Ident => self.framed(Frame::DataRead, Task::Ident, at, place, one, image),
-            Task::Status => self.framed(Frame::DataRead, Task::Status, at, place, one, image),
-            Task::Compare => self.framed(Frame::DataRead, Task::Compare, at, place, one, image),
+        if alone(task) != 0 {
+            return self.onward(at);
         }
+        let moved = wire::follow(frame_of(task), place, one, Session::WAIT_LIMIT);
+        self.settled(moved, task, at, place.count, image)
     }
 
     fn taken(self, at: At, place: Place, reply: u8, image: &[u8]) -> Point
@@ -537,27 +572,25 @@ impl Session {
         }
     }
 
-    fn byte(self, at: At, image: &[u8]) -> u8
-        ensures { λ r. ⌜ r ≡ byte-of (stage-byte (at .stage) self at (now (image .entry))) ⌝ }
+    // The byte that the act's frame sends, 0 for a frame that reads.
+    fn task_byte(self, task: Task, at: At, image: &[u8]) -> u8
+        ensures { λ r. ⌜ r ≡ task-byte task self at (now (image .entry)) ⌝ }
     {
         let stage = at.stage;
-        byte_of(self.stage_byte(stage, at, image))
+        if sends(task) {
+            return byte_of(self.stage_byte(stage, at, image));
+        }
+        0
     }
 
     fn task_step(self, task: Task, at: At, strobe: usize, image: &[u8]) -> u8
         ensures { λ r. ⌜ r ≡ task-step task self at strobe (now (image .entry)) ⌝ }
     {
-        match task {
-            Task::Reset => 4,
-            Task::Pause => 5,
-            Task::Address => wire::step(Frame::AddressWrite, self.byte(at, image), strobe),
-            Task::Send => wire::step(Frame::DataWrite, self.byte(at, image), strobe),
-            Task::Input => wire::step(Frame::AddressRead, 0, strobe),
-            Task::Output => wire::step(Frame::AddressRead, 0, strobe),
-            Task::Ident => wire::step(Frame::DataRead, 0, strobe),
-            Task::Status => wire::step(Frame::DataRead, 0, strobe),
-            Task::Compare => wire::step(Frame::DataRead, 0, strobe),
+        let step = alone(task);
+        if step != 0 {
+            return step;
         }
+        wire::step(frame_of(task), self.task_byte(task, at, image), strobe)
     }
 
     fn point_step(self, point: Point, image: &[u8]) -> u8
