@@ -2,8 +2,8 @@
 
 CARGO := cargo run --quiet --offline --manifest-path compare/Cargo.toml --target-dir target/compare --
 
-# Crates come in levels, and edits crate by crate: four at a time leave no processor idle at the end of one.
-export RT_JOBS ?= 4
+# Crates come in levels, and edits in batches: six at a time, so that few processors wait for the longest of a batch.
+export RT_JOBS ?= 6
 
 LIBRARIES := target/staticlib/libprobe.a target/staticlib/libc2.a
 

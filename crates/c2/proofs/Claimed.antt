@@ -20,10 +20,10 @@ use Rattle.session.specs.declared.Session.{Session}
 use Rattle.session.specs.Machine.{advanced}
 use Rattle.position.specs.Position.{position, point-position, page-list, pages-from}
 use Rattle.position.proofs.Advancing.{advances}
-use Rattle.record.proofs.Claimed.{small, pack-unpack}
+use Rattle.record.proofs.Claimed.{small, pack-unpack, unpacked-exactly}
 use Rattle.range.proofs.Ranges.{opening-passes, ranges-are}
 use Rattle.c2.specs.Calls.{opened-session, exchange-at, after-replies}
-use Rattle.c2.specs.Claims.{session-after, Replies-follow, Parts-join}
+use Rattle.c2.specs.Claims.{session-after, Replies-follow, Records-stay, Parts-join}
 use Rattle.c2.proofs.Meeting.{Lent, lent-advances, exchange-after, lent-after}
 use Rattle.order.specs.Point
 
@@ -82,6 +82,12 @@ replies-follow t first image rs i f b e =
       left = sym (exchange-after (opened-session t first (length image)) image rs l)
           ∙ ap (λ (x : Exchange). fed x rs) (begins-so t first image e);
     }
+
+pub records-stay : Records-stay
+records-stay s r image rs e b w =
+    let x = unpacked-exactly 20 256 small s r .0 e in
+    let h = lent-after s image rs (record { id = x .id; bytes = b; range = x .ranges; whole = w }) in
+    pack-unpack 20 256 small (after-replies s image rs) (h .id) (rw (settings-stay s image rs) (x .fpdat)) (h .range)
 
 pub parts-join : Parts-join
 unfolding after-replies

@@ -40,6 +40,11 @@ Replies-follow = (t : Settings) (first : ℕ) (image replies : List ℕ) → t .
 abbrev pub Parts-join : Type 0
 Parts-join = (s : Session) (image qs rs : List ℕ) → after-replies (after-replies s image qs) image rs ≡ after-replies s image (qs ++ rs)
 
+-- Whatever record a call has taken, ours or not: the one that it writes after any replies is taken again, and holds the session that they lead to.
+abbrev pub Records-stay : Type 0
+Records-stay = (s : Session) (r image replies : List ℕ) → unpacked 20 256 r ≡ Held s → Bytes image → length image ≡ image-length s
+    → unpacked 20 256 (packed (after-replies s image replies)) ≡ Held (after-replies s image replies)
+
 -- The figure goes by the session and not by the image's bytes.
 abbrev pub Figure-of-any : Type 0
 Figure-of-any = (s : Session) (image : List ℕ) → in-range 20 256 s ≡ true → length image ≡ image-length s

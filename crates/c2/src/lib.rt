@@ -1,4 +1,5 @@
-// The driver's calls, in C: a session is opened, takes replies, and tells how much is left. Nothing is kept between calls but the record.
+// The calls in C. The driver's three: a session is opened, takes replies, and tells how much is left; nothing is kept between them but the record.
+// And the two of the modelled target, whose state is handed in and back.
 ghost use mathlib.Core.Path.{_≡_};
 ghost use mathlib.Core.List.{_++_};
 ghost use Prim.Native.Nat.{_≤_};
