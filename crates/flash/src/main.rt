@@ -30,7 +30,7 @@ fn run(image: &[u8]) -> Run {
         };
     }
     let mut flash = [0u8; 16384];
-    programming::program(device(), 0, image, &mut flash, &[], usize::MAX)
+    programming::c2_program(device(), 0, image, &mut flash, &[], usize::MAX)
 }
 
 // A refused image is none of its pages.

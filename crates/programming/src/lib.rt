@@ -23,6 +23,7 @@ use target::Point;
 use target::Target;
 
 // The session's number and the image offset for 14, the replies that it took, and whether the target has marked a collision.
+#[repr(C)]
 pub struct Run {
     pub number: u32,
     pub offset: u32,
@@ -121,7 +122,9 @@ fn flash_bytes(size: u32, count: u32) -> usize
 
 // Programs a fresh target with these settings, flash and delays: opens a session for the image from the first page on, and runs it for at most
 // so many replies. Refused by 1 to 5 as an opening is, and by 17 for a flash that is not size times count bytes; the flash is then unchanged.
-pub fn program(
+// The program calls it, and by its C name the benchmark.
+#[no_mangle]
+pub extern "C" fn c2_program(
     t: Settings,
     first: u32,
     image: &[u8],

@@ -1,11 +1,11 @@
--- `programming::program` meets its contract: each return by the laws of Running.
+-- `programming::c2_program` meets its contract: each return by the laws of Running.
 use mathlib.Core.Path.{refl, sym, _∙_}
 use lib.ListN.{replicate}
 use borrow.Author.Needs.{needs}
 use Rattle.c2.proofs.Calling.{bytes-all}
 use Rattle.programming.proofs.Running.{refuses-opening, refuses-flash, never, accepts}
-use Rattle.programming.proofs.program.Statement.{statement}
-use Rattle.programming.proofs.program.Tie as tie
+use Rattle.programming.proofs.c2_program.Statement.{statement}
+use Rattle.programming.proofs.c2_program.Tie as tie
 
 slice-aggregate-c2-open : tie.Need-slice-aggregate-c2-open
 slice-aggregate-c2-open c = search needs
@@ -74,8 +74,8 @@ returns-4 c =
     (sym (c .before .before .before .before .before .before .before .before .before .before .unpack .ensures) ∙ c .before .before .before .before .before .before .before .before .s .given .1) (c .before .before .before .before .before .before .before .before .before .before .before .before .if2 .left ∙ c .before .before .before .before .before .before .before .before .before .before .before .before .before .flash-bytes .ensures) _ _ _ _
     (play .0) (play .1 .0) (play .1 .1 .0) (play .1 .1 .1) _ (rw (c .before .outcome-of .ensures))
 
-pub program-spec : {M : Type 1} → statement M
-program-spec =
+pub c2-program-spec : {M : Type 1} → statement M
+c2-program-spec =
     tie.close
     (tie.spec
     slice-aggregate-c2-open
