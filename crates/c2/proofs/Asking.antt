@@ -14,10 +14,11 @@ use Rattle.record.specs.declared.Unpacked.{Unpacked}
 use Rattle.record.specs.declared.Unpacked.the-variants.{Held, Refused}
 use Rattle.record.specs.Record.{unpacked}
 use Rattle.c2.specs.declared.Remaining.{Remaining}
-use Rattle.c2.specs.Calls.{image-length, blank, remaining-answer}
+use Rattle.following.specs.Following.{image-length}
+use Rattle.c2.specs.Calls.{blank, remaining-answer}
 use Rattle.c2.specs.Claims.{Figure-of-any}
 use Rattle.outcome.specs.Standing.{number-of}
-use Rattle.c2.proofs.Meeting.{Lent, outcome-now}
+use Rattle.following.proofs.Meeting.{Lent, outcome-now}
 use Rattle.c2.proofs.Calling.{lent-held}
 
 pub blank-bytes : (n : ℕ) → Bytes (replicate n 0)

@@ -1,10 +1,10 @@
 -- What a call that takes replies answers and leaves, at each of its returns.
 use mathlib.Core.Path.{_≡_, refl, sym, ap, _∙_}
-use mathlib.Core.List.{List, [], _∷_, _++_, append-nil}
-use Prim.Native.Nat.{ℕ, suc, _+_, _<_, _≤_}
+use mathlib.Core.List.{List, _++_, append-nil}
+use Prim.Native.Nat.{ℕ, _+_, _<_, _≤_}
 use native.Mathlib.Omega.{arith}
 use borrow.Author.Tests.{le-leb, lt-leb, eq-eqb, ne-eqb}
-use lib.ListN.{length, getD, take, drop, drop-of-length-le}
+use lib.ListN.{length, take, drop, drop-of-length-le}
 use lib.Seq.{take-all}
 use Rattle.numbers.specs.Numbers.{bad-record, other-image, no-room}
 use Rattle.wire.specs.Bits.{Bytes}
@@ -15,16 +15,13 @@ use Rattle.record.specs.declared.Unpacked.the-variants.{Held, Refused}
 use Rattle.record.specs.Record.{packed, unpacked}
 use Rattle.record.proofs.Claimed.{small, packed-whole, unpack-pack, unpacked-exactly}
 use Rattle.c2.specs.declared.Advanced.{Advanced}
-use Rattle.c2.specs.Calls.{image-length, exchange-at, after-replies, taken-answer, refused-answer, steps-written, advance-answer, advance-steps, advance-record}
+use Rattle.following.specs.Following.{image-length, exchange-at, after-replies}
+use Rattle.c2.specs.Calls.{taken-answer, refused-answer, steps-written, advance-answer, advance-steps, advance-record}
 use Rattle.outcome.specs.Standing.{number-of, offset-of}
 use Rattle.c2.specs.Loop.{ran, wrote}
-use Rattle.c2.proofs.Meeting.{Lent, ran-is, wrote-is, outcome-is}
+use Rattle.following.proofs.Meeting.{Lent, outcome-is}
+use Rattle.c2.proofs.Meeting.{ran-is, wrote-is}
 use Rattle.wire.specs.Exchange
-
--- bytes, element by element
-pub bytes-all : (xs : List ℕ) → ((i : ℕ) → getD xs i 0 < 256) → Bytes xs
-bytes-all [] h = tt
-bytes-all (x ∷ xs) h = (h 0, bytes-all xs (λ i. h (suc i)))
 
 -- answer, step buffer and record afterwards
 abbrev pub Leaves : Unpacked → (image replies buffer : List ℕ) → (place : ℕ) → (record₀ : List ℕ) → Advanced → (buffer₁ record₁ : List ℕ) → Type 0

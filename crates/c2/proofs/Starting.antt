@@ -1,8 +1,7 @@
--- What an opening answers and leaves, at each of its returns, and that an accepted session's numbers fit.
+-- What an opening answers and leaves, at each of its returns.
 use mathlib.Core.Path.{_≡_, refl, sym, ap, _∙_}
 use mathlib.Core.List.{List, _++_, append-nil}
-use Prim.Native.Nat.{ℕ, _*_, _/_, _<_, _≤_}
-use native.Mathlib.Nat.{mul-comm}
+use Prim.Native.Nat.{ℕ, _≤_}
 use native.Mathlib.Omega.{arith}
 use borrow.Author.Tests.{eq-eqb, ne-eqb}
 use lib.ListN.{length, take, drop, drop-of-length-le}
@@ -10,24 +9,11 @@ use lib.Seq.{take-all}
 use Rattle.wire.specs.Step.{code}
 use Rattle.settings.specs.declared.Settings.{Settings}
 use Rattle.order.specs.Opening.{opening-refusal}
-use Rattle.order.proofs.Opened.{opened}
 use Rattle.record.specs.Record.{packed}
-use Rattle.range.proofs.Ranges.{opening-passes}
 use Rattle.record.proofs.Claimed.{packed-whole}
-use Rattle.record.proofs.Fitting.{Opening-fits, opening-fits}
 use Rattle.c2.specs.declared.Opened.{Opened}
-use Rattle.c2.specs.Calls.{opening-number, opened-session, opening-answer, record-opened}
-
--- a page is some bytes, and first page and number of pages are at most 128
-pub opening-size : (t : Settings) (first n : ℕ) → opening-refusal t first n ≡ 0 → 0 < t .size
-opening-size t first n e =
-    let f = opened t first n e .settings in
-    omega (arith, f .size, f .some)
-
-pub opening-small : (t : Settings) (first n : ℕ) → opening-refusal t first n ≡ 0 → Opening-fits t first (n / t .size)
-opening-small t first n e =
-    let w : n ≡ t .size * (n / t .size) = opened t first n e .whole ∙ mul-comm (n / t .size) (t .size) in
-    opening-fits t first (n / t .size) (opening-passes t first (n / t .size) (ap (λ (z : ℕ). opening-refusal t first z) (sym w) ∙ e))
+use Rattle.following.specs.Following.{opened-session}
+use Rattle.c2.specs.Calls.{opening-number, opening-answer, record-opened}
 
 -- answer and record afterwards
 abbrev pub Opens : Settings → (first n : ℕ) → (record₀ : List ℕ) → Opened → (record₁ : List ℕ) → Type 0

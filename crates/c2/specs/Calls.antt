@@ -1,7 +1,7 @@
 -- What each call of the C face answers and leaves in what it was lent, for all inputs (document 01, "Numbers that come back").
 use mathlib.Core.Bool.{cond}
-use mathlib.Core.List.{List, [], _∷_, _++_}
-use Prim.Native.Nat.{ℕ, _+_, _*_, _/_}
+use mathlib.Core.List.{List, _++_}
+use Prim.Native.Nat.{ℕ, _+_}
 use lib.Dec.{eqb, leb}
 use lib.ListN.{length, take, drop, replicate}
 use Rattle.numbers.specs.Numbers.{bad-record, other-image, no-room}
@@ -10,13 +10,10 @@ use Rattle.wire.specs.Exchange.{Exchange, fed, steps, outcome-of}
 use Rattle.settings.specs.declared.Settings.{Settings}
 use Rattle.order.specs.Opening.{opening-refusal}
 use Rattle.order.specs.Conversation.{session-limits}
-use Rattle.order.specs.Point.{left-to-say}
 use Rattle.order.specs.Figure.{figure}
-use Rattle.tasks.specs.declared.Stage.the-variants.{Lead}
-use Rattle.session.specs.declared.Point.the-variants.{Running}
 use Rattle.session.specs.declared.Session.{Session}
-use Rattle.session.specs.Machine.{advanced}
 use Rattle.position.specs.Position.{position}
+use Rattle.following.specs.Following.{image-length, exchange-at, after-replies}
 use Rattle.record.specs.declared.Unpacked.{Unpacked}
 use Rattle.record.specs.declared.Unpacked.the-variants.{Held, Refused}
 use Rattle.record.specs.Record.{packed}
@@ -29,10 +26,6 @@ use Rattle.wire.specs.Exchange
 unfoldable pub opening-number : (bytes : ℕ) → Settings → (first length : ℕ) → ℕ
 opening-number bytes t first n = cond (eqb bytes 32) (opening-refusal t first n) bad-record
 
--- the session at its first step, the reset
-unfoldable pub opened-session : Settings → (first length : ℕ) → Session
-opened-session t first n = record { settings = t; first = first; pages = n / t .size; point = Running Lead 0 0 0 0 0 0 }
-
 -- the answer: the first step is 4, or 6 when refused
 unfoldable pub opening-answer : (number : ℕ) → Opened
 opening-answer n = record { number = n; step = cond (eqb n 0) (code reset) (code off) }
@@ -41,23 +34,10 @@ opening-answer n = record { number = n; step = cond (eqb n 0) (code reset) (code
 unfoldable pub record-opened : (number : ℕ) → Session → List ℕ → List ℕ
 record-opened n s r = cond (eqb n 0) (packed s) r
 
--- Taking replies. The length of a session's image,
-abbrev pub image-length : Session → ℕ
-image-length s = s .settings .size * s .pages
-
--- and the number by which the call is refused before any reply: 6, 7, 8.
+-- Taking replies. The number by which the call is refused before any reply: 6, 7, 8.
 abbrev pub held-number : Unpacked → (image replies buffer place : ℕ) → ℕ
 held-number (Held s) n m k place = cond (eqb n (image-length s)) (cond (leb (place + m) k) 0 no-room) other-image
 held-number Refused n m k place = bad-record
-
--- what a session leaves to say, lent its image
-abbrev pub exchange-at : Session → (image : List ℕ) → Exchange
-exchange-at s image = left-to-say session-limits (position s image)
-
--- the session after replies
-unfoldable pub after-replies : Session → (image replies : List ℕ) → Session
-after-replies s image [] = s
-after-replies s image (r ∷ rs) = after-replies (advanced 20 256 s r image) image rs
 
 -- the answer, by the exchange: the outcome and the replies taken
 unfoldable pub taken-answer : Exchange → (replies : List ℕ) → Advanced

@@ -17,7 +17,8 @@ use Rattle.session.specs.Range.{in-range}
 use Rattle.position.specs.Position.{position}
 use Rattle.record.specs.declared.Unpacked.the-variants.{Held}
 use Rattle.record.specs.Record.{packed, unpacked}
-use Rattle.c2.specs.Calls.{opened-session, image-length, exchange-at, after-replies, blank}
+use Rattle.following.specs.Following.{opened-session, image-length, exchange-at, after-replies}
+use Rattle.c2.specs.Calls.{blank}
 
 -- the session that was opened, after replies
 abbrev pub session-after : Settings → (first : ℕ) → (image replies : List ℕ) → Session

@@ -4,13 +4,13 @@ ghost use mathlib.Core.Path.{_≡_};
 ghost use mathlib.Core.List.{_++_};
 ghost use Prim.Native.Nat.{_≤_};
 ghost use lib.ListN.{length, drop};
-ghost use Rattle.order.specs.Opening.{opening-refusal};
 ghost use Rattle.record.specs.Record.{unpacked};
 ghost use Rattle.outcome.specs.Standing.{number-of, offset-of};
 ghost use Rattle.target.specs.Target.{fresh};
 ghost use Rattle.model.specs.State.{state-of};
 ghost use Rattle.model.specs.Model.{model-answer, model-flash};
-ghost use Rattle.c2.specs.Calls.{opening-number, opened-session, opening-answer, record-opened, refused-answer, advance-answer, advance-steps, advance-record, remaining-answer};
+ghost use Rattle.following.specs.Following.{opened-session};
+ghost use Rattle.c2.specs.Calls.{opening-number, opening-answer, record-opened, refused-answer, advance-answer, advance-steps, advance-record, remaining-answer};
 ghost use Rattle.c2.specs.Loop.{ran, wrote};
 use model::ModelReplied;
 use model::State;
@@ -21,10 +21,8 @@ use numbers::RUNNING;
 use outcome::is_running;
 use outcome::outcome_of;
 use record::Unpacked;
-use session::Point;
 use session::Session;
 use settings::Settings;
-use tasks::Stage;
 
 // The number of an opening, and its first step: 4, or 6 when refused.
 #[repr(C)]
@@ -102,27 +100,6 @@ fn answer(s: Session, taken: usize) -> Advanced
     }
 }
 
-// A session at its first step, for settings, first page and image length that opening accepts.
-fn start(t: Settings, first: u32, bytes: usize) -> Session
-    requires { ⌜ opening-refusal t first bytes ≡ 0 ⌝ }
-    ensures { λ r. ⌜ r ≡ opened-session t first bytes ⌝ }
-{
-    Session {
-        settings: t,
-        first: first as u16,
-        pages: (bytes / (t.size as usize)) as u16,
-        point: Point::Running {
-            stage: Stage::Lead,
-            page: 0,
-            block: 0,
-            act: 0,
-            strobe: 0,
-            count: 0,
-            bits: 0,
-        },
-    }
-}
-
 // Opens a session for the image's pages, from the first page on. A record that is not 32 bytes is tested first, then 1 to 5, in this order; a
 // refused opening changes no byte.
 #[no_mangle]
@@ -143,7 +120,7 @@ pub extern "C" fn c2_open(held: &mut [u8], image: &[u8], t: Settings, first: u32
             step: 6,
         };
     }
-    let fresh = record::pack(start(t, first, image.len()));
+    let fresh = record::pack(following::start(t, first, image.len()));
     bytes::copy(&fresh, held);
     Opened {
         number: RUNNING,

@@ -9,4 +9,5 @@ pub mod Whole
 pub mod Replying
 pub mod Keeping
 pub mod Left
+pub mod Fresh
 pub mod Examples

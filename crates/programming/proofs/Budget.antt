@@ -18,8 +18,8 @@ use Rattle.playing.specs.Playing.{against, whole-step, play}
 use Rattle.playing.proofs.Replying.{reply-small, after-small}
 use Rattle.playing.proofs.Whole.{programmed}
 use Rattle.programming.specs.Run.{Left, played, run-refusal, run, run-answer, run-flash}
-use Rattle.programming.specs.Whole.{Runs-program}
-use Rattle.programming.proofs.Programmed.{fresh-met}
+use Rattle.programming.specs.Claims.{Runs-program}
+use Rattle.playing.proofs.Fresh.{fresh-met}
 
 -- the end of an exchange against the target
 pub record Ends (u : Setup) (e : Exchange) (y : Target) (f : List ℕ) (p : Left) : Type 0 where

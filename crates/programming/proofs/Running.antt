@@ -1,22 +1,20 @@
 -- The session and the target, step by step, are the exchange played against the target; and what the function answers by them.
 use mathlib.Core.Path.{_≡_, refl, sym, ap, _∙_}
 use mathlib.Core.Bool.{Bool, true, false}
-use mathlib.Core.List.{List, []}
+use mathlib.Core.List.{List}
 use Prim.Native.Nat.{ℕ, zero, suc, _+_, _*_, _%_, _<_}
 use native.Mathlib.Nat.{mod-eq-of-lt}
 use native.Mathlib.Omega.{arith}
 use borrow.Author.Tests.{eq-eqb, ne-eqb}
-use lib.Dec.{eqb}
 use lib.ListN.{length}
 use Rattle.laws.proofs.Testing.{by-test}
 use Rattle.numbers.specs.Numbers.{no-point}
 use Rattle.wire.specs.Bits.{Bytes}
 use Rattle.wire.specs.Step.{Step}
 use Rattle.wire.specs.Field.{Field}
-use Rattle.wire.specs.Exchange.{Exchange, Outcome, strobe, fed, asks, outcome-of}
+use Rattle.wire.specs.Exchange.{Exchange, Outcome, strobe, asks, outcome-of}
 use Rattle.settings.specs.declared.Settings.{Settings}
 use Rattle.order.specs.Opening.{opening-refusal}
-use Rattle.order.specs.Claims.{Opening}
 use Rattle.session.specs.declared.Session.{Session}
 use Rattle.session.specs.Machine.{advanced, step-of}
 use Rattle.outcome.specs.Standing.{is-running, number-of, offset-of}
@@ -26,17 +24,13 @@ use Rattle.target.specs.declared.Target.{Target}
 use Rattle.target.specs.Delays.{Setup, setup}
 use Rattle.target.specs.Target.{fresh, answer, flash-after}
 use Rattle.target.specs.Target as target
-use Rattle.record.specs.declared.Unpacked.the-variants.{Held, Refused}
-use Rattle.record.specs.Record.{packed, unpacked}
-use Rattle.c2.specs.declared.Opened.{Opened}
 use Rattle.playing.proofs.Replying.{reply-small}
-use Rattle.c2.specs.Calls.{opening-number, opened-session, opening-answer, record-opened, exchange-at, after-replies}
-use Rattle.c2.proofs.Meeting.{Lent, lent-advances, still-asks, ended-over, outcome-now}
-use Rattle.c2.proofs.Calling.{lent-held}
+use Rattle.following.specs.Following.{started, opened-session, exchange-at}
+use Rattle.following.proofs.Beginning.{started-is, begins-lent, begins-so}
+use Rattle.following.proofs.Meeting.{Lent, lent-advances, still-asks, ended-over, outcome-now}
 use Rattle.programming.specs.Closed.{Closed, closed}
 use Rattle.programming.specs.Run.{Left, one-more, played, run-refusal, run, run-answer, run-flash}
 use Rattle.programming.specs.declared.Run.{Run}
-use Rattle.programming.proofs.Taking.{after}
 use Rattle.wire.specs.Exchange
 
 -- one as the other, from any session and target on
@@ -95,46 +89,26 @@ closed-lent (suc n) i t ds image s y f h =
 abbrev pub Leaves : Settings → (first : ℕ) → (image flash delays : List ℕ) → (budget : ℕ) → Run → (flash₁ : List ℕ) → Type 0
 Leaves t first image f ds n a f₁ = (a ≡ run-answer t first image f ds n) × (f₁ ≡ run-flash t first image f ds n)
 
-module _ (t : Settings) (first : ℕ) (image f ds : List ℕ) (n : ℕ) (h : List ℕ) (e : length h ≡ 32) (q : Opened)
-    (opens : q ≡ opening-answer (opening-number (length h) t first (length image))) where
-  number-is : q .number ≡ opening-refusal t first (length image)
-  unfolding opening-answer opening-number
-  number-is = ap (λ (x : Opened). x .number) opens ∙ rw e
-
-  pub refuses-opening : (q .number ≡ 0 → ⊥) → (a : Run) → a ≡ record { number = q .number; offset = 0; replies = 0; collision = false } → Leaves t first image f ds n a f
+module _ (t : Settings) (first : ℕ) (image f ds : List ℕ) (n k : ℕ) (tested : k ≡ opening-refusal t first (length image)) where
+  pub refuses-opening : (k ≡ 0 → ⊥) → (a : Run) → a ≡ record { number = k; offset = 0; replies = 0; collision = false } → Leaves t first image f ds n a f
   unfolding run-answer run-flash run-refusal
-  refuses-opening differs a d =
-      let z : eqb (opening-refusal t first (length image)) 0 ≡ false = ne-eqb _ 0 (λ x. differs (number-is ∙ x)) in
-      rw (z, z) (d ∙ ap (λ (m : ℕ). record { number = m; offset = 0; replies = 0; collision = false }) number-is, refl)
+  refuses-opening differs a d = rw (sym tested, ne-eqb k 0 differs, ne-eqb k 0 differs) (d, refl)
 
-  module _ (opened : q .number ≡ 0) where
+  module _ (passed : k ≡ 0) where
     accepted : opening-refusal t first (length image) ≡ 0
-    accepted = sym number-is ∙ opened
+    accepted = sym tested ∙ passed
 
     pub refuses-flash : (length f ≡ t .size * t .count → ⊥) → (a : Run) → a ≡ record { number = no-point; offset = 0; replies = 0; collision = false }
         → Leaves t first image f ds n a f
     unfolding run-answer run-flash run-refusal
     refuses-flash differs a d = rw (accepted, ne-eqb (length f) (t .size * t .count) differs) (d, refl)
 
-    module _ (i : t .id < 256) (p : t .fpdat < 256) (b : Bytes image) (held : List ℕ)
-        (keeps : held ≡ record-opened (opening-number (length h) t first (length image)) (opened-session t first (length image)) h) where
-      o : Opening t first image
-      o = record { id = i; fpdat = p; bytes = b; accepted = accepted }
-
+    module _ (i : t .id < 256) (b : Bytes image) where
       abbrev os : Session
       os = opened-session t first (length image)
 
-      held-is : unpacked 20 256 held ≡ Held (opened-session t first (length image))
-      unfolding opening-number record-opened after-replies
-      held-is = ap (unpacked 20 256) (keeps ∙ rw (e, accepted)) ∙ after t first image o [] .held
-
-      -- the record holds the session that was opened
-      pub never : unpacked 20 256 held ≡ Refused → ⊥
-      never r = let d : Refused ≡ Held os = sym r ∙ held-is in let z : _≡_ {A = ℕ} 0 1 = cc in omega arith
-
       lent : Lent os image
-      unfolding after-replies
-      lent = let k = after t first image o [] in lent-held (packed os) image os (k .held) b (k .whole)
+      lent = begins-lent t first image accepted i b
 
       abbrev end : Closed
       end = closed n 0 t ds image os fresh f
@@ -144,22 +118,21 @@ module _ (t : Settings) (first : ℕ) (image f ds : List ℕ) (n : ℕ) (h : Lis
 
       -- the run is the session and the target, step by step
       run-is : Same image 0 ran end
-      unfolding run after-replies fed
-      run-is = rw (sym (after t first image o [] .left)) (same n 0 t ds image os fresh f lent)
+      unfolding run
+      run-is = rw (sym (begins-so t first image accepted)) (same n 0 t ds image os fresh f lent)
 
       outcome-is : outcome-of (ran .exchange) ≡ record { number = number-of (end .session .point); offset = offset-of (end .session .point) }
       outcome-is =
           ap outcome-of (run-is .exchange) ∙ outcome-now (end .session) image (closed-lent n 0 t ds image os fresh f lent)
 
-      pub accepts : (s : Session) → unpacked 20 256 held ≡ Held s → length f ≡ t .size * t .count → (x : Session) (y : Target) (m : ℕ) (f₁ : List ℕ)
+      pub accepts : (s : Session) → s ≡ started t first (length image) → length f ≡ t .size * t .count → (x : Session) (y : Target) (m : ℕ) (f₁ : List ℕ)
           → x ≡ closed n 0 t ds image s fresh f .session → y ≡ closed n 0 t ds image s fresh f .target → m ≡ closed n 0 t ds image s fresh f .replies
           → f₁ ≡ closed n 0 t ds image s fresh f .flash
           → (a : Run) → a ≡ record { number = number-of (x .point); offset = offset-of (x .point); replies = m; collision = y .collision }
           → Leaves t first image f ds n a f₁
       unfolding run-answer run-flash run-refusal
       accepts s g l x y m f₁ ex ey em ef a ea =
-          let d : Held s ≡ Held os = sym g ∙ held-is in
-          let so : s ≡ os = cc in
+          let so : s ≡ os = g ∙ started-is t first (length image) accepted in
           let point = ap (λ (z : Session). z .point) (rw so at ex) in
           let number = ap number-of point ∙ sym (ap (λ (z : Outcome). z .number) outcome-is) in
           let offset = ap offset-of point ∙ sym (ap (λ (z : Outcome). z .offset) outcome-is) in

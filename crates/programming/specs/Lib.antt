@@ -1,6 +1,3 @@
-pub mod Calls
-pub mod Claims
-pub mod Target
-pub mod Closed
 pub mod Run
-pub mod Whole
+pub mod Claims
+pub mod Closed

@@ -1,18 +1,15 @@
-// A session run against a fresh target, over lent buffers. The claims about whole lists of calls, with and without the target, stand in specs/ and
-// are proved in proofs/.
+// A session run against a fresh target, over lent buffers.
 ghost use mathlib.Core.Path.{_≡_};
 ghost use mathlib.Core.Bool.{false};
 ghost use Prim.Native.Nat.{_*_, _%_};
 ghost use Rattle.target.specs.Target.{fresh};
 ghost use Rattle.programming.specs.Closed.{closed};
 ghost use Rattle.programming.specs.Run.{run-answer, run-flash};
-use c2::c2_open;
-use numbers::BAD_RECORD;
 use numbers::NO_POINT;
 use numbers::RUNNING;
+use opening::opening_refusal;
 use outcome::is_running;
 use outcome::outcome_of;
-use record::Unpacked;
 use session::Session;
 use settings::Settings;
 use target::Command;
@@ -135,18 +132,15 @@ pub extern "C" fn c2_program(
     ensures { λ r. ⌜ r ≡ run-answer t first (now (image .entry)) (now (flash .entry)) (now (delays .entry)) budget ⌝ }
     ensures { λ _. ⌜ now (flash .exit) ≡ run-flash t first (now (image .entry)) (now (flash .entry)) (now (delays .entry)) budget ⌝ }
 {
-    let mut held = [0u8; 32];
-    let opened = c2_open(&mut held, image, t, first);
-    if opened.number != RUNNING {
-        return refused(opened.number);
+    let number = opening_refusal(t, first, image.len());
+    if number != RUNNING {
+        return refused(number);
     }
     if flash.len() != flash_bytes(t.size, t.count) {
         return refused(NO_POINT);
     }
-    let Unpacked::Held(s) = record::unpack(&held) else {
-        return refused(BAD_RECORD);
-    };
-    let ran = play(s, t, image, flash, delays, budget);
+    let start = following::start(t, first, image.len());
+    let ran = play(start, t, image, flash, delays, budget);
     let end = ran.session;
     let point = end.point;
     let outcome = outcome_of(point);

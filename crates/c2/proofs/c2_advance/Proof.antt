@@ -4,7 +4,8 @@ use native.Mathlib.Omega.{arith}
 use borrow.Author.Needs.{needs}
 use Rattle.c2.specs.Loop.{wrote}
 use Rattle.c2.proofs.Looping.{put-back}
-use Rattle.c2.proofs.Calling.{bytes-all, refuses-record, refuses-image, refuses-room, accepts, lent-held, record-fits, record-replaced}
+use Rattle.following.proofs.Meeting.{bytes-all}
+use Rattle.c2.proofs.Calling.{refuses-record, refuses-image, refuses-room, accepts, lent-held, record-fits, record-replaced}
 use Rattle.c2.proofs.c2_advance.Statement.{statement}
 use Rattle.c2.proofs.c2_advance.Tie as tie
 

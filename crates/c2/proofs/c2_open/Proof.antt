@@ -1,6 +1,7 @@
 -- `c2::c2_open` meets its contract: each return by the laws of Starting.
-use mathlib.Core.Path.{ap, _∙_}
+use mathlib.Core.Path.{sym, ap, _∙_}
 use borrow.Author.Needs.{needs}
+use Rattle.following.proofs.Beginning.{started-is}
 use Rattle.record.specs.Record.{packed}
 use Rattle.c2.proofs.Starting.{refuses-size, refuses-opening, opens}
 use Rattle.c2.proofs.c2_open.Statement.{statement}
@@ -32,7 +33,7 @@ same-length c = search needs
 
 returns-3 : tie.Need-returns-3
 returns-3 c =
-    let packs = c .before .before .before .before .before .pack .ensures ∙ ap packed (c .before .before .before .before .before .before .start .ensures) in
+    let packs = c .before .before .before .before .before .pack .ensures ∙ ap packed (c .before .before .before .before .before .before .start .ensures ∙ started-is _ _ _ (sym (c .before .before .before .before .before .before .before .before .opening-refusal .ensures) ∙ c .before .before .before .before .before .before .before .if2 .left)) in
     opens _ _ _ _ (c .before .before .before .before .before .before .before .before .before .if1 .left) _ (c .before .before .before .before .before .before .before .before .opening-refusal .ensures) (c .before .before .before .before .before .before .before .if2 .left) _ _ packs (c .before .before .copy .ensures .1)
 
 pub c2-open-spec : {M : Type 1} → statement M

@@ -14,13 +14,14 @@ use Rattle.order.specs.Claims.{Opening}
 use Rattle.record.specs.declared.Unpacked.{Unpacked}
 use Rattle.record.specs.declared.Unpacked.the-variants.{Held, Refused}
 use Rattle.record.specs.Record.{packed, unpacked}
-use Rattle.c2.specs.Calls.{opening-number, opened-session, opening-answer, record-opened, held-number, after-replies, refused-answer, advance-answer, advance-steps, advance-record, asked-number, remaining-answer}
+use Rattle.following.specs.Following.{opened-session, after-replies}
+use Rattle.c2.specs.Calls.{opening-number, opening-answer, record-opened, held-number, refused-answer, advance-answer, advance-steps, advance-record, asked-number, remaining-answer}
 use Rattle.c2.specs.Claims.{session-after}
-use Rattle.c2.proofs.Meeting.{outcome-now}
+use Rattle.following.proofs.Meeting.{outcome-now}
 use Rattle.c2.proofs.Calling.{lent-held}
-use Rattle.programming.specs.Calls.{Call, opening, taking, asking, refusal, Told, opened, accepted, heard, told, As-left, May-follow, replies-of, in-a-row, by-replies}
-use Rattle.programming.specs.Claims.{Lists-are-replies, Lists-alike, Like-one-call, Refused-unchanged}
-use Rattle.programming.proofs.Taking.{after, left-told, takes, asks}
+use Rattle.calls.specs.Calls.{Call, opening, taking, asking, refusal, Told, opened, accepted, heard, told, As-left, May-follow, replies-of, in-a-row, by-replies}
+use Rattle.calls.specs.Claims.{Lists-are-replies, Lists-alike, Like-one-call, Refused-unchanged}
+use Rattle.calls.proofs.Taking.{after, left-told, takes, asks}
 
 module _ (t : Settings) (first : ℕ) (image : List ℕ) (o : Opening t first image) where
   abbrev by : (replies : List ℕ) → Told

@@ -12,7 +12,7 @@ use Rattle.settings.specs.declared.Settings.{Settings}
 use Rattle.model.specs.declared.State.{State}
 use Rattle.model.specs.Model.{model-answer, model-flash}
 use Rattle.playing.specs.Programmed.{laid-over}
-use Rattle.programming.specs.Calls.{Call, Told, in-a-row}
+use Rattle.calls.specs.Calls.{Call, Told, in-a-row}
 
 -- the target's replies to steps in a row,
 unfoldable pub own-replies : Settings → (delays : List ℕ) → State → (flash steps : List ℕ) → List ℕ

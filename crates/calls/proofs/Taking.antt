@@ -22,13 +22,14 @@ use Rattle.record.specs.declared.Unpacked.the-variants.{Held}
 use Rattle.record.specs.Record.{packed, unpacked}
 use Rattle.c2.specs.declared.Advanced.{Advanced}
 use Rattle.c2.specs.declared.Remaining.{Remaining}
-use Rattle.c2.specs.Calls.{opened-session, image-length, held-number, exchange-at, after-replies, taken-answer, steps-written, advance-answer, advance-steps, advance-record, blank, remaining-answer}
+use Rattle.following.specs.Following.{opened-session, image-length, exchange-at, after-replies}
+use Rattle.c2.specs.Calls.{held-number, taken-answer, steps-written, advance-answer, advance-steps, advance-record, blank, remaining-answer}
 use Rattle.c2.specs.Claims.{session-after, Follows}
-use Rattle.c2.proofs.Meeting.{outcome-now}
+use Rattle.following.proofs.Meeting.{outcome-now}
 use Rattle.c2.proofs.Calling.{lent-held}
 use Rattle.c2.proofs.Asking.{blank-bytes, figure-of-any}
 use Rattle.c2.proofs.Claimed.{replies-follow, parts-join}
-use Rattle.programming.specs.Calls.{told-left, after-taking, after-asking, by-replies}
+use Rattle.calls.specs.Calls.{told-left, after-taking, after-asking, by-replies}
 use Rattle.wire.specs.Exchange
 
 -- what a step buffer holds from the place on, as far as steps were written

@@ -1,6 +1,5 @@
 -- Demand 3, whole: lists of calls against the target. Types alone: `Programmed` in proofs/ proves each.
 use mathlib.Core.Path.{_≡_}
-use mathlib.Core.Bool.{false}
 use mathlib.Core.List.{List}
 use Prim.Native.Nat.{ℕ, _*_, _≤_}
 use lib.ListN.{length}
@@ -9,18 +8,12 @@ use Rattle.wire.specs.Bits.{Bytes}
 use Rattle.wire.specs.Exchange.{outcome}
 use Rattle.settings.specs.declared.Settings.{Settings}
 use Rattle.settings.specs.Accepted.{settings-refusal}
-use Rattle.order.specs.Order.{session-order}
-use Rattle.order.specs.Conversation.{session-limits}
-use Rattle.order.specs.Point.{begin}
-use Rattle.order.specs.Figure.{figure}
 use Rattle.order.specs.Claims.{Opening}
 use Rattle.target.specs.Target.{fresh}
 use Rattle.model.specs.declared.State.{State}
 use Rattle.model.specs.State.{state-of}
-use Rattle.playing.specs.Programmed.{laid-over}
-use Rattle.programming.specs.Run.{run-answer, run-flash}
-use Rattle.programming.specs.Calls.{Call, opened, told, May-follow, in-a-row, by-replies}
-use Rattle.programming.specs.Target.{state-after, flash-after, Ready, answered, Own, Programmed}
+use Rattle.calls.specs.Calls.{Call, opened, told, May-follow, in-a-row, by-replies}
+use Rattle.calls.specs.Target.{state-after, flash-after, Ready, answered, Own, Programmed}
 
 -- One claim about every list of calls after an accepted opening, over one image and against one target with the same settings. What the calls
 -- tell is what the replies in a row come to. Where each reply taken is the target's own: the session has ended done at the latest after as many
@@ -58,14 +51,3 @@ Left-ready = (t : Settings) (first : ℕ) (image held : List ℕ) → Opening t 
     → (calls : List Call) → May-follow image (opened held image t first) calls
     → (ds f : List ℕ) (s : State) → Ready t ds f s → Own t ds s f (told (opened held image t first) calls) calls
     → Ready t ds (flash-after t ds s f (answered (told (opened held image t first) calls))) (state-after t ds s f (answered (told (opened held image t first) calls)))
-
--- The function that runs a session against a fresh target: with a budget of as many replies as the most steps to come at the opening it ends
--- done, without a mark, and leaves the flash with the image laid over it.
-pub record Ran-well (t : Settings) (first : ℕ) (image f ds : List ℕ) (budget : ℕ) : Type 0 where
-  pub ended : run-answer t first image f ds budget .number ≡ done
-  pub clean : run-answer t first image f ds budget .collision ≡ false
-  pub holds : run-flash t first image f ds budget ≡ laid-over (first * t .size) image f
-
-abbrev pub Runs-program : Type 0
-Runs-program = (t : Settings) (first : ℕ) (image f ds : List ℕ) (budget : ℕ) → Opening t first image → length f ≡ t .size * t .count → Bytes f → Bytes ds
-    → figure session-limits (begin (session-order t first image)) ≤ budget → Ran-well t first image f ds budget

@@ -12,7 +12,8 @@ use Rattle.order.specs.Conversation.{session-limits}
 use Rattle.order.specs.Figure.{figure}
 use Rattle.order.specs.Claims.{exchange-of, point-after}
 use Rattle.record.specs.Record.{packed, unpacked}
-use Rattle.c2.specs.Calls.{opening-number, opened-session, opening-answer, record-opened, held-number, advance-answer, advance-steps, advance-record, asked-number, remaining-answer}
+use Rattle.following.specs.Following.{opened-session}
+use Rattle.c2.specs.Calls.{opening-number, opening-answer, record-opened, held-number, advance-answer, advance-steps, advance-record, asked-number, remaining-answer}
 use Rattle.c2.specs.Claims.{session-after}
 use Rattle.wire.specs.Exchange
 

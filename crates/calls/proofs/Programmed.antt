@@ -7,7 +7,7 @@ use borrow.Author.Tests.{eqb-true, eq-eqb}
 use lib.Dec.{eqb}
 use lib.ListN.{length, take, replicate, length-replicate}
 use Rattle.laws.proofs.Testing.{by-test}
-use Rattle.wire.specs.Bits.{Bytes, bit}
+use Rattle.wire.specs.Bits.{bit}
 use Rattle.wire.specs.Step.{reset, code}
 use Rattle.wire.specs.Frames.{strobes}
 use Rattle.wire.specs.Exchange.{Exchange, ended, strobe, fed, asks, steps, taken, outcome-of}
@@ -21,21 +21,21 @@ use Rattle.order.specs.Figure.{figure}
 use Rattle.order.specs.Claims.{Opening, exchange-of}
 use Rattle.target.specs.declared.Target.{Target}
 use Rattle.target.specs.Delays.{setup}
-use Rattle.target.specs.Known.{known, known-point, known-link, known-command, known-output, is-byte}
-use Rattle.target.specs.Target.{cleared, fresh}
+use Rattle.target.specs.Target.{fresh}
 use Rattle.model.specs.declared.State.{State}
 use Rattle.model.specs.State.{state-of}
 use Rattle.playing.specs.Playing.{left-by}
-use Rattle.playing.specs.Programmed.{Met, laid-over}
+use Rattle.playing.specs.Programmed.{laid-over}
 use Rattle.playing.proofs.Knowing.{Lent}
 use Rattle.playing.proofs.Whole.{programmed}
 use Rattle.playing.proofs.Replying.{own-ends, played-replies}
+use Rattle.playing.proofs.Fresh.{fresh-met}
 use Rattle.playing.proofs.Left.{Lasts, own-replies-leave, own-replies-program}
-use Rattle.programming.specs.Calls.{Call, taking, refusal, Told, opened, May-follow, replies-of, in-a-row, by-replies}
-use Rattle.programming.specs.Target.{own-replies, state-after, flash-after, Ready, answered, Programmed}
-use Rattle.programming.specs.Whole.{Calls-program, Calls-exist, Fresh-ready, Left-ready}
-use Rattle.programming.proofs.Claimed.{opens, accepts, lists-are-replies}
-use Rattle.programming.proofs.Targets.{stands, ready, replies-alike, state-alike, flash-alike}
+use Rattle.calls.specs.Calls.{Call, taking, refusal, Told, opened, May-follow, replies-of, in-a-row, by-replies}
+use Rattle.calls.specs.Target.{own-replies, state-after, flash-after, Ready, answered, Programmed}
+use Rattle.calls.specs.Whole.{Calls-program, Calls-exist, Fresh-ready, Left-ready}
+use Rattle.calls.proofs.Claimed.{opens, accepts, lists-are-replies}
+use Rattle.calls.proofs.Targets.{stands, ready, replies-alike, state-alike, flash-alike}
 use Rattle.playing.specs.Playing
 use Rattle.playing.specs.Programmed as Definitions
 
@@ -165,19 +165,6 @@ pub left-ready : Left-ready
 left-ready t first image held o n calls m ds f s r own =
     let same = lists-are-replies t first image held o n calls m in
     rw same (leaves t first image o (in-a-row calls) ds f s r (rw same at own))
-
-pub fresh-met : (t : Settings) (ds f : List ℕ) → length f ≡ t .size * t .count → Bytes f → Bytes ds → Met session-limits (setup t ds) fresh f
-unfolding fresh cleared known known-point known-link known-command known-output is-byte
-fresh-met t ds f n b d =
-    record {
-      state = rw (eq-eqb (length f) (t .size * t .count) n);
-      unmarked = refl;
-      flash = b;
-      delays = d;
-      some = omega arith;
-      wait = omega arith;
-      reads = omega arith;
-    }
 
 pub fresh-ready : Fresh-ready
 fresh-ready t ds f ok n b d = ready t ds f fresh ok (fresh-met t ds f n b d)

@@ -28,7 +28,7 @@ use Rattle.playing.specs.Playing.{left-by}
 use Rattle.playing.specs.Programmed.{Met}
 use Rattle.playing.proofs.Knowing.{Lent}
 use Rattle.playing.proofs.Left.{Lasts, answer-lasts}
-use Rattle.programming.specs.Target.{own-replies, state-after, flash-after, Ready}
+use Rattle.calls.specs.Target.{own-replies, state-after, flash-after, Ready}
 use Rattle.playing.specs.Playing
 
 -- a step that is not refused is one of a target that exists

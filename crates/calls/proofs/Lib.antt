@@ -1,0 +1,4 @@
+pub mod Taking
+pub mod Claimed
+pub mod Targets
+pub mod Programmed
