@@ -14,7 +14,7 @@ WAVES := target/waves/page.vcd
 SHORT := 200
 STRICT := -Wall -Wextra -Werror -Iinclude
 
-.PHONY: help library flash test compare compare-long examples waves prove clean
+.PHONY: help library flash test below compare compare-long examples waves prove clean
 
 help:
 	@echo "make library       build the driver's library, target/staticlib/libc2.a; its header is include/c2.h"
@@ -35,11 +35,14 @@ flash: $(PROGRAM)
 test: compare examples
 	@rt ci
 
-# The program first: its crates are proved level by level, and the libraries' are then among them.
-compare: $(PROGRAM) $(LIBRARIES)
+# Everything below the program and the libraries is proved in one go, level by level.
+below:
+	@rt check flash record figure model </dev/null >&2
+
+compare: below $(PROGRAM) $(LIBRARIES)
 	@$(CARGO) --program $(PROGRAM)
 
-compare-long: $(PROGRAM) $(LIBRARIES)
+compare-long: below $(PROGRAM) $(LIBRARIES)
 	@$(CARGO) --long --program $(PROGRAM)
 
 # The first one is the program of README.md, word for word below its first line. The waveform has a header and, in so many steps, a
