@@ -1,6 +1,6 @@
 -- What the tests of the range rules decide, where a number is compared with what a call gave.
-use mathlib.Core.Path.{_≡_, sym, _∙_}
-use mathlib.Core.Bool.{Bool, false}
+use mathlib.Core.Path.{_≡_, ap}
+use mathlib.Core.Bool.{Bool, true, false}
 use Prim.Native.Nat.{ℕ, _*_, _%_, _^_, _<_, _≤_}
 use native.Mathlib.Nat.{mod-eq-of-lt, pow-le-pow-right}
 use native.Mathlib.Omega.{arith}
@@ -9,11 +9,11 @@ use lib.Dec.{ltb}
 use Rattle.order.specs.Opening.{opening-refusal}
 use Rattle.tasks.specs.declared.Stage.{Stage}
 use Rattle.tasks.specs.declared.Task.{Task}
+use Rattle.session.specs.declared.At.{At}
 use Rattle.session.specs.declared.Session.{Session}
 use Rattle.tasks.specs.Tasks.{task-of, acts-in}
 use Rattle.session.specs.Range.{pages-in, blocks-in, strobes-in, reads-in, place-in-range, running-in-range, point-in-range, in-range}
-use Rattle.range.specs.Bounds.{strobes-by, limit-by, sampled-by}
-use Rattle.range.proofs.Shapes.{place-by}
+use Rattle.range.specs.Bounds.{within, inside}
 
 -- a power of two of up to eight bits is no remainder
 pub power-fits : (n : ℕ) → n ≤ 8 → (1 * 2 ^ n) % 18446744073709551616 ≡ 2 ^ n
@@ -22,38 +22,44 @@ power-fits n h =
     let e : 1 * 2 ^ n ≡ 2 ^ n = omega arith in
     rw e (mod-eq-of-lt (omega (arith, b)))
 
--- a place in a frame
-module _ (w r : ℕ) (t : Task) (q c v : ℕ) (n : ℕ) (en : n ≡ strobes-by t) where
-  pub strobe-past : n ≤ q → false ≡ place-in-range w (reads-in r t) (strobes-in t) q c v
-  strobe-past h = sym (place-by w r t q c v ∙ rw (← en, le-ltb q n h))
+-- a place
+module _ (n m k q c v : ℕ) where
+  pub strobe-past : n ≤ q → false ≡ within n m k q c v
+  strobe-past h = rw (le-ltb q n h)
 
-  pub count-past : (m : ℕ) → m ≡ limit-by w r t q → q < n → m ≤ c → false ≡ place-in-range w (reads-in r t) (strobes-in t) q c v
-  count-past m em h k = sym (place-by w r t q c v ∙ rw (← en, ← em, lt-ltb q n h, le-ltb c m k))
+  pub count-past : q < n → m ≤ c → false ≡ within n m k q c v
+  count-past h l = rw (lt-ltb q n h, le-ltb c m l)
 
-  pub bits-decide : (m : ℕ) → m ≡ limit-by w r t q → q < n → c < m → (b : ℕ) → b ≡ 2 ^ sampled-by t q
-      → ltb v b ≡ place-in-range w (reads-in r t) (strobes-in t) q c v
-  bits-decide m em h k b eb = sym (place-by w r t q c v ∙ rw (← en, ← em, ← eb, lt-ltb q n h, lt-ltb c m k))
+  pub bits-decide : q < n → c < m → (b : ℕ) → b ≡ 2 ^ k → ltb v b ≡ within n m k q c v
+  bits-decide h l b e = rw (← e, lt-ltb q n h, lt-ltb c m l)
+
+-- an act
+module _ (n m a i j k : ℕ) where
+  pub page-past : n ≤ i → false ≡ inside n m a i j k
+  page-past h = rw (le-ltb i n h)
+
+  pub block-past : i < n → m ≤ j → false ≡ inside n m a i j k
+  block-past h l = rw (lt-ltb i n h, le-ltb j m l)
+
+  pub act-decides : i < n → j < m → (b : ℕ) → b ≡ a → ltb k b ≡ inside n m a i j k
+  act-decides h l b e = rw (← e, lt-ltb i n h, lt-ltb j m l)
+
+pub act-is : (size pages : ℕ) (at : At) (g : Stage) (b : Bool) → at .stage ≡ g
+    → b ≡ inside (pages-in g pages) (blocks-in g size) (acts-in (at .stage)) (at .page) (at .block) (at .act)
+    → b ≡ inside (pages-in (at .stage) pages) (blocks-in (at .stage) size) (acts-in (at .stage)) (at .page) (at .block) (at .act)
+act-is size pages at g b e h = rw (ap (λ x. pages-in x pages) e, ap (λ x. blocks-in x size) e) h
 
 -- a running point
-module _ (w r size pages : ℕ) (g : Stage) (i j k q c v : ℕ) (n : ℕ) (en : n ≡ pages-in g pages) where
-  pub page-past : n ≤ i → false ≡ running-in-range w r size pages g i j k q c v
+module _ (w r size pages : ℕ) (g : Stage) (i j k q c v : ℕ) (a : Bool) (ea : a ≡ inside (pages-in g pages) (blocks-in g size) (acts-in g) i j k) where
+  pub act-fails : a ≡ false → false ≡ running-in-range w r size pages g i j k q c v
   unfolding running-in-range
-  page-past h = rw (← en, le-ltb i n h)
+  act-fails h = rw (← ea, h)
 
-  module _ (h : i < n) (m : ℕ) (em : m ≡ blocks-in g size) where
-    pub block-past : m ≤ j → false ≡ running-in-range w r size pages g i j k q c v
-    unfolding running-in-range
-    block-past l = rw (← en, ← em, lt-ltb i n h, le-ltb j m l)
-
-    pub act-past : j < m → (a : ℕ) → a ≡ acts-in g → a ≤ k → false ≡ running-in-range w r size pages g i j k q c v
-    unfolding running-in-range
-    act-past l a ea o = rw (← en, ← em, ← ea, lt-ltb i n h, lt-ltb j m l, le-ltb k a o)
-
-    pub place-decides : j < m → (a : ℕ) → a ≡ acts-in g → k < a → (t : Task) → t ≡ task-of g k
-        → (b : Bool) → b ≡ place-in-range w (reads-in r t) (strobes-in t) q c v
-        → b ≡ running-in-range w r size pages g i j k q c v
-    unfolding running-in-range
-    place-decides l a ea o t et b eb = rw (← en, ← em, ← ea, lt-ltb i n h, lt-ltb j m l, lt-ltb k a o, ← et) eb
+  pub place-decides : a ≡ true → (t : Task) → t ≡ task-of g k
+      → (b : Bool) → b ≡ place-in-range w (reads-in r t) (strobes-in t) q c v
+      → b ≡ running-in-range w r size pages g i j k q c v
+  unfolding running-in-range
+  place-decides h t et b eb = rw (← ea, h, ← et) eb
 
 -- a session
 module _ (w r : ℕ) (s : Session) (b n : ℕ) (eb : b ≡ s .settings .size * s .pages) (en : n ≡ opening-refusal (s .settings) (s .first) b) where

@@ -1,6 +1,6 @@
 -- The numbers by which the code knows a frame are those of its list of strobes.
-use mathlib.Core.Path.{_≡_, refl}
-use mathlib.Core.Bool.{_&&_}
+use mathlib.Core.Path.{_≡_, refl, sym, _∙_}
+use mathlib.Core.Bool.{Bool, _&&_}
 use Prim.Native.Nat.{ℕ, _^_, _<_}
 use native.Mathlib.Omega.{arith}
 use native.Mathlib.Decide.{decLt}
@@ -14,7 +14,7 @@ use Rattle.wire.specs.Place.{strobe-at, samples, count-limit}
 use Rattle.tasks.specs.declared.Task.{Task}
 use Rattle.tasks.specs.declared.Task.the-variants.{Reset, Pause, Address, Send, Input, Output, Ident, Status, Compare}
 use Rattle.session.specs.Range.{strobes-in, reads-in, place-in-range}
-use Rattle.range.specs.Bounds.{strobes-by, limit-by, sampled-by}
+use Rattle.range.specs.Bounds.{strobes-by, limit-by, sampled-by, within}
 
 strobes-are : (t : Task) → length (strobes-in t) ≡ strobes-by t
 unfolding frame sends ins-code bits
@@ -54,16 +54,20 @@ samples-are Status = refl
 samples-are Compare = refl
 
 -- a place in a frame, tested by these numbers
-pub place-by : (w r : ℕ) (t : Task) (q c v : ℕ) → place-in-range w (reads-in r t) (strobes-in t) q c v
-    ≡ (ltb q (strobes-by t) && ltb c (limit-by w r t q) && ltb v (2 ^ sampled-by t q))
+pub place-by : (w r : ℕ) (t : Task) (q c v : ℕ)
+    → place-in-range w (reads-in r t) (strobes-in t) q c v ≡ within (strobes-by t) (limit-by w r t q) (sampled-by t q) q c v
 unfolding place-in-range
 place-by w r t q c v = rw (strobes-are t) (go (decLt q (strobes-by t)))
   where
     go : Dec (q < strobes-by t) → (ltb q (strobes-by t) && ltb c (count-limit w (reads-in r t) (strobe-at (strobes-in t) q)) && ltb v (2 ^ samples (take q (strobes-in t))))
-        ≡ (ltb q (strobes-by t) && ltb c (limit-by w r t q) && ltb v (2 ^ sampled-by t q))
+        ≡ within (strobes-by t) (limit-by w r t q) (sampled-by t q) q c v
     go (yes y) =
         rw (
           same-below (λ i. count-limit w (reads-in r t) (strobe-at (strobes-in t) i)) (limit-by w r t) (strobes-by t) (limits-are w r t) q y,
           same-below (λ i. samples (take i (strobes-in t))) (sampled-by t) (strobes-by t) (samples-are t) q y,
         )
     go (no y) = rw (le-ltb q (strobes-by t) (omega arith))
+
+pub place-is : (w r : ℕ) (t u : Task) (q c v : ℕ) (b : Bool) → t ≡ u → b ≡ within (strobes-by u) (limit-by w r u q) (sampled-by u q) q c v
+    → b ≡ place-in-range w (reads-in r t) (strobes-in t) q c v
+place-is w r t u q c v b e h = rw e (h ∙ sym (place-by w r u q c v))

@@ -3,7 +3,7 @@ ghost use mathlib.Core.Path.{_≡_};
 ghost use Prim.Native.Nat.{_^_, _≤_};
 ghost use Rattle.tasks.specs.Tasks.{acts-in};
 ghost use Rattle.session.specs.Range.{pages-in, blocks-in, strobes-in, reads-in, place-in-range, running-in-range, ends-session, offsets-of, ended-in-range, point-in-range, in-range};
-ghost use Rattle.range.specs.Bounds.{strobes-by, limit-from, limit-by, sampled-from, sampled-by};
+ghost use Rattle.range.specs.Bounds.{limit-from, sampled-from, within, inside};
 use numbers::BAD_REPLY;
 use numbers::COMPARE_DIFFERS;
 use numbers::DONE;
@@ -19,48 +19,6 @@ use tasks::acts_in;
 use tasks::task_of;
 use wire::Place;
 
-// How many pages and blocks of a page a stage has.
-fn pages_in(stage: Stage, pages: u16) -> u16
-    ensures { λ r. ⌜ r ≡ pages-in stage pages ⌝ }
-{
-    match stage {
-        Stage::Lead => 1,
-        Stage::Erase => pages,
-        Stage::Write => pages,
-        Stage::Read => pages,
-        Stage::Close => 1,
-    }
-}
-
-fn blocks_in(stage: Stage, size: u32) -> u32
-    ensures { λ r. ⌜ r ≡ blocks-in stage size ⌝ }
-{
-    match stage {
-        Stage::Lead => 1,
-        Stage::Erase => 1,
-        Stage::Write => size / 256,
-        Stage::Read => size / 256,
-        Stage::Close => 1,
-    }
-}
-
-// How many strobes the frame of an act has.
-fn strobes_in(task: Task) -> usize
-    ensures { λ r. ⌜ r ≡ strobes-by task ⌝ }
-{
-    match task {
-        Task::Reset => 1,
-        Task::Pause => 1,
-        Task::Address => 12,
-        Task::Send => 15,
-        Task::Input => 12,
-        Task::Output => 12,
-        Task::Ident => 15,
-        Task::Status => 15,
-        Task::Compare => 15,
-    }
-}
-
 // The zeros of the WAIT at this strobe are below its limit, and elsewhere there is nothing to count.
 fn limit_from(waits: usize, wait: usize, strobe: usize) -> usize
     ensures { λ r. ⌜ r ≡ limit-from waits wait strobe ⌝ }
@@ -69,23 +27,6 @@ fn limit_from(waits: usize, wait: usize, strobe: usize) -> usize
         return wait;
     }
     1
-}
-
-// What the count of an act is below at a strobe.
-fn count_limit(task: Task, strobe: usize, wait: usize, reads: usize) -> usize
-    ensures { λ r. ⌜ r ≡ limit-by wait reads task strobe ⌝ }
-{
-    match task {
-        Task::Reset => 1,
-        Task::Pause => 1,
-        Task::Address => 1,
-        Task::Send => limit_from(13, wait, strobe),
-        Task::Input => reads,
-        Task::Output => reads,
-        Task::Ident => limit_from(5, wait, strobe),
-        Task::Status => limit_from(5, wait, strobe),
-        Task::Compare => limit_from(5, wait, strobe),
-    }
 }
 
 // How many of the eight strobes from this first one on are passed.
@@ -102,41 +43,81 @@ fn sampled_from(first: usize, strobe: usize) -> usize
     8
 }
 
-// How many bits of an act's byte are sampled before a strobe.
-fn sampled(task: Task, strobe: usize) -> usize
-    ensures { λ r. ⌜ r ≡ sampled-by task strobe ⌝ }
-    ensures { λ r. ⌜ r ≤ 8 ⌝ }
+// What the bits are below where so many are sampled.
+fn bits_limit(sampled: usize) -> usize
+    requires { ⌜ sampled ≤ 8 ⌝ }
+    ensures { λ r. ⌜ r ≡ 2 ^ sampled ⌝ }
 {
-    match task {
-        Task::Reset => 0,
-        Task::Pause => 0,
-        Task::Address => 0,
-        Task::Send => 0,
-        Task::Input => sampled_from(3, strobe),
-        Task::Output => sampled_from(3, strobe),
-        Task::Ident => sampled_from(6, strobe),
-        Task::Status => sampled_from(6, strobe),
-        Task::Compare => sampled_from(6, strobe),
-    }
+    1usize << sampled
 }
 
-// What the bits sampled so far are below.
-fn bits_limit(task: Task, strobe: usize) -> usize
-    ensures { λ r. ⌜ r ≡ 2 ^ sampled-by task strobe ⌝ }
+// Whether a place is one of so many strobes, with its count below a limit and no bit beyond those sampled.
+fn within(strobes: usize, limit: usize, sampled: usize, place: Place) -> bool
+    requires { ⌜ sampled ≤ 8 ⌝ }
+    ensures { λ r. ⌜ r ≡ within strobes limit sampled (place .strobe) (place .count) (place .bits) ⌝ }
 {
-    1usize << sampled(task, strobe)
+    if place.strobe < strobes {
+        if place.count < limit {
+            return place.bits < bits_limit(sampled);
+        }
+    }
+    false
+}
+
+// A place of an Address Read, and one of a Data Read.
+fn address_read(reads: usize, place: Place) -> bool
+    ensures { λ r. ⌜ r ≡ within 12 reads (sampled-from 3 (place .strobe)) (place .strobe) (place .count) (place .bits) ⌝ }
+{
+    within(12, reads, sampled_from(3, place.strobe), place)
+}
+
+fn data_read(wait: usize, place: Place) -> bool
+    ensures { λ r. ⌜ r ≡ within 15 (limit-from 5 wait (place .strobe)) (sampled-from 6 (place .strobe)) (place .strobe) (place .count) (place .bits) ⌝ }
+{
+    let limit = limit_from(5, wait, place.strobe);
+    within(15, limit, sampled_from(6, place.strobe), place)
 }
 
 fn place_in_range(wait: usize, reads: usize, task: Task, place: Place) -> bool
     ensures { λ r. ⌜ r ≡ place-in-range wait (reads-in reads task) (strobes-in task) (place .strobe) (place .count) (place .bits) ⌝ }
 {
-    let strobe = place.strobe;
-    if strobe < strobes_in(task) {
-        if place.count < count_limit(task, strobe, wait, reads) {
-            return place.bits < bits_limit(task, strobe);
+    match task {
+        Task::Reset => within(1, 1, 0, place),
+        Task::Pause => within(1, 1, 0, place),
+        Task::Address => within(12, 1, 0, place),
+        Task::Send => within(15, limit_from(13, wait, place.strobe), 0, place),
+        Task::Input => address_read(reads, place),
+        Task::Output => address_read(reads, place),
+        Task::Ident => data_read(wait, place),
+        Task::Status => data_read(wait, place),
+        Task::Compare => data_read(wait, place),
+    }
+}
+
+// Whether an act is one of its stage, in one of so many blocks of so many pages.
+fn inside(pages: u16, blocks: u32, at: At) -> bool
+    ensures { λ r. ⌜ r ≡ inside pages blocks (acts-in (at .stage)) (at .page) (at .block) (at .act) ⌝ }
+{
+    let stage = at.stage;
+    if at.page < pages {
+        if at.block < blocks {
+            return at.act < acts_in(stage);
         }
     }
     false
+}
+
+fn act_in_range(size: u32, pages: u16, at: At) -> bool
+    ensures { λ r. ⌜ r ≡ inside (pages-in (at .stage) pages) (blocks-in (at .stage) size) (acts-in (at .stage)) (at .page) (at .block) (at .act) ⌝ }
+{
+    let stage = at.stage;
+    match stage {
+        Stage::Lead => inside(1, 1, at),
+        Stage::Erase => inside(pages, 1, at),
+        Stage::Write => inside(pages, size / 256, at),
+        Stage::Read => inside(pages, size / 256, at),
+        Stage::Close => inside(1, 1, at),
+    }
 }
 
 // Whether a running point exists in the order of a session over this many pages of this size.
@@ -144,12 +125,8 @@ fn running_in_range(wait: usize, reads: usize, size: u32, pages: u16, at: At, pl
     ensures { λ r. ⌜ r ≡ running-in-range wait reads size pages (at .stage) (at .page) (at .block) (at .act) (place .strobe) (place .count) (place .bits) ⌝ }
 {
     let stage = at.stage;
-    if at.page < pages_in(stage, pages) {
-        if at.block < blocks_in(stage, size) {
-            if at.act < acts_in(stage) {
-                return place_in_range(wait, reads, task_of(stage, at.act), place);
-            }
-        }
+    if act_in_range(size, pages, at) {
+        return place_in_range(wait, reads, task_of(stage, at.act), place);
     }
     false
 }

@@ -162,7 +162,7 @@ outcome-fits bytes n o h x =
     }
 
 -- fields read back
-one-back : (x : ℕ) → x < 256 → x % 256 ≡ x
+pub one-back : (x : ℕ) → x < 256 → x % 256 ≡ x
 one-back x h = omega arith
 
 two-back : (x : ℕ) → x < 65536 → x % 256 + x / 256 % 256 * 256 ≡ x

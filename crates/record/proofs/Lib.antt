@@ -1,3 +1,4 @@
 pub mod Records
 pub mod Fitting
+pub mod Sparing
 pub mod Claimed

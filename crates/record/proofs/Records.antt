@@ -45,10 +45,6 @@ module _ (w l : ℕ) (s : Session) (r : List ℕ) where
   unfolding checked
   is-held p q = rw (p, same-is (packed s) r q)
 
-  pub not-in-range : in-range w l s ≡ false → Refused ≡ checked w l s r
-  unfolding checked
-  not-in-range p = rw p
-
   pub not-its-record : (packed s ≡ r → ⊥) → Refused ≡ checked w l s r
   unfolding checked
   not-its-record n = by-test (in-range w l s) (λ p. rw (p, same-not (packed s) r n)) (λ p. rw p)

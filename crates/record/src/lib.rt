@@ -1,8 +1,9 @@
 // The record of a session: 32 bytes that a driver keeps over sleep (docs/RECORD.md), packed and unpacked.
 ghost use mathlib.Core.Path.{_≡_};
-ghost use Prim.Native.Nat.{_+_, _*_, _/_, _%_};
+ghost use Prim.Native.Nat.{_+_, _*_, _/_, _%_, _≤_};
 ghost use lib.ListN.{length};
-ghost use Rattle.record.specs.Record.{stage-code, fields-of, laid, packed, settings-read, fields-read, stage-named, running-at, point-of, checked, unpacked};
+ghost use Rattle.record.specs.Record.{stage-code, fields-of, laid, packed, settings-read, fields-read, stage-named, running-at, point-of, unpacked};
+ghost use Rattle.record.specs.Spare.{four, zeros, unused, spare, checked-by};
 use session::Point;
 use session::Session;
 use settings::Settings;
@@ -259,15 +260,56 @@ fn point_of(f: Fields) -> Reached
     })
 }
 
-// The session, if it is in range and this is its record: so unused fields and spare bytes are 0.
-fn checked(s: Session, r: &[u8]) -> Unpacked
-    ensures { λ q. ⌜ q ≡ checked 20 256 s (now (r .entry)) ⌝ }
+// Four bytes as one number, so that one comparison tells whether they are 0.
+fn four(a: u8, b: u8, c: u8, d: u8) -> u32
+    ensures { λ r. ⌜ r ≡ four a b c d ⌝ }
 {
-    if range::in_range(s) {
-        let again = pack(s);
-        let packed: &[u8] = &again;
-        if check::same(packed, r) {
-            return Unpacked::Held(s);
+    (a as u32) + (b as u32) * 256 + (c as u32) * 65536 + (d as u32) * 16777216
+}
+
+// Whether the eight bytes from this one on are 0.
+fn zeros(r: &[u8], i: usize) -> bool
+    requires { ⌜ i + 8 ≤ length (now r) ⌝ }
+    ensures { λ q. ⌜ q ≡ zeros (now (r .entry)) i ⌝ }
+{
+    if four(r[i], r[i + 1], r[i + 2], r[i + 3]) == 0 {
+        return four(r[i + 4], r[i + 5], r[i + 6], r[i + 7]) == 0;
+    }
+    false
+}
+
+// Whether the fields not in use are 0: the offset of a running session, or the point of one that has ended.
+fn unused(r: &[u8]) -> bool
+    requires { ⌜ length (now r) ≡ 32 ⌝ }
+    ensures { λ q. ⌜ q ≡ unused (now (r .entry)) ⌝ }
+{
+    if r[7] == 0 {
+        return pair32(r[8], r[9]) == 0;
+    }
+    zeros(r, 10)
+}
+
+// Whether the spare bytes, 18 to 31, are 0: eight and eight of them, so that two are tested twice.
+fn spare(r: &[u8]) -> bool
+    requires { ⌜ length (now r) ≡ 32 ⌝ }
+    ensures { λ q. ⌜ q ≡ spare (now (r .entry)) ⌝ }
+{
+    if zeros(r, 18) {
+        return zeros(r, 24);
+    }
+    false
+}
+
+// The session that was read, if this is its record and it is in range.
+fn checked(s: Session, r: &[u8]) -> Unpacked
+    requires { ⌜ length (now r) ≡ 32 ⌝ }
+    ensures { λ q. ⌜ q ≡ checked-by 20 256 s (now (r .entry)) ⌝ }
+{
+    if unused(r) {
+        if spare(r) {
+            if range::in_range(s) {
+                return Unpacked::Held(s);
+            }
         }
     }
     Unpacked::Refused

@@ -1,47 +1,43 @@
--- `record::checked` meets its contract: by the laws of Records.
-use mathlib.Core.Path.{sym, _∙_}
-use mathlib.Core.Bool.{true≢false}
+-- `record::checked` meets its contract: each return by the tests on its way and what the calls give.
 use borrow.Author.Needs.{needs}
-use Rattle.record.proofs.Records.{is-held, not-its-record}
 use Rattle.laws.proofs.Pick.{picks}
-use Rattle.record.specs.Record.{checked}
+use Rattle.record.specs.Spare.{checked-by}
 use Rattle.record.proofs.checked.Statement.{statement}
 use Rattle.record.proofs.checked.Tie as tie
+
+unused-requires : tie.Need-unused-requires
+unused-requires c κs = search needs
+
+spare-requires : tie.Need-spare-requires
+spare-requires c κs = search needs
 
 in-range-requires : tie.Need-in-range-requires
 in-range-requires c κs = search needs
 
-pack-requires : tie.Need-pack-requires
-pack-requires c κs = search needs
-
-slice-aggregate-packed : tie.Need-slice-aggregate-packed
-slice-aggregate-packed c = search needs
-
-same-requires : tie.Need-same-requires
-same-requires c κs = search needs
-
 returns : tie.Need-returns
-returns c =
-    is-held 20 256 (c .before .before .before .before .before .before .before .args .s) _ (sym (c .before .before .before .before .before .in-range .ensures) ∙ c .before .before .before .before .if1 .taken)
-    (sym (c .before .before .before .pack .ensures) ∙ c .before .same .ensures .0 (c .if2 .taken))
+unfolding checked-by
+returns c = search (needs, picks)
 
 returns-2 : tie.Need-returns-2
-returns-2 c =
-    not-its-record 20 256 (c .before .before .before .before .before .before .before .args .s) _
-    (λ h. true≢false (sym (c .before .same .ensures .1 (c .before .before .before .pack .ensures ∙ h)) ∙ c .if2 .left))
+unfolding checked-by
+returns-2 c = search (needs, picks)
 
 returns-3 : tie.Need-returns-3
-unfolding checked
+unfolding checked-by
 returns-3 c = search (needs, picks)
+
+returns-4 : tie.Need-returns-4
+unfolding checked-by
+returns-4 c = search (needs, picks)
 
 pub checked-spec : {M : Type 1} → statement M
 checked-spec =
     tie.close
     (tie.spec
+    unused-requires
+    spare-requires
     in-range-requires
-    pack-requires
-    slice-aggregate-packed
-    same-requires
     returns
     returns-2
-    returns-3)
+    returns-3
+    returns-4)

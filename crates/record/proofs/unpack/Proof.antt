@@ -1,8 +1,9 @@
--- `record::unpack` meets its contract: by the laws of Records.
+-- `record::unpack` meets its contract: by the laws of Records and Sparing.
 use mathlib.Core.Path.{sym, ap, _∙_}
 use borrow.Author.Needs.{needs}
 use Rattle.record.specs.Record.{point-of}
-use Rattle.record.proofs.Records.{not-32-bytes, no-point, a-point}
+use Rattle.record.proofs.Records.{not-32-bytes, no-point}
+use Rattle.record.proofs.Sparing.{as-checked}
 use Rattle.record.proofs.unpack.Statement.{statement}
 use Rattle.record.proofs.unpack.Tie as tie
 
@@ -44,7 +45,7 @@ checked-requires c κs = search needs
 
 returns-3 : tie.Need-returns-3
 returns-3 c =
-    a-point 20 256 _ _ _
+    as-checked _ (c .before .before .before .before .before .before .before .before .before .before .before .if1 .left) (λ i. c .before .before .shared-slice-known3 .given i .fits) 20 256 _ _
     (sym (c .before .before .before .before .before .before .before .point .given .1) ∙ c .before .before .before .before .before .before .before .before .before .point-of .ensures ∙ ap point-of (c .before .before .before .before .before .before .before .before .before .before .read-fields .ensures))
     (rw (← c .before .before .before .before .before .read-settings .ensures, ← c .before .before .before .wide16 .ensures, ← c .before .wide162 .ensures) (c .checked .ensures))
 
