@@ -74,15 +74,15 @@ enum { SETUP = 1000, STROBE_LOW = 1000, STROBE_HIGH = 1000, RESET_LOW = 20000, R
 
 typedef enum { C2CK, C2D, MASTER, STEP, FIELD, SIGNALS } signal_name;
 
-/* A string is an addition of viewers to the standard. */
+/* A string is an addition of viewers to the standard. The step is one too: PulseView takes no file with a vector of bits in it. */
 static const char HEADER[] = "$version examples/waves.c $end\n$timescale 1 ns $end\n$scope module c2 $end\n"
                              "$var wire 1 k C2CK $end\n$var wire 1 d C2D $end\n$var wire 1 m c2d_master $end\n"
-                             "$var wire 8 s step [7:0] $end\n$var string 1 f field $end\n"
+                             "$var string 1 s step $end\n$var string 1 f field $end\n"
                              "$upscope $end\n$enddefinitions $end\n";
 static const char IDS[] = "kdmsf";
 
 /* Steps and fields as they are written; there is no step 1. */
-static const char *const STEPS[] = {"b00000000 ", "", "b00000010 ", "b00000011 ", "b00000100 ", "b00000101 ", "b00000110 "};
+static const char *const STEPS[] = {"s0 ", "", "s2 ", "s3 ", "s4 ", "s5 ", "s6 "};
 static const char *const FIELDS[] = {"sSTART ", "sINS ",  "sLENGTH ", "sADDRESS ", "sDATA ",
                                      "sWAIT ",  "sSTOP ", "sRESET ",  "sPAUSE ",   "sOFF "};
 
