@@ -1,3 +1,6 @@
 pub mod States
 pub mod Reading
+pub mod Found
+pub mod Passed
 pub mod Claimed
+pub mod Answers

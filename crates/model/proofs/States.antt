@@ -1,6 +1,6 @@
 -- A state that is read is the state of what is read.
-use mathlib.Core.Path.{_≡_, refl, sym, ap, _∙_}
-use mathlib.Core.Bool.{Bool, true, false}
+use mathlib.Core.Path.{_≡_, refl, ap, _∙_}
+use mathlib.Core.Bool.{true}
 use Prim.Native.Nat.{ℕ}
 use native.Mathlib.Omega.{arith}
 use borrow.Author.Tests.{eqb-true, eq-eqb}
@@ -10,18 +10,6 @@ use Rattle.target.specs.declared.Target.{Target}
 use Rattle.model.specs.declared.State.{State}
 use Rattle.model.specs.declared.Seen.the-variants.{Held, Nothing}
 use Rattle.model.specs.State.{state-of, target-read, same-point, same-device, same-command, same-output, same-state, target-of}
-
-pub held-is : (s : State) (t : Target) (a : State) (b : Bool) → t ≡ target-read s → a ≡ state-of t → b ≡ same-state a s → b ≡ true → Held t ≡ target-of s
-unfolding target-of
-held-is s t a b e h k q =
-    let w : same-state (state-of (target-read s)) s ≡ true = ap (λ (z : State). same-state z s) (ap state-of (sym e) ∙ sym h) ∙ sym k ∙ q in
-    rw w (ap (λ (z : Target). Held z) e)
-
-pub nothing-is : (s : State) (t : Target) (a : State) (b : Bool) → t ≡ target-read s → a ≡ state-of t → b ≡ same-state a s → b ≡ false → Nothing ≡ target-of s
-unfolding target-of
-nothing-is s t a b e h k q =
-    let w : same-state (state-of (target-read s)) s ≡ false = ap (λ (z : State). same-state z s) (ap state-of (sym e) ∙ sym h) ∙ sym k ∙ q in
-    rw w
 
 eqb-same : (n : ℕ) → eqb n n ≡ true
 eqb-same n = eq-eqb n n refl

@@ -1,3 +1,4 @@
 pub mod State
 pub mod Model
+pub mod Flat
 pub mod Claims

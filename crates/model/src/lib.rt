@@ -1,10 +1,13 @@
 // The modelled target for C: its state is a struct of plain numbers, handed in and back by value. Nothing else is kept between steps.
 ghost use mathlib.Core.Path.{_≡_};
-ghost use Prim.Native.Nat.{_%_};
+ghost use Prim.Native.Nat.{_*_, _%_, _≤_};
 ghost use Rattle.wire.specs.Bits.{bit};
-ghost use Rattle.target.specs.Target.{fresh};
-ghost use Rattle.model.specs.State.{effect-code, effect-byte, fields, point-fields, command-fields, output-fields, command-numbers, output-numbers, state-of, effect-of, point-of, command-of, output-of, later-point, target-read, same-point, same-device, same-command, same-output, same-state, target-of};
-ghost use Rattle.model.specs.Model.{gives, no-target, held-answer, model-answer, model-flash};
+ghost use Rattle.target.specs.Known.{hearing, after-its-wait, is-count, known-block};
+ghost use Rattle.target.specs.Delays.{setup};
+ghost use Rattle.target.specs.Target.{fresh, answer, flash-after};
+ghost use Rattle.model.specs.State.{effect-code, effect-byte, fields, point-fields, command-fields, output-fields, command-numbers, output-numbers, state-of, effect-of, point-of, command-of, output-of, later-point, target-read};
+ghost use Rattle.model.specs.Flat.{none, stop-fits, wait-fits, sent-fits, heard-fits, later-fits, point-fits, early-fits, command-fits, output-fits, valid};
+ghost use Rattle.model.specs.Model.{gives, held-answer, model-answer, model-flash};
 use numbers::NO_POINT;
 use settings::Settings;
 use target::Command;
@@ -13,7 +16,6 @@ use target::Effect;
 use target::Link;
 use target::Output;
 use target::Point;
-use target::Replied;
 use target::Target;
 
 // The state of a target between two steps. Numbers that are not in use are 0.
@@ -480,125 +482,305 @@ fn target_read(s: State) -> Target
     }
 }
 
-fn same_point(a: State, b: State) -> bool
-    ensures { λ r. ⌜ r ≡ same-point a b ⌝ }
+// All of these are 0.
+fn none(a: u8, b: u8, c: u8, d: u8) -> bool
+    ensures { λ r. ⌜ r ≡ none a b c d ⌝ }
 {
-    if a.point != b.point {
-        return false;
-    }
-    if a.heard != b.heard {
-        return false;
-    }
-    if a.value != b.value {
-        return false;
-    }
-    if a.left != b.left {
-        return false;
-    }
-    if a.zeros != b.zeros {
-        return false;
-    }
-    if a.effect != b.effect {
-        return false;
-    }
-    a.byte == b.byte
+    wide(a) + wide(b) + wide(c) + wide(d) == 0
 }
 
-fn same_device(a: State, b: State) -> bool
-    ensures { λ r. ⌜ r ≡ same-device a b ⌝ }
+// Fewer bits than the width, and none but those in the value.
+fn bits_fit(width: u8, heard: u8, value: u8) -> bool
+    requires { ⌜ width ≤ 9 ⌝ }
+    ensures { λ r. ⌜ r ≡ hearing width heard value ⌝ }
 {
-    if a.place != b.place {
-        return false;
+    if heard < width {
+        return wide(value) < (1usize << wide(heard));
     }
-    if a.collision != b.collision {
-        return false;
-    }
-    if a.address != b.address {
-        return false;
-    }
-    if a.on != b.on {
-        return false;
-    }
-    if a.keys != b.keys {
-        return false;
-    }
-    if a.busy != b.busy {
-        return false;
-    }
-    a.late == b.late
+    false
 }
 
-fn same_command(a: State, b: State) -> bool
-    ensures { λ r. ⌜ r ≡ same-command a b ⌝ }
+fn count_fits(count: u16) -> bool
+    ensures { λ r. ⌜ r ≡ is-count count ⌝ }
 {
-    if a.command != b.command {
-        return false;
+    if 1 <= count {
+        return count <= 256;
     }
-    if a.write != b.write {
-        return false;
-    }
-    if a.page != b.page {
-        return false;
-    }
-    if a.high != b.high {
-        return false;
-    }
-    if a.start != b.start {
-        return false;
-    }
-    a.rest == b.rest
+    false
 }
 
-fn same_output(a: State, b: State) -> bool
-    ensures { λ r. ⌜ r ≡ same-output a b ⌝ }
+fn block_fits(end: usize, start: u16, count: u16) -> bool
+    ensures { λ r. ⌜ r ≡ known-block end start count ⌝ }
 {
-    if a.output != b.output {
-        return false;
+    if count_fits(count) {
+        return wide16(start) + wide16(count) <= end;
     }
-    if a.passed != b.passed {
-        return false;
-    }
-    if a.next != b.next {
-        return false;
-    }
-    a.count == b.count
+    false
 }
 
-fn same_state(a: State, b: State) -> bool
-    ensures { λ r. ⌜ r ≡ same-state a b ⌝ }
+fn stop_fits(effect: u8, byte: u8) -> bool
+    ensures { λ r. ⌜ r ≡ stop-fits effect byte ⌝ }
 {
-    if same_point(a, b) {
-        if same_device(a, b) {
-            if same_command(a, b) {
-                return same_output(a, b);
-            }
-            return false;
+    if effect == 1 {
+        return true;
+    }
+    if effect == 2 {
+        return true;
+    }
+    if effect < 5 {
+        return byte == 0;
+    }
+    false
+}
+
+fn long_bits(left: u8) -> bool
+    ensures { λ r. ⌜ r ≡ after-its-wait left Effect.Nothing ⌝ }
+{
+    if left == 0 {
+        return true;
+    }
+    if left == 16 {
+        return true;
+    }
+    if left == 24 {
+        return true;
+    }
+    left == 32
+}
+
+fn wait_fits(left: u8, effect: u8, byte: u8) -> bool
+    ensures { λ r. ⌜ r ≡ wait-fits left effect byte ⌝ }
+{
+    if effect == 2 {
+        return left == 0;
+    }
+    if byte == 0 {
+        if effect == 4 {
+            return left == 8;
+        }
+        if effect == 0 {
+            return long_bits(left);
         }
         return false;
     }
     false
 }
 
-// The target of which this is the state, if there is one: so tags exist, truth values are 0 or 1, and numbers that are not in use are 0.
-fn target_of(s: State) -> Seen
-    ensures { λ r. ⌜ r ≡ target-of s ⌝ }
+fn sent_fits(value: u8, left: u8, effect: u8) -> bool
+    ensures { λ r. ⌜ r ≡ sent-fits value left effect ⌝ }
 {
-    let target = target_read(s);
-    if same_state(state_of(target), s) {
-        return Seen::Held(target);
+    if left == 0 {
+        return false;
     }
-    Seen::Nothing
+    if effect == 0 {
+        if left <= 32 {
+            return value == 0;
+        }
+        return false;
+    }
+    if effect < 3 {
+        return false;
+    }
+    if effect < 5 {
+        return bits_fit(9, left, value);
+    }
+    false
 }
 
-// The number for a state that is no target's: settings come first.
-fn no_target(t: Settings) -> u32
-    ensures { λ r. ⌜ r ≡ no-target t ⌝ }
+fn heard_fits(point: u8, heard: u8, value: u8) -> bool
+    ensures { λ r. ⌜ r ≡ heard-fits point heard value ⌝ }
 {
-    let number = settings::refusal(t);
-    if number == 0 {
-        return NO_POINT;
+    if point == 0 {
+        return bits_fit(1, heard, value);
     }
-    number
+    if point < 4 {
+        return bits_fit(2, heard, value);
+    }
+    bits_fit(8, heard, value)
+}
+
+fn later_fits(point: u8, left: u8, zeros: u8, effect: u8, byte: u8) -> bool
+    ensures { λ r. ⌜ r ≡ later-fits point left zeros effect byte ⌝ }
+{
+    if point == 10 {
+        if none(left, zeros, 0, 0) {
+            return stop_fits(effect, byte);
+        }
+        return false;
+    }
+    if point == 7 {
+        if zeros == 0 {
+            return wait_fits(left, effect, byte);
+        }
+        return false;
+    }
+    if point == 8 {
+        if zeros < 19 {
+            return wait_fits(left, effect, byte);
+        }
+        return false;
+    }
+    if point == 6 {
+        if none(zeros, effect, byte, 0) {
+            if left == 0 {
+                return false;
+            }
+            return left <= 32;
+        }
+        return false;
+    }
+    false
+}
+
+// The numbers of a point that some frame has.
+fn point_fits(point: u8, heard: u8, value: u8, left: u8, zeros: u8, effect: u8, byte: u8) -> bool
+    ensures { λ r. ⌜ r ≡ point-fits point heard value left zeros effect byte ⌝ }
+{
+    if point == 9 {
+        if none(heard, zeros, byte, 0) {
+            return sent_fits(value, left, effect);
+        }
+        return false;
+    }
+    if point < 6 {
+        if none(left, zeros, effect, byte) {
+            return heard_fits(point, heard, value);
+        }
+        return false;
+    }
+    if none(heard, value, 0, 0) {
+        return later_fits(point, left, zeros, effect, byte);
+    }
+    false
+}
+
+fn early_fits(command: u8, write: u8, page: u8, high: u8, pages: u32) -> bool
+    ensures { λ r. ⌜ r ≡ early-fits command write page high pages ⌝ }
+{
+    if command < 2 {
+        return none(write, page, high, 0);
+    }
+    if command == 2 {
+        if none(write, high, 0, 0) {
+            return (page as u32) < pages;
+        }
+        return false;
+    }
+    if command == 3 {
+        if none(page, high, 0, 0) {
+            return write < 2;
+        }
+        return false;
+    }
+    if command == 4 {
+        if page == 0 {
+            return write < 2;
+        }
+        return false;
+    }
+    false
+}
+
+// The numbers of a command that some target has.
+fn command_fits(
+    command: u8,
+    write: u8,
+    page: u8,
+    high: u8,
+    start: u16,
+    rest: u16,
+    pages: u32,
+    end: usize,
+) -> bool
+    ensures { λ r. ⌜ r ≡ command-fits command write page high start rest pages end ⌝ }
+{
+    if command == 6 {
+        if none(write, page, high, 0) {
+            return block_fits(end, start, rest);
+        }
+        return false;
+    }
+    if command == 7 {
+        if none(write, page, high, 0) {
+            if start == 0 {
+                return count_fits(rest);
+            }
+            return false;
+        }
+        return false;
+    }
+    if rest == 0 {
+        if command == 5 {
+            if none(page, high, 0, 0) {
+                return write < 2;
+            }
+            return false;
+        }
+        if start == 0 {
+            return early_fits(command, write, page, high, pages);
+        }
+        return false;
+    }
+    false
+}
+
+// The numbers of an output that some target has.
+fn output_fits(output: u8, passed: u8, next: u16, count: u16, end: usize) -> bool
+    ensures { λ r. ⌜ r ≡ output-fits output passed next count end ⌝ }
+{
+    if output < 2 {
+        if wide16(next) + wide16(count) == 0 {
+            return passed <= output;
+        }
+        return false;
+    }
+    if output < 4 {
+        if passed == 0 {
+            return block_fits(end, next, count);
+        }
+        return false;
+    }
+    false
+}
+
+fn flash_size(size: u32, count: u32) -> usize
+    ensures { λ r. ⌜ r ≡ size * count ⌝ }
+{
+    (size as usize) * (count as usize)
+}
+
+// Some target has this state, with a flash of this length.
+fn valid(t: Settings, s: State, end: usize) -> bool
+    ensures { λ r. ⌜ r ≡ valid t s end ⌝ }
+{
+    if end == flash_size(t.size, t.count) {
+        if point_fits(s.point, s.heard, s.value, s.left, s.zeros, s.effect, s.byte) {
+            if s.collision < 2 {
+                if s.on < 2 {
+                    if s.keys < 4 {
+                        if output_fits(s.output, s.passed, s.next, s.count, end) {
+                            return command_fits(
+                                s.command,
+                                s.write,
+                                s.page,
+                                s.high,
+                                s.start,
+                                s.rest,
+                                t.count,
+                                end,
+                            );
+                        }
+                        return false;
+                    }
+                    return false;
+                }
+                return false;
+            }
+            return false;
+        }
+        return false;
+    }
+    false
 }
 
 // A refused step gives the state back unchanged, and replies 1.
@@ -612,10 +794,12 @@ fn refused(number: u32, state: State) -> ModelReplied
     }
 }
 
-// What is said of a state's target.
-fn held_answer(replied: Replied, state: State) -> ModelReplied
-    ensures { λ r. ⌜ r ≡ held-answer replied state ⌝ }
+// One step of the target that this state says. The caller has seen that it exists.
+fn held(t: Settings, state: State, flash: &mut [u8], delays: &[u8], x: u8) -> ModelReplied
+    ensures { λ r. ⌜ r ≡ held-answer (answer (setup t (now (delays .entry))) (target-read state) (now (flash .entry)) x) state ⌝ }
+    ensures { λ _. ⌜ now (flash .exit) ≡ flash-after (setup t (now (delays .entry))) (target-read state) (now (flash .entry)) x ⌝ }
 {
+    let replied = target::step(t, target_read(state), flash, delays, x);
     let target = replied.target;
     if replied.number == 0 {
         return ModelReplied {
@@ -664,10 +848,12 @@ pub fn step(t: Settings, state: State, flash: &mut [u8], delays: &[u8], x: u8) -
     ensures { λ r. ⌜ r ≡ model-answer t state (now (flash .entry)) (now (delays .entry)) x ⌝ }
     ensures { λ _. ⌜ now (flash .exit) ≡ model-flash t state (now (flash .entry)) (now (delays .entry)) x ⌝ }
 {
-    let seen = target_of(state);
-    let Seen::Held(target) = seen else {
-        return refused(no_target(t), state);
-    };
-    let replied = target::step(t, target, flash, delays, x);
-    held_answer(replied, state)
+    let number = settings::refusal(t);
+    if number != 0 {
+        return refused(number, state);
+    }
+    if valid(t, state, flash.len()) {
+        return held(t, state, flash, delays, x);
+    }
+    refused(NO_POINT, state)
 }

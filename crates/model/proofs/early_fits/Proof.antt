@@ -1,0 +1,64 @@
+-- `model::early_fits` meets its contract: each return by the tests on its way and what the calls give.
+use mathlib.Core.Path.{sym, _∙_}
+use borrow.Author.Tests.{eq-eqb, ne-eqb, lt-ltb, le-ltb}
+use borrow.Author.Needs.{needs}
+use Rattle.model.specs.Flat.{early-fits}
+use Rattle.model.proofs.early_fits.Statement.{statement}
+use Rattle.model.proofs.early_fits.Tie as tie
+
+none-requires : tie.Need-none-requires
+none-requires c κs = search needs
+
+returns : tie.Need-returns
+unfolding early-fits
+returns c = rw (c .none .ensures, lt-ltb _ _ (c .before .if1 .taken))
+
+none-requires-2 : tie.Need-none-requires-2
+none-requires-2 c κs = search needs
+
+returns-2 : tie.Need-returns-2
+unfolding early-fits
+returns-2 c = rw (sym (c .before .none2 .ensures) ∙ c .if3 .taken, eq-eqb _ _ (c .before .before .if2 .taken), le-ltb _ _ (c .before .before .before .if1 .left))
+
+returns-3 : tie.Need-returns-3
+unfolding early-fits
+returns-3 c = rw (sym (c .before .none2 .ensures) ∙ c .if3 .left, eq-eqb _ _ (c .before .before .if2 .taken), le-ltb _ _ (c .before .before .before .if1 .left))
+
+none-requires-3 : tie.Need-none-requires-3
+none-requires-3 c κs = search needs
+
+returns-4 : tie.Need-returns-4
+unfolding early-fits
+returns-4 c = rw (sym (c .before .none3 .ensures) ∙ c .if5 .taken, eq-eqb _ _ (c .before .before .if4 .taken), ne-eqb _ _ (c .before .before .before .if2 .left), le-ltb _ _ (c .before .before .before .before .if1 .left))
+
+returns-5 : tie.Need-returns-5
+unfolding early-fits
+returns-5 c = rw (sym (c .before .none3 .ensures) ∙ c .if5 .left, eq-eqb _ _ (c .before .before .if4 .taken), ne-eqb _ _ (c .before .before .before .if2 .left), le-ltb _ _ (c .before .before .before .before .if1 .left))
+
+returns-6 : tie.Need-returns-6
+unfolding early-fits
+returns-6 c = rw (eq-eqb _ _ (c .if7 .taken), eq-eqb _ _ (c .before .if6 .taken), ne-eqb _ _ (c .before .before .if4 .left), ne-eqb _ _ (c .before .before .before .if2 .left), le-ltb _ _ (c .before .before .before .before .if1 .left))
+
+returns-7 : tie.Need-returns-7
+unfolding early-fits
+returns-7 c = rw (ne-eqb _ _ (c .if7 .left), eq-eqb _ _ (c .before .if6 .taken), ne-eqb _ _ (c .before .before .if4 .left), ne-eqb _ _ (c .before .before .before .if2 .left), le-ltb _ _ (c .before .before .before .before .if1 .left))
+
+returns-8 : tie.Need-returns-8
+unfolding early-fits
+returns-8 c = rw (ne-eqb _ _ (c .if6 .left), ne-eqb _ _ (c .before .if4 .left), ne-eqb _ _ (c .before .before .if2 .left), le-ltb _ _ (c .before .before .before .if1 .left))
+
+pub early-fits-spec : {M : Type 1} → statement M
+early-fits-spec =
+    tie.close
+    (tie.spec
+    none-requires
+    returns
+    none-requires-2
+    returns-2
+    returns-3
+    none-requires-3
+    returns-4
+    returns-5
+    returns-6
+    returns-7
+    returns-8)

@@ -1,0 +1,87 @@
+-- For the code, which tests a state on its plain numbers: those of a point, of a command and of the output that some target has. Nothing here
+-- needs to be believed; the laws are in proofs/.
+use mathlib.Core.Bool.{Bool, true, false, cond}
+use Prim.Native.Nat.{ℕ, _+_, _*_}
+use lib.Dec.{eqb, ltb, leb}
+use Rattle.settings.specs.declared.Settings.{Settings}
+use Rattle.target.specs.declared.Effect.the-variants.{Nothing}
+use Rattle.target.specs.Known.{hearing, after-its-wait, is-count, known-block}
+use Rattle.model.specs.declared.State.{State}
+
+-- all of these are 0
+abbrev pub none : (a b c d : ℕ) → Bool
+none a b c d = eqb (a + b + c + d) 0
+
+-- What a frame does at its STOP, and the byte of it: at the STOP,
+unfoldable pub stop-fits : (effect byte : ℕ) → Bool
+stop-fits e b = cond (eqb e 1) true (cond (eqb e 2) true (cond (ltb e 5) (eqb b 0) false))
+
+-- in a WAIT, with the bits that are sent after it,
+unfoldable pub wait-fits : (left effect byte : ℕ) → Bool
+wait-fits n e b =
+    cond (eqb e 2) (eqb n 0)
+    (cond (eqb b 0) (cond (eqb e 4) (eqb n 8) (cond (eqb e 0) (after-its-wait n Nothing) false)) false)
+
+-- and while bits are sent.
+unfoldable pub sent-fits : (value left effect : ℕ) → Bool
+sent-fits v n e =
+    cond (eqb n 0) false
+    (cond (eqb e 0) (cond (leb n 32) (eqb v 0) false) (cond (ltb e 3) false (cond (ltb e 5) (hearing 9 n v) false)))
+
+-- START and the fields that the target hears; at START no bits are,
+unfoldable pub heard-fits : (point heard value : ℕ) → Bool
+heard-fits p n v = cond (eqb p 0) (hearing 1 n v) (cond (ltb p 4) (hearing 2 n v) (hearing 8 n v))
+
+-- fields past those but bits that are sent,
+unfoldable pub later-fits : (point left zeros effect byte : ℕ) → Bool
+later-fits p n z e b =
+    cond (eqb p 10) (cond (none n z 0 0) (stop-fits e b) false)
+    (cond (eqb p 7) (cond (eqb z 0) (wait-fits n e b) false)
+    (cond (eqb p 8) (cond (ltb z 19) (wait-fits n e b) false)
+    (cond (eqb p 6) (cond (none z e b 0) (cond (eqb n 0) false (leb n 32)) false) false)))
+
+-- and any point.
+unfoldable pub point-fits : (point heard value left zeros effect byte : ℕ) → Bool
+point-fits p h v n z e b =
+    cond (eqb p 9) (cond (none h z b 0) (sent-fits v n e) false)
+    (cond (ltb p 6) (cond (none n z e b) (heard-fits p h v) false)
+    (cond (none h v 0 0) (later-fits p n z e b) false))
+
+-- A command before the length code, which has no address and no bytes left,
+unfoldable pub early-fits : (command write page high pages : ℕ) → Bool
+early-fits c w p h pages =
+    cond (ltb c 2) (none w p h 0)
+    (cond (eqb c 2) (cond (none w h 0 0) (ltb p pages) false)
+    (cond (eqb c 3) (cond (none p h 0 0) (ltb w 2) false)
+    (cond (eqb c 4) (cond (eqb p 0) (ltb w 2) false) false)))
+
+-- and any command.
+unfoldable pub command-fits : (command write page high start rest pages end : ℕ) → Bool
+command-fits c w p h a n pages end =
+    cond (eqb c 6) (cond (none w p h 0) (known-block end a n) false)
+    (cond (eqb c 7) (cond (none w p h 0) (cond (eqb a 0) (is-count n) false) false)
+    (cond (eqb n 0)
+    (cond (eqb c 5) (cond (none p h 0 0) (ltb w 2) false) (cond (eqb a 0) (early-fits c w p h pages) false))
+    false))
+
+-- The output.
+unfoldable pub output-fits : (output passed next count end : ℕ) → Bool
+output-fits o ok a n end =
+    cond (ltb o 2) (cond (eqb (a + n) 0) (leb ok o) false) (cond (ltb o 4) (cond (eqb ok 0) (known-block end a n) false) false)
+
+-- A state that some target has, with a flash of this length.
+unfoldable pub valid : Settings → State → (end : ℕ) → Bool
+valid t s end =
+    cond (eqb end (t .size * t .count))
+    (cond (point-fits (s .point) (s .heard) (s .value) (s .left) (s .zeros) (s .effect) (s .byte))
+    (cond (ltb (s .collision) 2)
+    (cond (ltb (s .on) 2)
+    (cond (ltb (s .keys) 4)
+    (cond (output-fits (s .output) (s .passed) (s .next) (s .count) end)
+    (command-fits (s .command) (s .write) (s .page) (s .high) (s .start) (s .rest) (t .count) end)
+    false)
+    false)
+    false)
+    false)
+    false)
+    false
