@@ -29,16 +29,16 @@ use Rattle.model.specs.declared.PointFields.{PointFields}
 use Rattle.model.specs.declared.CommandFields.{CommandFields}
 use Rattle.model.specs.declared.OutputFields.{OutputFields}
 use Rattle.model.specs.State.{effect-code, effect-byte, point-fields, command-fields, output-fields, state-of}
-use Rattle.model.specs.Flat.{none, stop-fits, wait-fits, sent-fits, heard-fits, later-fits, point-fits, early-fits, command-fits, output-fits, valid}
+use Rattle.model.specs.Flat.{none, stop-fits, wait-fits, sent-fits, heard-fits, later-fits, point-fits, early-fits, command-fits, output-fits, device-fits, valid}
 
 -- numbers whose sum is 0
-record None (a b c d : ℕ) : Type 0 where
+pub record None (a b c d : ℕ) : Type 0 where
   pub first : a ≡ 0
   pub second : b ≡ 0
   pub third : c ≡ 0
   pub fourth : d ≡ 0
 
-none-says : (a b c d : ℕ) → none a b c d ≡ true → None a b c d
+pub none-says : (a b c d : ℕ) → none a b c d ≡ true → None a b c d
 none-says a b c d k =
     let e = eqb-true (a + b + c + d) 0 k in
     record { first = omega arith; second = omega arith; third = omega arith; fourth = omega arith }
@@ -200,7 +200,7 @@ point-found p h v n z e b sh sv sn sz sb k =
     record { point = x .point; known = x .known; numbers = rw (x .numbers, o .first, o .second) }))
 
 -- A truth value by its number.
-flag-found : (w : ℕ) → ltb w 2 ≡ true → bit (eqb w 1) ≡ w
+pub flag-found : (w : ℕ) → ltb w 2 ≡ true → bit (eqb w 1) ≡ w
 unfolding bit
 flag-found w k =
     let l = ltb-true w 2 k in
@@ -347,15 +347,15 @@ together t s f m k kc ko ky p c o =
     }
 
 pub state-found : (t : Settings) (s : State) (f : List ℕ) → Small s → valid t s (length f) ≡ true → Has t s f
-unfolding valid
+unfolding device-fits
 state-found t s f m k =
-    let k1 = not-second (eqb (length f) (t .size * t .count)) _ k in
-    let k2 = not-second (point-fits (s .point) (s .heard) (s .value) (s .left) (s .zeros) (s .effect) (s .byte)) _ (k1 .1) in
-    let k3 = not-second (ltb (s .collision) 2) _ (k2 .1) in
-    let k4 = not-second (ltb (s .on) 2) _ (k3 .1) in
-    let k5 = not-second (ltb (s .keys) 4) _ (k4 .1) in
-    let k6 = not-second (output-fits (s .output) (s .passed) (s .next) (s .count) (length f)) _ (k5 .1) in
-    together t s f m (k1 .0) (k3 .0) (k4 .0) (k5 .0)
-    (point-found (s .point) (s .heard) (s .value) (s .left) (s .zeros) (s .effect) (s .byte) (m .heard) (m .value) (m .left) (m .zeros) (m .byte) (k2 .0))
-    (command-found (s .command) (s .write) (s .page) (s .high) (s .start) (s .rest) (t .count) (length f) (m .page) (m .high) (m .start) (m .rest) (k6 .1))
-    (output-found (s .output) (s .passed) (s .next) (s .count) (length f) (m .next) (m .count) (k6 .0))
+    let k0 = not-second (device-fits t s (length f)) _ k in
+    let k1 = not-second (eqb (length f) (t .size * t .count)) _ (k0 .0) in
+    let k2 = not-second (ltb (s .collision) 2) _ (k1 .1) in
+    let k3 = not-second (ltb (s .on) 2) _ (k2 .1) in
+    let k4 = not-second (ltb (s .keys) 4) _ (k3 .1) in
+    let k5 = not-second (output-fits (s .output) (s .passed) (s .next) (s .count) (length f)) _ (k4 .1) in
+    together t s f m (k1 .0) (k2 .0) (k3 .0) (k4 .0)
+    (point-found (s .point) (s .heard) (s .value) (s .left) (s .zeros) (s .effect) (s .byte) (m .heard) (m .value) (m .left) (m .zeros) (m .byte) (k0 .1))
+    (command-found (s .command) (s .write) (s .page) (s .high) (s .start) (s .rest) (t .count) (length f) (m .page) (m .high) (m .start) (m .rest) (k5 .1))
+    (output-found (s .output) (s .passed) (s .next) (s .count) (length f) (m .next) (m .count) (k5 .0))

@@ -27,7 +27,7 @@ use Rattle.model.specs.declared.PointFields.{PointFields}
 use Rattle.model.specs.declared.CommandFields.{CommandFields}
 use Rattle.model.specs.declared.OutputFields.{OutputFields}
 use Rattle.model.specs.State.{effect-code, effect-byte, point-fields, command-fields, output-fields, state-of}
-use Rattle.model.specs.Flat.{stop-fits, wait-fits, sent-fits, heard-fits, later-fits, point-fits, early-fits, command-fits, output-fits, valid}
+use Rattle.model.specs.Flat.{stop-fits, wait-fits, sent-fits, heard-fits, later-fits, point-fits, early-fits, command-fits, output-fits, device-fits, valid}
 use Rattle.model.proofs.Reading.{not-so, waits-effect, sent-effect, count-says, block-back, heard-back, sized}
 
 -- a point
@@ -145,7 +145,7 @@ module _ (end : ℕ) (small : end ≤ 65536) where
 
 pub state-passed : (s : Settings) (t : Target) (f ds : List ℕ) → settings-refusal s ≡ 0 → known (setup s ds) t f ≡ true
     → valid s (state-of t) (length f) ≡ true
-unfolding known known-link is-byte valid state-of
+unfolding known known-link is-byte device-fits state-of
 state-passed s t f ds r k =
     let d = t .device in
     let l = d .link in
@@ -160,5 +160,5 @@ state-passed s t f ds r k =
     let small : length f ≤ 65536 = omega (arith, z .bytes, eqb-true (length f) (s .size * s .count) (k1 .0)) in
     let y : d .keys % 256 ≡ d .keys = mod-eq-of-lt (omega (arith, leb-true (d .keys) 3 (k4 .0))) in
     let v : ltb (d .keys) 4 ≡ true = lt-ltb (d .keys) 4 (omega (arith, leb-true (d .keys) 3 (k4 .0))) in
-    rw (k1 .0, point-passed (t .point) (k2 .0), flag-passes (t .collision), flag-passes (d .on), y, v, output-passed (length f) small (l .output) (k6 .0))
-    (command-passed (length f) small (s .count) few (l .command) (k5 .0))
+    rw (k1 .0, flag-passes (t .collision), flag-passes (d .on), y, v, output-passed (length f) small (l .output) (k6 .0), command-passed (length f) small (s .count) few (l .command) (k5 .0))
+    (point-passed (t .point) (k2 .0))

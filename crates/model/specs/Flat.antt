@@ -1,12 +1,15 @@
 -- For the code, which tests a state on its plain numbers: those of a point, of a command and of the output that some target has. Nothing here
 -- needs to be believed; the laws are in proofs/.
 use mathlib.Core.Bool.{Bool, true, false, cond}
-use Prim.Native.Nat.{ℕ, _+_, _*_}
+use Prim.Native.Nat.{ℕ, _+_, _-_, _*_, _/_}
 use lib.Dec.{eqb, ltb, leb}
 use Rattle.settings.specs.declared.Settings.{Settings}
 use Rattle.target.specs.declared.Effect.the-variants.{Nothing}
 use Rattle.target.specs.Known.{hearing, after-its-wait, is-count, known-block}
+use Rattle.target.specs.Strobes.{with-bit}
+use Rattle.target.specs.Target.{step-of}
 use Rattle.model.specs.declared.State.{State}
+use Rattle.model.specs.declared.PointFields.{PointFields}
 
 -- all of these are 0
 abbrev pub none : (a b c d : ℕ) → Bool
@@ -69,11 +72,10 @@ unfoldable pub output-fits : (output passed next count end : ℕ) → Bool
 output-fits o ok a n end =
     cond (ltb o 2) (cond (eqb (a + n) 0) (leb ok o) false) (cond (ltb o 4) (cond (eqb ok 0) (known-block end a n) false) false)
 
--- A state that some target has, with a flash of this length.
-unfoldable pub valid : Settings → State → (end : ℕ) → Bool
-valid t s end =
+-- All but the point, with a flash of this length,
+unfoldable pub device-fits : Settings → State → (end : ℕ) → Bool
+device-fits t s end =
     cond (eqb end (t .size * t .count))
-    (cond (point-fits (s .point) (s .heard) (s .value) (s .left) (s .zeros) (s .effect) (s .byte))
     (cond (ltb (s .collision) 2)
     (cond (ltb (s .on) 2)
     (cond (ltb (s .keys) 4)
@@ -83,5 +85,65 @@ valid t s end =
     false)
     false)
     false)
-    false)
     false
+
+-- and a state that some target has.
+abbrev pub valid : Settings → State → (end : ℕ) → Bool
+valid t s end =
+    cond (device-fits t s end) (point-fits (s .point) (s .heard) (s .value) (s .left) (s .zeros) (s .effect) (s .byte)) false
+
+-- A strobe,
+unfoldable pub is-strobe : (step : ℕ) → Bool
+is-strobe x = cond (eqb x 1) false (ltb x 4)
+
+-- and the mark after one of the target's.
+unfoldable pub mark : (collision step : ℕ) → ℕ
+mark c x = cond (eqb x 0) c 1
+
+-- A state with other numbers of its point, and another mark.
+abbrev pub moved : State → PointFields → (collision : ℕ) → State
+moved s p c =
+    record {
+      place = s .place;
+      start = s .start;
+      rest = s .rest;
+      next = s .next;
+      count = s .count;
+      point = p .point;
+      heard = p .heard;
+      value = p .value;
+      left = p .left;
+      zeros = p .zeros;
+      effect = p .effect;
+      byte = p .byte;
+      collision = c;
+      address = s .address;
+      on = s .on;
+      keys = s .keys;
+      command = s .command;
+      write = s .write;
+      page = s .page;
+      high = s .high;
+      output = s .output;
+      passed = s .passed;
+      busy = s .busy;
+      late = s .late;
+    }
+
+-- The field that is heard has more bits after this one.
+unfoldable pub hears-more : (point heard : ℕ) → Bool
+hears-more p n = cond (eqb p 0) false (cond (ltb p 4) (eqb n 0) (cond (ltb p 6) (ltb n 7) false))
+
+-- The state after a bit that is heard in the middle of its field,
+abbrev pub heard : State → (step : ℕ) → State
+heard s x =
+    moved s
+    (record { point = s .point; heard = s .heard + 1; value = with-bit (s .heard) (s .value) (step-of x); left = s .left; zeros = s .zeros; effect = s .effect; byte = s .byte })
+    (s .collision)
+
+-- and after one that is sent; the STOP follows the last.
+abbrev pub sent : State → (step : ℕ) → State
+sent s x =
+    moved s
+    (record { point = cond (eqb (s .left) 1) 10 9; heard = s .heard; value = s .value / 2; left = s .left - 1; zeros = s .zeros; effect = s .effect; byte = s .byte })
+    (mark (s .collision) x)

@@ -1,12 +1,15 @@
 // The modelled target for C: its state is a struct of plain numbers, handed in and back by value. Nothing else is kept between steps.
 ghost use mathlib.Core.Path.{_≡_};
+ghost use mathlib.Core.Bool.{true, cond};
 ghost use Prim.Native.Nat.{_*_, _%_, _≤_};
+ghost use lib.Dec.{eqb};
 ghost use Rattle.wire.specs.Bits.{bit};
 ghost use Rattle.target.specs.Known.{hearing, after-its-wait, is-count, known-block};
 ghost use Rattle.target.specs.Delays.{setup};
-ghost use Rattle.target.specs.Target.{fresh, answer, flash-after};
+ghost use Rattle.target.specs.Strobes.{line, with-bit};
+ghost use Rattle.target.specs.Target.{fresh, step-of, answer, flash-after};
 ghost use Rattle.model.specs.State.{effect-code, effect-byte, fields, point-fields, command-fields, output-fields, command-numbers, output-numbers, state-of, effect-of, point-of, command-of, output-of, later-point, target-read};
-ghost use Rattle.model.specs.Flat.{none, stop-fits, wait-fits, sent-fits, heard-fits, later-fits, point-fits, early-fits, command-fits, output-fits, valid};
+ghost use Rattle.model.specs.Flat.{none, stop-fits, wait-fits, sent-fits, heard-fits, later-fits, point-fits, early-fits, command-fits, output-fits, device-fits, is-strobe, mark, hears-more, heard, sent};
 ghost use Rattle.model.specs.Model.{gives, held-answer, model-answer, model-flash};
 use numbers::NO_POINT;
 use settings::Settings;
@@ -749,28 +752,25 @@ fn flash_size(size: u32, count: u32) -> usize
     (size as usize) * (count as usize)
 }
 
-// Some target has this state, with a flash of this length.
-fn valid(t: Settings, s: State, end: usize) -> bool
-    ensures { λ r. ⌜ r ≡ valid t s end ⌝ }
+// All but the point are numbers that some target has, with a flash of this length.
+fn device_fits(t: Settings, s: State, end: usize) -> bool
+    ensures { λ r. ⌜ r ≡ device-fits t s end ⌝ }
 {
     if end == flash_size(t.size, t.count) {
-        if point_fits(s.point, s.heard, s.value, s.left, s.zeros, s.effect, s.byte) {
-            if s.collision < 2 {
-                if s.on < 2 {
-                    if s.keys < 4 {
-                        if output_fits(s.output, s.passed, s.next, s.count, end) {
-                            return command_fits(
-                                s.command,
-                                s.write,
-                                s.page,
-                                s.high,
-                                s.start,
-                                s.rest,
-                                t.count,
-                                end,
-                            );
-                        }
-                        return false;
+        if s.collision < 2 {
+            if s.on < 2 {
+                if s.keys < 4 {
+                    if output_fits(s.output, s.passed, s.next, s.count, end) {
+                        return command_fits(
+                            s.command,
+                            s.write,
+                            s.page,
+                            s.high,
+                            s.start,
+                            s.rest,
+                            t.count,
+                            end,
+                        );
                     }
                     return false;
                 }
@@ -809,6 +809,102 @@ fn held(t: Settings, state: State, flash: &mut [u8], delays: &[u8], x: u8) -> Mo
         };
     }
     refused(replied.number, state)
+}
+
+fn is_strobe(x: u8) -> bool
+    ensures { λ r. ⌜ r ≡ is-strobe x ⌝ }
+{
+    if x == 1 {
+        return false;
+    }
+    x < 4
+}
+
+fn line(x: u8) -> u32
+    ensures { λ r. ⌜ r ≡ bit (line (step-of x)) ⌝ }
+{
+    if x == 2 {
+        return 0;
+    }
+    1
+}
+
+fn mark(collision: u8, x: u8) -> u8
+    ensures { λ r. ⌜ r ≡ mark collision x ⌝ }
+{
+    if x == 0 {
+        return collision;
+    }
+    1
+}
+
+// The value of the bits heard, with one more.
+fn with_bit(heard: u8, value: u8, x: u8) -> u8
+    requires { ⌜ hearing 8 heard value ≡ true ⌝ }
+    ensures { λ r. ⌜ r ≡ with-bit heard value (step-of x) ⌝ }
+{
+    if x == 2 {
+        return value;
+    }
+    value + (1u8 << heard)
+}
+
+// The field that is heard has more bits after this one.
+fn hears_more(point: u8, heard: u8) -> bool
+    ensures { λ r. ⌜ r ≡ hears-more point heard ⌝ }
+{
+    if point == 0 {
+        return false;
+    }
+    if point < 4 {
+        return heard == 0;
+    }
+    if point < 6 {
+        return heard < 7;
+    }
+    false
+}
+
+// A bit that is heard in the middle of its field, on the numbers alone.
+fn hears(s: State, x: u8) -> ModelReplied
+    requires { ⌜ hearing 8 (s .heard) (s .value) ≡ true ⌝ }
+    ensures { λ r. ⌜ r ≡ gives 0 (bit (line (step-of x))) (heard s x) ⌝ }
+{
+    let mut n = s;
+    n.heard = s.heard + 1;
+    n.value = with_bit(s.heard, s.value, x);
+    ModelReplied {
+        number: 0,
+        reply: line(x),
+        target: n,
+    }
+}
+
+// The point after so many bits to be sent, less one.
+fn point_sent(left: u8) -> u8
+    ensures { λ r. ⌜ r ≡ cond (eqb left 1) 10 9 ⌝ }
+{
+    if left == 1 {
+        return 10;
+    }
+    9
+}
+
+// A bit that is sent, likewise.
+fn sends(s: State, x: u8) -> ModelReplied
+    requires { ⌜ 1 ≤ s .left ⌝ }
+    ensures { λ r. ⌜ r ≡ gives 0 (s .value % 2) (sent s x) ⌝ }
+{
+    let mut n = s;
+    n.point = point_sent(s.left);
+    n.value = s.value / 2;
+    n.left = s.left - 1;
+    n.collision = mark(s.collision, x);
+    ModelReplied {
+        number: 0,
+        reply: (s.value % 2) as u32,
+        target: n,
+    }
 }
 
 // The state of a fresh target: all of its numbers are 0.
@@ -852,8 +948,28 @@ pub fn step(t: Settings, state: State, flash: &mut [u8], delays: &[u8], x: u8) -
     if number != 0 {
         return refused(number, state);
     }
-    if valid(t, state, flash.len()) {
-        return held(t, state, flash, delays, x);
+    if device_fits(t, state, flash.len()) {
+        if point_fits(
+            state.point,
+            state.heard,
+            state.value,
+            state.left,
+            state.zeros,
+            state.effect,
+            state.byte,
+        ) {
+            if is_strobe(x) {
+                if state.point == 9 {
+                    return sends(state, x);
+                }
+                if hears_more(state.point, state.heard) {
+                    return hears(state, x);
+                }
+                return held(t, state, flash, delays, x);
+            }
+            return held(t, state, flash, delays, x);
+        }
+        return refused(NO_POINT, state);
     }
     refused(NO_POINT, state)
 }

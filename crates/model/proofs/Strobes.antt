@@ -1,0 +1,223 @@
+-- A strobe inside a frame, on the state's numbers: the definition's, and all numbers but a few are as they were.
+use mathlib.Core.Path.{_≡_, refl, sym, ap, _∙_}
+use mathlib.Core.Bool.{Bool, true, false, cond}
+use mathlib.Core.List.{List}
+use Prim.Native.Nat.{ℕ, _+_, _-_, _*_, _/_, _%_, _^_, _<_, _≤_}
+use native.Mathlib.Nat.{mod-eq-of-lt}
+use native.Mathlib.Omega.{arith}
+use borrow.Author.Tests.{ltb-true, ltb-false, leb-true, eqb-true, eqb-false, lt-ltb, le-leb, ne-eqb}
+use lib.Dec.{eqb, ltb, leb}
+use Rattle.laws.proofs.Testing.{both, by-test, not-first, not-second}
+use Rattle.wire.specs.Bits.{bit}
+use Rattle.wire.specs.Step.{drives}
+use Rattle.wire.proofs.Bits.{weight-small, bit-odd}
+use Rattle.settings.specs.declared.Settings.{Settings}
+use Rattle.settings.specs.Accepted.{settings-refusal}
+use Rattle.target.specs.declared.Effect.{Effect}
+use Rattle.target.specs.declared.Effect.the-variants.{Nothing, SetAddress, Write, CountDown, Read}
+use Rattle.target.specs.declared.Point.{Point}
+use Rattle.target.specs.declared.Point.the-variants.{Ins, WriteLength, ReadLength, Address, Data, Send}
+use Rattle.target.specs.Delays.{setup}
+use Rattle.target.specs.Strobes.{target, Turn, marked, line, with-bit, sending, after-ins, after-write-length, after-read-length, after-address, after-data, hears, strobed-at, strobed}
+use Rattle.target.specs.Known.{hearing, is-sent, known-point, known}
+use Rattle.target.specs.Target.{is-step, step-of, refusal, answer, flash-after}
+use Rattle.target.proofs.Steps as steps
+use Rattle.model.specs.declared.State.{State}
+use Rattle.model.specs.declared.PointFields.{PointFields}
+use Rattle.model.specs.declared.ModelReplied.{ModelReplied}
+use Rattle.model.specs.declared.Seen.the-variants.{Held}
+use Rattle.model.specs.State.{effect-code, effect-byte, point-fields, state-of, effect-of, later-point, point-of, target-read, target-of}
+use Rattle.model.specs.Flat.{none, sent-fits, heard-fits, point-fits, is-strobe, mark, moved, hears-more, heard, sent}
+use Rattle.model.specs.Model.{gives, held-answer, seen-answer, seen-flash, model-answer, model-flash}
+use Rattle.model.proofs.Reading.{not-so, sent-effect}
+use Rattle.model.proofs.Found.{none-says, flag-found}
+
+-- a bit more of a byte
+pub one-more : (n v : ℕ) → hearing 8 n v ≡ true → (n < 8) × ((v < 2 ^ n) × (2 ^ n ≤ 128))
+unfolding hearing
+one-more n v k =
+    let h = both (ltb n 8) (ltb v (2 ^ n)) k in
+    let l = ltb-true n 8 (h .0) in
+    (l, (ltb-true v (2 ^ n) (h .1), weight-small n l))
+
+-- the steps that are strobes
+strobes : {A : Type 0} (x : ℕ) → is-strobe x ≡ true → (x ≡ 0 → A) → (x ≡ 2 → A) → (x ≡ 3 → A) → A
+unfolding is-strobe
+strobes x k a b c =
+    let h = not-first (eqb x 1) (ltb x 4) k in
+    by-test (eqb x 0) (λ e. a (eqb-true x 0 e))
+    (λ e. by-test (eqb x 2) (λ g. b (eqb-true x 2 g)) (λ g. c (three x (ltb-true x 4 (h .1)) (eqb-false x 0 e) (eqb-false x 1 (h .0)) (eqb-false x 2 g))))
+  where
+    three : (x : ℕ) → x < 4 → (x ≡ 0 → ⊥) → (x ≡ 1 → ⊥) → (x ≡ 2 → ⊥) → x ≡ 3
+    three x l p q r = omega arith
+
+mark-says : (c x : ℕ) → ltb c 2 ≡ true → is-strobe x ≡ true → bit (marked (step-of x) (eqb c 1)) ≡ mark c x
+unfolding marked step-of drives mark bit
+mark-says c x l k = strobes x k (λ e. rw e (flag-found c l)) (λ e. rw e) (λ e. rw e)
+
+-- What the model gives by a turn of the target,
+abbrev turned : Turn → ModelReplied
+turned r = gives 0 (bit (r .reply)) (state-of (r .target))
+
+-- which is that of the definition.
+pub strobe-says : (t : Settings) (s : State) (f ds : List ℕ) (x : ℕ) → settings-refusal t ≡ 0 → is-strobe x ≡ true → target-of s ≡ Held (target-read s)
+    → known (setup t ds) (target-read s) f ≡ true
+    → (turned (strobed (setup t ds) (target-read s) f (step-of x)) ≡ model-answer t s f ds x)
+    × (strobed (setup t ds) (target-read s) f (step-of x) .flash ≡ model-flash t s f ds x)
+unfolding seen-answer seen-flash held-answer answer flash-after refusal is-strobe is-step
+strobe-says t s f ds x r k h g =
+    let q = not-first (eqb x 1) (ltb x 4) k in
+    let l = ltb-true x 4 (q .1) in
+    let i : is-step x ≡ true = rw (le-leb x 6 (omega arith), q .0) in
+    let e = steps.is-strobe (setup t ds) (target-read s) f x i (λ w. omega arith) (λ w. omega arith) (λ w. omega arith) in
+    rw (h, r, g, le-leb x 6 (omega arith), q .0, e) (refl, refl)
+
+abbrev numbers : State → PointFields
+numbers s = record { point = s .point; heard = s .heard; value = s .value; left = s .left; zeros = s .zeros; effect = s .effect; byte = s .byte }
+
+-- A bit that is sent: the numbers of the point after it.
+last-bit : (v : ℕ) (e : Effect) → is-sent 1 v e ≡ true → v / 2 ≡ 0
+unfolding is-sent
+last-bit v Nothing k = let z = eqb-true v 0 k in omega arith
+last-bit v (SetAddress a) k = not-so k
+last-bit v (Write b) k = not-so k
+last-bit v CountDown k = let z = ltb-true v 2 k in omega arith
+last-bit v Read k = let z = ltb-true v 2 k in omega arith
+
+sent-numbers : (n v : ℕ) (e : Effect) → leb 1 n ≡ true → is-sent n v e ≡ true
+    → point-fields (sending (n - 1) (v / 2) e)
+    ≡ record { point = cond (eqb n 1) 10 9; heard = 0; value = v / 2; left = n - 1; zeros = 0; effect = effect-code e; byte = effect-byte e }
+unfolding sending point-fields
+sent-numbers n v e m k =
+    let h = sent-effect n v e k in
+    by-test (eqb n 1)
+    (λ i. let o = eqb-true n 1 i in let z = last-bit v e (rw o at k) in rw (o, z))
+    (λ i. let w : eqb (n - 1) 0 ≡ false = ne-eqb (n - 1) 0 (more n (leb-true 1 n m) (eqb-false n 1 i)) in
+    let a : (v / 2) % 256 ≡ v / 2 = mod-eq-of-lt (omega (arith, h .value)) in
+    let b : (n - 1) % 256 ≡ n - 1 = mod-eq-of-lt (omega (arith, h .left)) in
+    rw (i, w, a, b))
+  where
+    more : (n : ℕ) → 1 ≤ n → (n ≡ 1 → ⊥) → n - 1 ≡ 0 → ⊥
+    more n l h z = h (omega arith)
+
+send-read : (s : State) → s .point ≡ 9 → point-of s ≡ Send (s .left) (s .value) (effect-of (s .effect) (s .byte))
+unfolding point-of later-point
+send-read s p = rw p
+
+-- Another point, and another mark: the other numbers stay.
+moves : (s : State) (q : Point) (c : Bool) → state-of (target-read s) ≡ s
+    → state-of (target q (s .place) c (target-read s .device)) ≡ moved s (point-fields q) (bit c)
+unfolding state-of target-read
+moves s q c back = ap (λ (z : State). moved z (point-fields q) (bit c)) back
+
+pub sent-says : (t : Settings) (s : State) (f ds : List ℕ) (x : ℕ) → s .point ≡ 9 → state-of (target-read s) ≡ s → known-point 20 (point-of s) ≡ true
+    → ltb (s .collision) 2 ≡ true → is-strobe x ≡ true
+    → (gives 0 (s .value % 2) (sent s x) ≡ turned (strobed (setup t ds) (target-read s) f (step-of x)))
+    × (f ≡ strobed (setup t ds) (target-read s) f (step-of x) .flash)
+unfolding target-read strobed-at known-point point-fields state-of
+sent-says t s f ds x p back k c y =
+    let e = effect-of (s .effect) (s .byte) in
+    let g = target-read s in
+    let pt : point-of s ≡ Send (s .left) (s .value) e = send-read s p in
+    let q = both (leb 1 (s .left)) (is-sent (s .left) (s .value) e) (rw pt at k) in
+    let r = ap (λ (z : Point). strobed-at (setup t ds) z g f (step-of x)) pt in
+    let field : (get : PointFields → ℕ) → get (point-fields (Send (s .left) (s .value) e)) ≡ get (numbers s) = λ get. ap (λ (z : Point). get (point-fields z)) (sym pt) ∙ ap (λ (z : State). get (numbers z)) back in
+    let h = field (λ z. z .heard) in
+    let j = field (λ z. z .zeros) in
+    let a = field (λ z. z .effect) in
+    let b = field (λ z. z .byte) in
+    let m = moves s (sending (s .left - 1) (s .value / 2) e) (marked (step-of x) (eqb (s .collision) 1)) back in
+    (sym (ap turned r ∙ rw (bit-odd (s .value), m, sent-numbers (s .left) (s .value) e (q .0) (q .1), mark-says (s .collision) x c y, a, b, sym h, sym j)), sym (ap (λ (z : Turn). z .flash) r))
+
+pub some-left : (s : State) → s .point ≡ 9 → point-fits (s .point) (s .heard) (s .value) (s .left) (s .zeros) (s .effect) (s .byte) ≡ true → 1 ≤ s .left
+unfolding point-fits sent-fits
+some-left s p k =
+    let h = not-second (none (s .heard) (s .zeros) (s .byte) 0) _ (rw p at k) in
+    let z = eqb-false (s .left) 0 (not-first (eqb (s .left) 0) _ (h .1) .0) in
+    some (s .left) z
+  where
+    some : (n : ℕ) → (n ≡ 0 → ⊥) → 1 ≤ n
+    some n h = omega arith
+
+-- A bit that is heard in the middle of its field: what the tests say,
+pub record Amid (s : State) : Type 0 where
+  pub point : (1 ≤ s .point) × (s .point < 6)
+  pub bits : hearing 8 (s .heard) (s .value) ≡ true
+  pub short : s .point < 4 → s .heard ≡ 0
+  pub long : s .heard < 7
+  pub left : s .left ≡ 0
+  pub zeros : s .zeros ≡ 0
+  pub effect : s .effect ≡ 0
+  pub byte : s .byte ≡ 0
+
+wider : (n v : ℕ) → hearing 2 n v ≡ true → hearing 8 n v ≡ true
+unfolding hearing
+wider n v k =
+    let h = both (ltb n 2) (ltb v (2 ^ n)) k in
+    let l = ltb-true n 2 (h .0) in
+    rw (lt-ltb n 8 (omega arith), h .1)
+
+pub amid : (s : State) → (s .point ≡ 9 → ⊥) → point-fits (s .point) (s .heard) (s .value) (s .left) (s .zeros) (s .effect) (s .byte) ≡ true
+    → hears-more (s .point) (s .heard) ≡ true → Amid s
+unfolding point-fits heard-fits hears-more
+amid s p k m =
+    let m1 = not-first (eqb (s .point) 0) _ m in
+    let start = eqb-false (s .point) 0 (m1 .0) in
+    by-test (ltb (s .point) 4)
+    (λ l. let b = ltb-true (s .point) 4 l in
+    let six : s .point < 6 = omega arith in
+    let z = eqb-true (s .heard) 0 (rw l at (m1 .1)) in
+    let q = not-second (none (s .left) (s .zeros) (s .effect) (s .byte)) _ (rw (ne-eqb (s .point) 9 p, lt-ltb (s .point) 6 six) at k) in
+    let o = none-says (s .left) (s .zeros) (s .effect) (s .byte) (q .0) in
+    record { point = (some (s .point) start, six); bits = wider (s .heard) (s .value) (rw (m1 .0, l) at (q .1)); short = λ _. z; long = omega (arith, z); left = o .first; zeros = o .second; effect = o .third; byte = o .fourth })
+    (λ l. let m2 = not-second (ltb (s .point) 6) (ltb (s .heard) 7) (rw l at (m1 .1)) in
+    let b = ltb-false (s .point) 4 l in
+    let q = not-second (none (s .left) (s .zeros) (s .effect) (s .byte)) _ (rw (ne-eqb (s .point) 9 p, m2 .0) at k) in
+    let o = none-says (s .left) (s .zeros) (s .effect) (s .byte) (q .0) in
+    record { point = (some (s .point) start, ltb-true (s .point) 6 (m2 .0)); bits = rw (m1 .0, l) at (q .1); short = λ g. absurd (omega arith); long = ltb-true (s .heard) 7 (m2 .1); left = o .first; zeros = o .second; effect = o .third; byte = o .fourth })
+  where
+    some : (n : ℕ) → (n ≡ 0 → ⊥) → 1 ≤ n
+    some n h = omega arith
+
+-- and the strobe.
+abbrev next : State → (step : ℕ) → PointFields
+next s x =
+    record { point = s .point; heard = s .heard + 1; value = with-bit (s .heard) (s .value) (step-of x); left = s .left; zeros = s .zeros; effect = s .effect; byte = s .byte }
+
+hears-as : (t : Settings) (s : State) (f ds : List ℕ) (x : ℕ) (q : Point) → state-of (target-read s) ≡ s → ltb (s .collision) 2 ≡ true
+    → strobed (setup t ds) (target-read s) f (step-of x) ≡ hears (target-read s) f (step-of x) q → point-fields q ≡ next s x
+    → (gives 0 (bit (line (step-of x))) (heard s x) ≡ turned (strobed (setup t ds) (target-read s) f (step-of x)))
+    × (f ≡ strobed (setup t ds) (target-read s) f (step-of x) .flash)
+unfolding target-read
+hears-as t s f ds x q back c r e =
+    let m = moves s q (eqb (s .collision) 1) back in
+    (sym (ap turned r ∙ rw (m, e, flag-found (s .collision) c)), sym (ap (λ (z : Turn). z .flash) r))
+
+bit-fits : (n v : ℕ) (b : Bool) → hearing 8 n v ≡ true → (v + bit b * 2 ^ n) % 256 ≡ v + bit b * 2 ^ n
+unfolding bit
+bit-fits n v true k = let h = one-more n v k in mod-eq-of-lt (omega (arith, h .1 .0, h .1 .1))
+bit-fits n v false k = let h = one-more n v k in mod-eq-of-lt (omega (arith, h .1 .0, h .1 .1))
+
+pub heard-says : (t : Settings) (s : State) (f ds : List ℕ) (x : ℕ) → Amid s → state-of (target-read s) ≡ s → ltb (s .collision) 2 ≡ true
+    → (gives 0 (bit (line (step-of x))) (heard s x) ≡ turned (strobed (setup t ds) (target-read s) f (step-of x)))
+    × (f ≡ strobed (setup t ds) (target-read s) f (step-of x) .flash)
+unfolding target-read point-of strobed-at point-fields after-ins after-write-length after-read-length after-address after-data effect-code effect-byte
+heard-says t s f ds x a back c =
+    let n = s .heard in
+    let w = with-bit n (s .value) (step-of x) in
+    let i : (n + 1) % 256 ≡ n + 1 = mod-eq-of-lt (omega (arith, a .long)) in
+    let j = bit-fits n (s .value) (line (step-of x)) (a .bits) in
+    let eight : ltb (n + 1) 8 ≡ true = lt-ltb (n + 1) 8 (omega (arith, a .long)) in
+    by-test (eqb (s .point) 1)
+    (λ p. let e = eqb-true (s .point) 1 p in let z = a .short (omega (arith, e)) in hears-as t s f ds x (Ins (n + 1) w) back c (rw (e, z)) (rw (i, j, e, a .left, a .zeros, a .effect, a .byte)))
+    (λ p. by-test (eqb (s .point) 2)
+    (λ q. let e = eqb-true (s .point) 2 q in let z = a .short (omega (arith, e)) in hears-as t s f ds x (WriteLength (n + 1) w) back c (rw (e, z)) (rw (i, j, e, a .left, a .zeros, a .effect, a .byte)))
+    (λ q. by-test (eqb (s .point) 3)
+    (λ r. let e = eqb-true (s .point) 3 r in let z = a .short (omega (arith, e)) in hears-as t s f ds x (ReadLength (n + 1) w) back c (rw (e, z)) (rw (i, j, e, a .left, a .zeros, a .effect, a .byte)))
+    (λ r. by-test (eqb (s .point) 4)
+    (λ y. let e = eqb-true (s .point) 4 y in hears-as t s f ds x (Address (n + 1) w) back c (rw (e, eight)) (rw (i, j, e, a .left, a .zeros, a .effect, a .byte)))
+    (λ y. let e : s .point ≡ 5 = five (s .point) (a .point .0) (a .point .1) (eqb-false (s .point) 1 p) (eqb-false (s .point) 2 q) (eqb-false (s .point) 3 r) (eqb-false (s .point) 4 y) in
+    hears-as t s f ds x (Data (n + 1) w) back c (rw (e, eight)) (rw (i, j, e, a .left, a .zeros, a .effect, a .byte))))))
+  where
+    five : (p : ℕ) → 1 ≤ p → p < 6 → (p ≡ 1 → ⊥) → (p ≡ 2 → ⊥) → (p ≡ 3 → ⊥) → (p ≡ 4 → ⊥) → p ≡ 5
+    five p l m g h i j = omega arith

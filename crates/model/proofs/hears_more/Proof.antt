@@ -1,0 +1,24 @@
+-- `model::hears_more` meets its contract: each return by the tests on its way and what the calls give.
+use borrow.Author.Tests.{eq-eqb, ne-eqb, lt-ltb, le-ltb}
+use Rattle.model.specs.Flat.{hears-more}
+use Rattle.model.proofs.hears_more.Statement.{statement}
+use Rattle.model.proofs.hears_more.Tie as tie
+
+returns : tie.Need-returns
+unfolding hears-more
+returns c = rw (eq-eqb _ _ (c .if1 .taken))
+
+returns-2 : tie.Need-returns-2
+unfolding hears-more
+returns-2 c = rw (lt-ltb _ _ (c .if2 .taken), ne-eqb _ _ (c .before .if1 .left))
+
+returns-3 : tie.Need-returns-3
+unfolding hears-more
+returns-3 c = rw (lt-ltb _ _ (c .if3 .taken), le-ltb _ _ (c .before .if2 .left), ne-eqb _ _ (c .before .before .if1 .left))
+
+returns-4 : tie.Need-returns-4
+unfolding hears-more
+returns-4 c = rw (le-ltb _ _ (c .if3 .left), le-ltb _ _ (c .before .if2 .left), ne-eqb _ _ (c .before .before .if1 .left))
+
+pub hears-more-spec : {M : Type 1} → statement M
+hears-more-spec = tie.close (tie.spec returns returns-2 returns-3 returns-4)
