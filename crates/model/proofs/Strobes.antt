@@ -16,8 +16,9 @@ use Rattle.settings.specs.Accepted.{settings-refusal}
 use Rattle.target.specs.declared.Effect.{Effect}
 use Rattle.target.specs.declared.Effect.the-variants.{Nothing, SetAddress, Write, CountDown, Read}
 use Rattle.target.specs.declared.Point.{Point}
-use Rattle.target.specs.declared.Point.the-variants.{Ins, WriteLength, ReadLength, Address, Data, Send}
+use Rattle.target.specs.declared.Point.the-variants.{Start, Ins, WriteLength, ReadLength, Address, Data, Send}
 use Rattle.target.specs.Delays.{setup}
+use Rattle.target.specs.Interface.{begun}
 use Rattle.target.specs.Strobes.{target, Turn, marked, line, with-bit, sending, after-ins, after-write-length, after-read-length, after-address, after-data, hears, strobed-at, strobed}
 use Rattle.target.specs.Known.{hearing, is-sent, known-point, known}
 use Rattle.target.specs.Target.{is-step, step-of, refusal, answer, flash-after}
@@ -27,7 +28,7 @@ use Rattle.model.specs.declared.PointFields.{PointFields}
 use Rattle.model.specs.declared.ModelReplied.{ModelReplied}
 use Rattle.model.specs.declared.Seen.the-variants.{Held}
 use Rattle.model.specs.State.{effect-code, effect-byte, point-fields, state-of, effect-of, later-point, point-of, target-read, target-of}
-use Rattle.model.specs.Flat.{none, sent-fits, heard-fits, point-fits, is-strobe, mark, moved, hears-more, heard, sent}
+use Rattle.model.specs.Flat.{none, sent-fits, heard-fits, point-fits, is-strobe, mark, moved, hears-more, heard, sent, begins-frame, started}
 use Rattle.model.specs.Model.{gives, held-answer, seen-answer, seen-flash, model-answer, model-flash}
 use Rattle.model.proofs.Reading.{not-so, sent-effect}
 use Rattle.model.proofs.Found.{none-says, flag-found}
@@ -103,6 +104,10 @@ sent-numbers n v e m k =
 send-read : (s : State) → s .point ≡ 9 → point-of s ≡ Send (s .left) (s .value) (effect-of (s .effect) (s .byte))
 unfolding point-of later-point
 send-read s p = rw p
+
+start-read : (s : State) → s .point ≡ 0 → point-of s ≡ Start
+unfolding point-of
+start-read s p = rw p
 
 -- Another point, and another mark: the other numbers stay.
 moves : (s : State) (q : Point) (c : Bool) → state-of (target-read s) ≡ s
@@ -221,3 +226,20 @@ heard-says t s f ds x a back c =
   where
     five : (p : ℕ) → 1 ≤ p → p < 6 → (p ≡ 1 → ⊥) → (p ≡ 2 → ⊥) → (p ≡ 3 → ⊥) → (p ≡ 4 → ⊥) → p ≡ 5
     five p l m g h i j = omega arith
+
+-- A START that takes no three key writes away.
+pub start-says : (t : Settings) (s : State) (f ds : List ℕ) (x : ℕ) → begins-frame (s .point) (s .keys) ≡ true → state-of (target-read s) ≡ s
+    → ltb (s .collision) 2 ≡ true → is-strobe x ≡ true
+    → (gives 0 1 (started s x) ≡ turned (strobed (setup t ds) (target-read s) f (step-of x)))
+    × (f ≡ strobed (setup t ds) (target-read s) f (step-of x) .flash)
+unfolding begins-frame target-read strobed-at point-fields begun state-of bit effect-code effect-byte
+start-says t s f ds x b back c y =
+    let h = not-second (eqb (s .point) 0) (ltb (s .keys) 3) b in
+    let pt : point-of s ≡ Start = start-read s (eqb-true (s .point) 0 (h .0)) in
+    let l = ltb-true (s .keys) 3 (h .1) in
+    let n : eqb (s .keys) 3 ≡ false = ne-eqb (s .keys) 3 (λ e. omega arith) in
+    let g = target-read s in
+    let r = ap (λ (z : Point). strobed-at (setup t ds) z g f (step-of x)) pt in
+    let field : (get : PointFields → ℕ) → get (point-fields Start) ≡ get (numbers s) = λ get. ap (λ (z : Point). get (point-fields z)) (sym pt) ∙ ap (λ (z : State). get (numbers z)) back in
+    let m = moves s (Ins 0 0) (marked (step-of x) (eqb (s .collision) 1)) back in
+    (sym (ap turned r ∙ rw (n, m, mark-says (s .collision) x c y, sym (field (λ z. z .heard)), sym (field (λ z. z .value)), sym (field (λ z. z .left)), sym (field (λ z. z .zeros)), sym (field (λ z. z .effect)), sym (field (λ z. z .byte)))), sym (ap (λ (z : Turn). z .flash) r))

@@ -147,3 +147,14 @@ sent s x =
     moved s
     (record { point = cond (eqb (s .left) 1) 10 9; heard = s .heard; value = s .value / 2; left = s .left - 1; zeros = s .zeros; effect = s .effect; byte = s .byte })
     (mark (s .collision) x)
+
+-- A START that takes no three key writes away,
+unfoldable pub begins-frame : (point keys : ℕ) → Bool
+begins-frame p n = cond (eqb p 0) (ltb n 3) false
+
+-- and the state after it.
+abbrev pub started : State → (step : ℕ) → State
+started s x =
+    moved s
+    (record { point = 1; heard = s .heard; value = s .value; left = s .left; zeros = s .zeros; effect = s .effect; byte = s .byte })
+    (mark (s .collision) x)

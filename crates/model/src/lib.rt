@@ -9,7 +9,7 @@ ghost use Rattle.target.specs.Delays.{setup};
 ghost use Rattle.target.specs.Strobes.{line, with-bit};
 ghost use Rattle.target.specs.Target.{fresh, step-of, answer, flash-after};
 ghost use Rattle.model.specs.State.{effect-code, effect-byte, fields, point-fields, command-fields, output-fields, command-numbers, output-numbers, state-of, effect-of, point-of, command-of, output-of, later-point, target-read};
-ghost use Rattle.model.specs.Flat.{none, stop-fits, wait-fits, sent-fits, heard-fits, later-fits, point-fits, early-fits, command-fits, output-fits, device-fits, is-strobe, mark, hears-more, heard, sent};
+ghost use Rattle.model.specs.Flat.{none, stop-fits, wait-fits, sent-fits, heard-fits, later-fits, point-fits, early-fits, command-fits, output-fits, device-fits, is-strobe, mark, hears-more, heard, sent, begins-frame, started};
 ghost use Rattle.model.specs.Model.{gives, held-answer, model-answer, model-flash};
 use numbers::NO_POINT;
 use settings::Settings;
@@ -907,6 +907,29 @@ fn sends(s: State, x: u8) -> ModelReplied
     }
 }
 
+// A START that takes no three key writes away.
+fn begins_frame(point: u8, keys: u8) -> bool
+    ensures { λ r. ⌜ r ≡ begins-frame point keys ⌝ }
+{
+    if point == 0 {
+        return keys < 3;
+    }
+    false
+}
+
+fn starts(s: State, x: u8) -> ModelReplied
+    ensures { λ r. ⌜ r ≡ gives 0 1 (started s x) ⌝ }
+{
+    let mut n = s;
+    n.point = 1;
+    n.collision = mark(s.collision, x);
+    ModelReplied {
+        number: 0,
+        reply: 1,
+        target: n,
+    }
+}
+
 // The state of a fresh target: all of its numbers are 0.
 pub fn fresh() -> State
     ensures { λ r. ⌜ r ≡ state-of fresh ⌝ }
@@ -964,6 +987,9 @@ pub fn step(t: Settings, state: State, flash: &mut [u8], delays: &[u8], x: u8) -
                 }
                 if hears_more(state.point, state.heard) {
                     return hears(state, x);
+                }
+                if begins_frame(state.point, state.keys) {
+                    return starts(state, x);
                 }
                 return held(t, state, flash, delays, x);
             }

@@ -4,7 +4,7 @@ use borrow.Author.Needs.{needs}
 use Rattle.model.specs.Model.{seen-answer, seen-flash}
 use Rattle.model.proofs.Found.{Small}
 use Rattle.model.proofs.Strobes.{some-left, amid}
-use Rattle.model.proofs.Answers.{bad-settings, no-state, known-state, sends-answer, hears-answer}
+use Rattle.model.proofs.Answers.{bad-settings, no-state, known-state, sends-answer, hears-answer, starts-answer}
 use Rattle.model.proofs.step.Statement.{statement}
 use Rattle.model.proofs.step.Tie as tie
 
@@ -51,8 +51,22 @@ returns-3 c =
     let point = good .1 .1 .1 .1 .1 in
     let device = point .1 .1 .1 .1 .1 .1 .1 in
     let small : Small (a .state) = record { heard = point .0 .1; value = point .1 .0 .1; left = point .1 .1 .0 .1; zeros = point .1 .1 .1 .0 .1; byte = point .1 .1 .1 .1 .1 .0 .1; address = device .0 .1; keys = device .1 .1 .0 .1; page = device .1 .1 .1 .1 .1 .0 .1; high = device .1 .1 .1 .1 .1 .1 .0 .1; busy = device .1 .1 .1 .1 .1 .1 .1 .1 .1 .0 .1; late = device .1 .1 .1 .1 .1 .1 .1 .1 .1 .1 .0 .1; start = good .0 .1; rest = good .1 .0 .1; next = good .1 .1 .0 .1; count = good .1 .1 .1 .0 .1 } in
-    let p = sym (c .before .before .before .before .before .before .before .before .point-fits .ensures) ∙ c .before .before .before .before .before .before .before .if3 .taken in
-    rw (c .hears .ensures) (hears-answer (a .t) (a .state) (a .flash .now) (a .delays .now) (a .x) (sym (c .before .before .before .before .before .before .before .before .before .before .before .before .refusal .ensures) ∙ c .before .before .before .before .before .before .before .before .before .before .before .if1 .left) small (sym (c .before .before .before .before .before .before .is-strobe .ensures) ∙ c .before .before .before .before .before .if4 .taken) (sym (c .before .before .before .before .before .before .before .before .before .before .device-fits .ensures) ∙ c .before .before .before .before .before .before .before .before .before .if2 .taken) p (amid (a .state) (c .before .before .before .if5 .left) p (sym (c .before .before .hears-more .ensures) ∙ c .before .if6 .taken)))
+    rw (c .hears .ensures) (hears-answer (a .t) (a .state) (a .flash .now) (a .delays .now) (a .x) (sym (c .before .before .before .before .before .before .before .before .before .before .before .before .refusal .ensures) ∙ c .before .before .before .before .before .before .before .before .before .before .before .if1 .left) small (sym (c .before .before .before .before .before .before .is-strobe .ensures) ∙ c .before .before .before .before .before .if4 .taken) (sym (c .before .before .before .before .before .before .before .before .before .before .device-fits .ensures) ∙ c .before .before .before .before .before .before .before .before .before .if2 .taken) (sym (c .before .before .before .before .before .before .before .before .point-fits .ensures) ∙ c .before .before .before .before .before .before .before .if3 .taken) (amid (a .state) (c .before .before .before .if5 .left) (sym (c .before .before .before .before .before .before .before .before .point-fits .ensures) ∙ c .before .before .before .before .before .before .before .if3 .taken) (sym (c .before .before .hears-more .ensures) ∙ c .before .if6 .taken)))
+
+begins-frame-requires : tie.Need-begins-frame-requires
+begins-frame-requires c κs = search needs
+
+starts-requires : tie.Need-starts-requires
+starts-requires c κs = search needs
+
+returns-4 : tie.Need-returns-4
+returns-4 c =
+    let a = c .before .before .before .before .before .before .before .before .before .before .before .before .before .before .before .before .before .args in
+    let good = c .before .before .before .before .before .before .before .before .before .before .before .before .before .before .before .before .before .good .1 .0 .1 .1 .1 in
+    let point = good .1 .1 .1 .1 .1 in
+    let device = point .1 .1 .1 .1 .1 .1 .1 in
+    let small : Small (a .state) = record { heard = point .0 .1; value = point .1 .0 .1; left = point .1 .1 .0 .1; zeros = point .1 .1 .1 .0 .1; byte = point .1 .1 .1 .1 .1 .0 .1; address = device .0 .1; keys = device .1 .1 .0 .1; page = device .1 .1 .1 .1 .1 .0 .1; high = device .1 .1 .1 .1 .1 .1 .0 .1; busy = device .1 .1 .1 .1 .1 .1 .1 .1 .1 .0 .1; late = device .1 .1 .1 .1 .1 .1 .1 .1 .1 .1 .0 .1; start = good .0 .1; rest = good .1 .0 .1; next = good .1 .1 .0 .1; count = good .1 .1 .1 .0 .1 } in
+    rw (c .starts .ensures) (starts-answer (a .t) (a .state) (a .flash .now) (a .delays .now) (a .x) (sym (c .before .before .before .before .before .before .before .before .before .before .before .before .before .before .refusal .ensures) ∙ c .before .before .before .before .before .before .before .before .before .before .before .before .before .if1 .left) small (sym (c .before .before .before .before .before .before .before .before .is-strobe .ensures) ∙ c .before .before .before .before .before .before .before .if4 .taken) (sym (c .before .before .before .before .before .before .before .before .before .before .before .before .device-fits .ensures) ∙ c .before .before .before .before .before .before .before .before .before .before .before .if2 .taken) (sym (c .before .before .before .before .before .before .before .before .before .before .point-fits .ensures) ∙ c .before .before .before .before .before .before .before .before .before .if3 .taken) (sym (c .before .before .begins-frame .ensures) ∙ c .before .if7 .taken))
 
 held-requires : tie.Need-held-requires
 held-requires c κs = search needs
@@ -60,15 +74,15 @@ held-requires c κs = search needs
 same-length : tie.Need-same-length
 same-length c = search needs
 
-returns-4 : tie.Need-returns-4
+returns-5 : tie.Need-returns-5
 unfolding seen-answer seen-flash
-returns-4 c =
-    let a = c .before .before .before .before .before .before .before .before .before .before .before .before .before .before .before .before .before .before .args in
-    let good = c .before .before .before .before .before .before .before .before .before .before .before .before .before .before .before .before .before .before .good .1 .0 .1 .1 .1 in
+returns-5 c =
+    let a = c .before .before .before .before .before .before .before .before .before .before .before .before .before .before .before .before .before .before .before .before .args in
+    let good = c .before .before .before .before .before .before .before .before .before .before .before .before .before .before .before .before .before .before .before .before .good .1 .0 .1 .1 .1 in
     let point = good .1 .1 .1 .1 .1 in
     let device = point .1 .1 .1 .1 .1 .1 .1 in
     let small : Small (a .state) = record { heard = point .0 .1; value = point .1 .0 .1; left = point .1 .1 .0 .1; zeros = point .1 .1 .1 .0 .1; byte = point .1 .1 .1 .1 .1 .0 .1; address = device .0 .1; keys = device .1 .1 .0 .1; page = device .1 .1 .1 .1 .1 .0 .1; high = device .1 .1 .1 .1 .1 .1 .0 .1; busy = device .1 .1 .1 .1 .1 .1 .1 .1 .1 .0 .1; late = device .1 .1 .1 .1 .1 .1 .1 .1 .1 .1 .0 .1; start = good .0 .1; rest = good .1 .0 .1; next = good .1 .1 .0 .1; count = good .1 .1 .1 .0 .1 } in
-    let k = known-state (a .t) (a .state) (a .flash .now) (a .delays .now) (a .x) (sym (c .before .before .before .before .before .before .before .before .before .before .before .before .before .before .before .refusal .ensures) ∙ c .before .before .before .before .before .before .before .before .before .before .before .before .before .before .if1 .left) small (rw (sym (c .before .before .before .before .before .before .before .before .before .before .before .before .before .device-fits .ensures) ∙ c .before .before .before .before .before .before .before .before .before .before .before .before .if2 .taken) (sym (c .before .before .before .before .before .before .before .before .before .before .before .point-fits .ensures) ∙ c .before .before .before .before .before .before .before .before .before .before .if3 .taken)) in
+    let k = known-state (a .t) (a .state) (a .flash .now) (a .delays .now) (a .x) (sym (c .before .before .before .before .before .before .before .before .before .before .before .before .before .before .before .before .before .refusal .ensures) ∙ c .before .before .before .before .before .before .before .before .before .before .before .before .before .before .before .before .if1 .left) small (rw (sym (c .before .before .before .before .before .before .before .before .before .before .before .before .before .before .before .device-fits .ensures) ∙ c .before .before .before .before .before .before .before .before .before .before .before .before .before .before .if2 .taken) (sym (c .before .before .before .before .before .before .before .before .before .before .before .before .before .point-fits .ensures) ∙ c .before .before .before .before .before .before .before .before .before .before .before .before .if3 .taken)) in
     rw (k .0) (c .before .before .held .ensures .0, c .before .before .held .ensures .1)
 
 held-requires-2 : tie.Need-held-requires-2
@@ -77,9 +91,9 @@ held-requires-2 c κs = search needs
 same-length-2 : tie.Need-same-length-2
 same-length-2 c = search needs
 
-returns-5 : tie.Need-returns-5
+returns-6 : tie.Need-returns-6
 unfolding seen-answer seen-flash
-returns-5 c =
+returns-6 c =
     let a = c .before .before .before .before .before .before .before .before .before .before .before .before .before .before .args in
     let good = c .before .before .before .before .before .before .before .before .before .before .before .before .before .before .good .1 .0 .1 .1 .1 in
     let point = good .1 .1 .1 .1 .1 in
@@ -91,14 +105,14 @@ returns-5 c =
 refused-requires-2 : tie.Need-refused-requires-2
 refused-requires-2 c κs = search needs
 
-returns-6 : tie.Need-returns-6
-returns-6 c = rw (c .refused2 .ensures) (no-state _ _ _ _ _ (sym (c .before .before .before .before .before .before .refusal .ensures) ∙ c .before .before .before .before .before .if1 .left) (rw (sym (c .before .before .before .before .device-fits .ensures) ∙ c .before .before .before .if2 .taken) (sym (c .before .before .point-fits .ensures) ∙ c .before .if3 .left)))
+returns-7 : tie.Need-returns-7
+returns-7 c = rw (c .refused2 .ensures) (no-state _ _ _ _ _ (sym (c .before .before .before .before .before .before .refusal .ensures) ∙ c .before .before .before .before .before .if1 .left) (rw (sym (c .before .before .before .before .device-fits .ensures) ∙ c .before .before .before .if2 .taken) (sym (c .before .before .point-fits .ensures) ∙ c .before .if3 .left)))
 
 refused-requires-3 : tie.Need-refused-requires-3
 refused-requires-3 c κs = search needs
 
-returns-7 : tie.Need-returns-7
-returns-7 c = rw (c .refused3 .ensures) (no-state _ _ _ _ _ (sym (c .before .before .before .before .refusal .ensures) ∙ c .before .before .before .if1 .left) (rw (sym (c .before .before .device-fits .ensures) ∙ c .before .if2 .left)))
+returns-8 : tie.Need-returns-8
+returns-8 c = rw (c .refused3 .ensures) (no-state _ _ _ _ _ (sym (c .before .before .before .before .refusal .ensures) ∙ c .before .before .before .if1 .left) (rw (sym (c .before .before .device-fits .ensures) ∙ c .before .if2 .left)))
 
 pub step-spec : {M : Type 1} → statement M
 step-spec =
@@ -115,13 +129,16 @@ step-spec =
     hears-more-requires
     hears-requires
     returns-3
+    begins-frame-requires
+    starts-requires
+    returns-4
     held-requires
     same-length
-    returns-4
+    returns-5
     held-requires-2
     same-length-2
-    returns-5
-    refused-requires-2
     returns-6
+    refused-requires-2
+    returns-7
     refused-requires-3
-    returns-7)
+    returns-8)
