@@ -30,13 +30,15 @@ mod target;
 mod trouble;
 mod wire;
 
-use std::env;
+use std::num::NonZero;
 use std::path::PathBuf;
 use std::process::ExitCode;
+use std::sync::atomic::{AtomicUsize, Ordering};
+use std::{env, iter, thread};
 
 use checks::{Check, Run};
 use random::Random;
-use report::Failure;
+use report::{Checked, Failure};
 
 const DEFAULT_SEED: u64 = 20_127;
 const USAGE: &str = "usage: compare [--long] [--seed N] [--only TEXT] [--program PATH]";
@@ -73,16 +75,37 @@ fn print_failure(check: &Check, options: &Options, failure: &Failure) {
     println!("came      {}", failure.came);
 }
 
-/// Runs every check up to the first that fails; each begins with the seed afresh, so that it sees
-/// the same numbers whatever ran before it.
+/// Each check begins with the seed afresh, so that it sees the same numbers whatever runs before it or beside it.
+fn run_one(check: &Check, options: &Options) -> Checked {
+    let Options { long, seed, ref program, .. } = *options;
+    (check.run)(&mut Run { long, random: Random::new(seed), program: program.clone() })
+}
+
+/// What each check came to, in their order. They run side by side, one on each processor.
+fn run_side_by_side(checks: &[&Check], options: &Options) -> Vec<Checked> {
+    let next = AtomicUsize::new(0);
+    let take = || {
+        let taken =
+            iter::from_fn(|| Some(next.fetch_add(1, Ordering::Relaxed))).take_while(|&i| i < checks.len());
+        taken.map(|i| (i, run_one(checks[i], options))).collect::<Vec<_>>()
+    };
+    let processors = thread::available_parallelism().map_or(1, NonZero::get);
+    let mut results: Vec<_> = thread::scope(|scope| {
+        let workers: Vec<_> = (0..processors).map(|_| scope.spawn(take)).collect();
+        workers.into_iter().flat_map(|worker| worker.join().expect("a check does not panic")).collect()
+    });
+    results.sort_by_key(|&(i, _)| i);
+    results.into_iter().map(|(_, result)| result).collect()
+}
+
+/// Prints what came of each check, up to the first that failed.
 fn run_all(options: &Options) -> ExitCode {
     println!("seed {}{}", options.seed, if options.long { ", long" } else { "" });
     let mut total = 0;
     let checks = checks::all(options.program.is_some());
-    for check in checks.filter(|check| check.name.contains(&options.only)) {
-        let Options { long, seed, ref program, .. } = *options;
-        let mut run = Run { long, random: Random::new(seed), program: program.clone() };
-        match (check.run)(&mut run) {
+    let checks: Vec<_> = checks.filter(|check| check.name.contains(&options.only)).collect();
+    for (check, result) in checks.iter().zip(run_side_by_side(&checks, options)) {
+        match result {
             Ok(cases) => {
                 println!("{cases:>10}  {}", check.name);
                 total += cases;

@@ -13,7 +13,7 @@ use wire::Moved;
 use wire::Place;
 
 // The frame of an INS code, which is taken modulo 4.
-pub fn frame_of(ins: u8) -> Frame
+fn frame_of(ins: u8) -> Frame
     ensures { λ r. ⌜ r ≡ frame-of ins ⌝ }
 {
     let code = ins % 4;
