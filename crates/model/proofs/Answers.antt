@@ -20,14 +20,14 @@ use Rattle.model.specs.declared.State.{State}
 use Rattle.model.specs.declared.Seen.{Seen}
 use Rattle.model.specs.declared.Seen.the-variants.{Held, Nothing}
 use Rattle.model.specs.State.{target-read, target-of}
-use Rattle.model.specs.Flat.{point-fits, device-fits, valid, is-strobe, heard, sent, begins-frame, started}
+use Rattle.model.specs.Flat.{point-fits, device-fits, valid, is-strobe, heard, sent, begins-frame, started, ended}
 use Rattle.model.specs.Model.{gives, no-target, held-answer, seen-answer, seen-flash, model-answer, model-flash}
 use Rattle.model.proofs.States.{held-says}
 use Rattle.model.proofs.Reading.{not-so, target-back}
 use Rattle.model.proofs.Found.{Small, state-found}
 use Rattle.model.proofs.Passed.{state-passed}
 use Rattle.model.proofs.Claimed.{read-back}
-use Rattle.model.proofs.Strobes.{Amid, strobe-says, sent-says, heard-says, start-says}
+use Rattle.model.proofs.Strobes.{Amid, At-end, strobe-says, sent-says, heard-says, start-says, ends-says}
 
 collision-fits : (t : Settings) (s : State) (end : ℕ) → device-fits t s end ≡ true → ltb (s .collision) 2 ≡ true
 unfolding device-fits
@@ -88,7 +88,7 @@ module _ (t : Settings) (s : State) (f ds : List ℕ) (x : ℕ) where
         let v = heard-says t s f ds x a back (collision-fits t s (length f) d) in
         (v .0 ∙ w .0, v .1 ∙ w .1)
 
-    -- and a START.
+    -- a START,
     pub starts-answer : Small s → is-strobe x ≡ true → device-fits t s (length f) ≡ true
         → point-fits (s .point) (s .heard) (s .value) (s .left) (s .zeros) (s .effect) (s .byte) ≡ true → begins-frame (s .point) (s .keys) ≡ true
         → (gives 0 1 (started s x) ≡ model-answer t s f ds x) × (f ≡ model-flash t s f ds x)
@@ -97,4 +97,15 @@ module _ (t : Settings) (s : State) (f ds : List ℕ) (x : ℕ) where
         let back = held-says (target-read s) s (k .0) in
         let w = strobe-says t s f ds x r y (k .0) (k .1) in
         let v = start-says t s f ds x b back (collision-fits t s (length f) d) y in
+        (v .0 ∙ w .0, v .1 ∙ w .1)
+
+    -- and the last bit of a field.
+    pub ends-answer : Small s → is-strobe x ≡ true → device-fits t s (length f) ≡ true
+        → point-fits (s .point) (s .heard) (s .value) (s .left) (s .zeros) (s .effect) (s .byte) ≡ true → At-end s
+        → (gives 0 (bit (line (step-of x))) (ended t s x) ≡ model-answer t s f ds x) × (f ≡ model-flash t s f ds x)
+    ends-answer m y d p a =
+        let k = known-state m (rw d p) in
+        let back = held-says (target-read s) s (k .0) in
+        let w = strobe-says t s f ds x r y (k .0) (k .1) in
+        let v = ends-says t s f ds x a (m .address) back (collision-fits t s (length f) d) in
         (v .0 ∙ w .0, v .1 ∙ w .1)

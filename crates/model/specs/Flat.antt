@@ -1,7 +1,7 @@
 -- For the code, which tests a state on its plain numbers: those of a point, of a command and of the output that some target has. Nothing here
 -- needs to be believed; the laws are in proofs/.
 use mathlib.Core.Bool.{Bool, true, false, cond}
-use Prim.Native.Nat.{ℕ, _+_, _-_, _*_, _/_}
+use Prim.Native.Nat.{ℕ, _+_, _-_, _*_, _/_, _%_}
 use lib.Dec.{eqb, ltb, leb}
 use Rattle.settings.specs.declared.Settings.{Settings}
 use Rattle.target.specs.declared.Effect.the-variants.{Nothing}
@@ -158,3 +158,39 @@ started s x =
     moved s
     (record { point = 1; heard = s .heard; value = s .value; left = s .left; zeros = s .zeros; effect = s .effect; byte = s .byte })
     (mark (s .collision) x)
+
+-- A field that the target hears.
+unfoldable pub in-field : (point : ℕ) → Bool
+in-field p = cond (eqb p 0) false (ltb p 6)
+
+-- What an Address Read shows.
+unfoldable pub shown-bits : (fpdat on address busy late output : ℕ) → ℕ
+shown-bits r on a d e o =
+    cond (eqb on 1) (cond (eqb a r) (cond (ltb 0 d) 2 (cond (eqb e 0) (cond (eqb o 0) 0 1) 0)) a) a
+
+-- The numbers of a point that begins: after INS,
+abbrev pub beginning : (point value left effect byte : ℕ) → PointFields
+beginning p v n e b = record { point = p; heard = 0; value = v; left = n; zeros = 0; effect = e; byte = b }
+
+unfoldable pub after-code : (ins shown : ℕ) → PointFields
+after-code v k =
+    cond (eqb v 0) (beginning 3 0 0 0 0)
+    (cond (eqb v 1) (beginning 2 0 0 0 0)
+    (cond (eqb v 2) (beginning 9 k 8 3 0)
+    (beginning 4 0 0 0 0)))
+
+-- and after any field that is heard; LENGTH has two bits.
+unfoldable pub after-field : (point value shown : ℕ) → PointFields
+after-field p v k =
+    cond (eqb p 1) (after-code v k)
+    (cond (eqb p 2) (cond (eqb v 0) (beginning 5 0 0 0 0) (beginning 6 0 (v % 4 * 8 + 8) 0 0))
+    (cond (eqb p 3) (cond (eqb v 0) (beginning 7 0 8 4 0) (beginning 7 0 (v % 4 * 8 + 8) 0 0))
+    (cond (eqb p 4) (beginning 10 0 0 1 v)
+    (beginning 7 0 0 2 v))))
+
+-- The state after a field's last bit.
+abbrev pub ended : Settings → State → (step : ℕ) → State
+ended t s x =
+    moved s
+    (after-field (s .point) (with-bit (s .heard) (s .value) (step-of x)) (shown-bits (t .fpdat) (s .on) (s .address) (s .busy) (s .late) (s .output)))
+    (s .collision)

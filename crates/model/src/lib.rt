@@ -9,7 +9,7 @@ ghost use Rattle.target.specs.Delays.{setup};
 ghost use Rattle.target.specs.Strobes.{line, with-bit};
 ghost use Rattle.target.specs.Target.{fresh, step-of, answer, flash-after};
 ghost use Rattle.model.specs.State.{effect-code, effect-byte, fields, point-fields, command-fields, output-fields, command-numbers, output-numbers, state-of, effect-of, point-of, command-of, output-of, later-point, target-read};
-ghost use Rattle.model.specs.Flat.{none, stop-fits, wait-fits, sent-fits, heard-fits, later-fits, point-fits, early-fits, command-fits, output-fits, device-fits, is-strobe, mark, hears-more, heard, sent, begins-frame, started};
+ghost use Rattle.model.specs.Flat.{none, stop-fits, wait-fits, sent-fits, heard-fits, later-fits, point-fits, early-fits, command-fits, output-fits, device-fits, is-strobe, mark, hears-more, heard, sent, begins-frame, started, in-field, shown-bits, beginning, after-code, after-field, ended};
 ghost use Rattle.model.specs.Model.{gives, held-answer, model-answer, model-flash};
 use numbers::NO_POINT;
 use settings::Settings;
@@ -930,6 +930,115 @@ fn starts(s: State, x: u8) -> ModelReplied
     }
 }
 
+fn in_field(point: u8) -> bool
+    ensures { λ r. ⌜ r ≡ in-field point ⌝ }
+{
+    if point == 0 {
+        return false;
+    }
+    point < 6
+}
+
+// What an Address Read shows.
+fn shown_bits(fpdat: u8, on: u8, address: u8, busy: u8, late: u8, output: u8) -> u8
+    ensures { λ r. ⌜ r ≡ shown-bits fpdat on address busy late output ⌝ }
+{
+    if on == 1 {
+        if address == fpdat {
+            if 0 < busy {
+                return 2;
+            }
+            if late == 0 {
+                if output == 0 {
+                    return 0;
+                }
+                return 1;
+            }
+            return 0;
+        }
+        return address;
+    }
+    address
+}
+
+// The numbers of a point that begins: after INS,
+fn beginning(point: u8, value: u8, left: u8, effect: u8, byte: u8) -> PointFields
+    ensures { λ r. ⌜ r ≡ beginning point value left effect byte ⌝ }
+{
+    PointFields {
+        point: point,
+        heard: 0,
+        value: value,
+        left: left,
+        zeros: 0,
+        effect: effect,
+        byte: byte,
+    }
+}
+
+fn after_code(ins: u8, shown: u8) -> PointFields
+    ensures { λ r. ⌜ r ≡ after-code ins shown ⌝ }
+{
+    if ins == 0 {
+        return beginning(3, 0, 0, 0, 0);
+    }
+    if ins == 1 {
+        return beginning(2, 0, 0, 0, 0);
+    }
+    if ins == 2 {
+        return beginning(9, shown, 8, 3, 0);
+    }
+    beginning(4, 0, 0, 0, 0)
+}
+
+// and after any field that is heard.
+fn after_field(point: u8, value: u8, shown: u8) -> PointFields
+    ensures { λ r. ⌜ r ≡ after-field point value shown ⌝ }
+{
+    if point == 1 {
+        return after_code(value, shown);
+    }
+    if point == 2 {
+        if value == 0 {
+            return beginning(5, 0, 0, 0, 0);
+        }
+        return beginning(6, 0, value % 4 * 8 + 8, 0, 0);
+    }
+    if point == 3 {
+        if value == 0 {
+            return beginning(7, 0, 8, 4, 0);
+        }
+        return beginning(7, 0, value % 4 * 8 + 8, 0, 0);
+    }
+    if point == 4 {
+        return beginning(10, 0, 0, 1, value);
+    }
+    beginning(7, 0, 0, 2, value)
+}
+
+// The last bit of a field that is heard.
+fn ends(t: Settings, s: State, x: u8) -> ModelReplied
+    requires { ⌜ hearing 8 (s .heard) (s .value) ≡ true ⌝ }
+    ensures { λ r. ⌜ r ≡ gives 0 (bit (line (step-of x))) (ended t s x) ⌝ }
+{
+    let value = with_bit(s.heard, s.value, x);
+    let shown = shown_bits(t.fpdat, s.on, s.address, s.busy, s.late, s.output);
+    let p = after_field(s.point, value, shown);
+    let mut n = s;
+    n.point = p.point;
+    n.heard = p.heard;
+    n.value = p.value;
+    n.left = p.left;
+    n.zeros = p.zeros;
+    n.effect = p.effect;
+    n.byte = p.byte;
+    ModelReplied {
+        number: 0,
+        reply: line(x),
+        target: n,
+    }
+}
+
 // The state of a fresh target: all of its numbers are 0.
 pub fn fresh() -> State
     ensures { λ r. ⌜ r ≡ state-of fresh ⌝ }
@@ -990,6 +1099,9 @@ pub fn step(t: Settings, state: State, flash: &mut [u8], delays: &[u8], x: u8) -
                 }
                 if begins_frame(state.point, state.keys) {
                     return starts(state, x);
+                }
+                if in_field(state.point) {
+                    return ends(t, state, x);
                 }
                 return held(t, state, flash, delays, x);
             }

@@ -3,8 +3,8 @@ use mathlib.Core.Path.{sym, _∙_}
 use borrow.Author.Needs.{needs}
 use Rattle.model.specs.Model.{seen-answer, seen-flash}
 use Rattle.model.proofs.Found.{Small}
-use Rattle.model.proofs.Strobes.{some-left, amid}
-use Rattle.model.proofs.Answers.{bad-settings, no-state, known-state, sends-answer, hears-answer, starts-answer}
+use Rattle.model.proofs.Strobes.{some-left, amid, at-end}
+use Rattle.model.proofs.Answers.{bad-settings, no-state, known-state, sends-answer, hears-answer, starts-answer, ends-answer}
 use Rattle.model.proofs.step.Statement.{statement}
 use Rattle.model.proofs.step.Tie as tie
 
@@ -68,21 +68,36 @@ returns-4 c =
     let small : Small (a .state) = record { heard = point .0 .1; value = point .1 .0 .1; left = point .1 .1 .0 .1; zeros = point .1 .1 .1 .0 .1; byte = point .1 .1 .1 .1 .1 .0 .1; address = device .0 .1; keys = device .1 .1 .0 .1; page = device .1 .1 .1 .1 .1 .0 .1; high = device .1 .1 .1 .1 .1 .1 .0 .1; busy = device .1 .1 .1 .1 .1 .1 .1 .1 .1 .0 .1; late = device .1 .1 .1 .1 .1 .1 .1 .1 .1 .1 .0 .1; start = good .0 .1; rest = good .1 .0 .1; next = good .1 .1 .0 .1; count = good .1 .1 .1 .0 .1 } in
     rw (c .starts .ensures) (starts-answer (a .t) (a .state) (a .flash .now) (a .delays .now) (a .x) (sym (c .before .before .before .before .before .before .before .before .before .before .before .before .before .before .refusal .ensures) ∙ c .before .before .before .before .before .before .before .before .before .before .before .before .before .if1 .left) small (sym (c .before .before .before .before .before .before .before .before .is-strobe .ensures) ∙ c .before .before .before .before .before .before .before .if4 .taken) (sym (c .before .before .before .before .before .before .before .before .before .before .before .before .device-fits .ensures) ∙ c .before .before .before .before .before .before .before .before .before .before .before .if2 .taken) (sym (c .before .before .before .before .before .before .before .before .before .before .point-fits .ensures) ∙ c .before .before .before .before .before .before .before .before .before .if3 .taken) (sym (c .before .before .begins-frame .ensures) ∙ c .before .if7 .taken))
 
+in-field-requires : tie.Need-in-field-requires
+in-field-requires c κs = search needs
+
+ends-requires : tie.Need-ends-requires
+ends-requires c κs = at-end (c .before .before .before .before .before .before .before .before .before .before .before .before .before .before .before .before .before .before .args .state) (c .before .before .before .before .before .before .if5 .left) (sym (c .before .before .before .before .before .before .before .before .before .before .before .point-fits .ensures) ∙ c .before .before .before .before .before .before .before .before .before .before .if3 .taken) (sym (c .before .before .before .before .before .hears-more .ensures) ∙ c .before .before .before .before .if6 .left) (sym (c .before .in-field .ensures) ∙ c .if8 .taken) .bits
+
+returns-5 : tie.Need-returns-5
+returns-5 c =
+    let a = c .before .before .before .before .before .before .before .before .before .before .before .before .before .before .before .before .before .before .before .args in
+    let good = c .before .before .before .before .before .before .before .before .before .before .before .before .before .before .before .before .before .before .before .good .1 .0 .1 .1 .1 in
+    let point = good .1 .1 .1 .1 .1 in
+    let device = point .1 .1 .1 .1 .1 .1 .1 in
+    let small : Small (a .state) = record { heard = point .0 .1; value = point .1 .0 .1; left = point .1 .1 .0 .1; zeros = point .1 .1 .1 .0 .1; byte = point .1 .1 .1 .1 .1 .0 .1; address = device .0 .1; keys = device .1 .1 .0 .1; page = device .1 .1 .1 .1 .1 .0 .1; high = device .1 .1 .1 .1 .1 .1 .0 .1; busy = device .1 .1 .1 .1 .1 .1 .1 .1 .1 .0 .1; late = device .1 .1 .1 .1 .1 .1 .1 .1 .1 .1 .0 .1; start = good .0 .1; rest = good .1 .0 .1; next = good .1 .1 .0 .1; count = good .1 .1 .1 .0 .1 } in
+    rw (c .ends .ensures) (ends-answer (a .t) (a .state) (a .flash .now) (a .delays .now) (a .x) (sym (c .before .before .before .before .before .before .before .before .before .before .before .before .before .before .before .before .refusal .ensures) ∙ c .before .before .before .before .before .before .before .before .before .before .before .before .before .before .before .if1 .left) small (sym (c .before .before .before .before .before .before .before .before .before .before .is-strobe .ensures) ∙ c .before .before .before .before .before .before .before .before .before .if4 .taken) (sym (c .before .before .before .before .before .before .before .before .before .before .before .before .before .before .device-fits .ensures) ∙ c .before .before .before .before .before .before .before .before .before .before .before .before .before .if2 .taken) (sym (c .before .before .before .before .before .before .before .before .before .before .before .before .point-fits .ensures) ∙ c .before .before .before .before .before .before .before .before .before .before .before .if3 .taken) (at-end (a .state) (c .before .before .before .before .before .before .before .if5 .left) (sym (c .before .before .before .before .before .before .before .before .before .before .before .before .point-fits .ensures) ∙ c .before .before .before .before .before .before .before .before .before .before .before .if3 .taken) (sym (c .before .before .before .before .before .before .hears-more .ensures) ∙ c .before .before .before .before .before .if6 .left) (sym (c .before .before .in-field .ensures) ∙ c .before .if8 .taken)))
+
 held-requires : tie.Need-held-requires
 held-requires c κs = search needs
 
 same-length : tie.Need-same-length
 same-length c = search needs
 
-returns-5 : tie.Need-returns-5
+returns-6 : tie.Need-returns-6
 unfolding seen-answer seen-flash
-returns-5 c =
-    let a = c .before .before .before .before .before .before .before .before .before .before .before .before .before .before .before .before .before .before .before .before .args in
-    let good = c .before .before .before .before .before .before .before .before .before .before .before .before .before .before .before .before .before .before .before .before .good .1 .0 .1 .1 .1 in
+returns-6 c =
+    let a = c .before .before .before .before .before .before .before .before .before .before .before .before .before .before .before .before .before .before .before .before .before .before .args in
+    let good = c .before .before .before .before .before .before .before .before .before .before .before .before .before .before .before .before .before .before .before .before .before .before .good .1 .0 .1 .1 .1 in
     let point = good .1 .1 .1 .1 .1 in
     let device = point .1 .1 .1 .1 .1 .1 .1 in
     let small : Small (a .state) = record { heard = point .0 .1; value = point .1 .0 .1; left = point .1 .1 .0 .1; zeros = point .1 .1 .1 .0 .1; byte = point .1 .1 .1 .1 .1 .0 .1; address = device .0 .1; keys = device .1 .1 .0 .1; page = device .1 .1 .1 .1 .1 .0 .1; high = device .1 .1 .1 .1 .1 .1 .0 .1; busy = device .1 .1 .1 .1 .1 .1 .1 .1 .1 .0 .1; late = device .1 .1 .1 .1 .1 .1 .1 .1 .1 .1 .0 .1; start = good .0 .1; rest = good .1 .0 .1; next = good .1 .1 .0 .1; count = good .1 .1 .1 .0 .1 } in
-    let k = known-state (a .t) (a .state) (a .flash .now) (a .delays .now) (a .x) (sym (c .before .before .before .before .before .before .before .before .before .before .before .before .before .before .before .before .before .refusal .ensures) ∙ c .before .before .before .before .before .before .before .before .before .before .before .before .before .before .before .before .if1 .left) small (rw (sym (c .before .before .before .before .before .before .before .before .before .before .before .before .before .before .before .device-fits .ensures) ∙ c .before .before .before .before .before .before .before .before .before .before .before .before .before .before .if2 .taken) (sym (c .before .before .before .before .before .before .before .before .before .before .before .before .before .point-fits .ensures) ∙ c .before .before .before .before .before .before .before .before .before .before .before .before .if3 .taken)) in
+    let k = known-state (a .t) (a .state) (a .flash .now) (a .delays .now) (a .x) (sym (c .before .before .before .before .before .before .before .before .before .before .before .before .before .before .before .before .before .before .before .refusal .ensures) ∙ c .before .before .before .before .before .before .before .before .before .before .before .before .before .before .before .before .before .before .if1 .left) small (rw (sym (c .before .before .before .before .before .before .before .before .before .before .before .before .before .before .before .before .before .device-fits .ensures) ∙ c .before .before .before .before .before .before .before .before .before .before .before .before .before .before .before .before .if2 .taken) (sym (c .before .before .before .before .before .before .before .before .before .before .before .before .before .before .before .point-fits .ensures) ∙ c .before .before .before .before .before .before .before .before .before .before .before .before .before .before .if3 .taken)) in
     rw (k .0) (c .before .before .held .ensures .0, c .before .before .held .ensures .1)
 
 held-requires-2 : tie.Need-held-requires-2
@@ -91,9 +106,9 @@ held-requires-2 c κs = search needs
 same-length-2 : tie.Need-same-length-2
 same-length-2 c = search needs
 
-returns-6 : tie.Need-returns-6
+returns-7 : tie.Need-returns-7
 unfolding seen-answer seen-flash
-returns-6 c =
+returns-7 c =
     let a = c .before .before .before .before .before .before .before .before .before .before .before .before .before .before .args in
     let good = c .before .before .before .before .before .before .before .before .before .before .before .before .before .before .good .1 .0 .1 .1 .1 in
     let point = good .1 .1 .1 .1 .1 in
@@ -105,14 +120,14 @@ returns-6 c =
 refused-requires-2 : tie.Need-refused-requires-2
 refused-requires-2 c κs = search needs
 
-returns-7 : tie.Need-returns-7
-returns-7 c = rw (c .refused2 .ensures) (no-state _ _ _ _ _ (sym (c .before .before .before .before .before .before .refusal .ensures) ∙ c .before .before .before .before .before .if1 .left) (rw (sym (c .before .before .before .before .device-fits .ensures) ∙ c .before .before .before .if2 .taken) (sym (c .before .before .point-fits .ensures) ∙ c .before .if3 .left)))
+returns-8 : tie.Need-returns-8
+returns-8 c = rw (c .refused2 .ensures) (no-state _ _ _ _ _ (sym (c .before .before .before .before .before .before .refusal .ensures) ∙ c .before .before .before .before .before .if1 .left) (rw (sym (c .before .before .before .before .device-fits .ensures) ∙ c .before .before .before .if2 .taken) (sym (c .before .before .point-fits .ensures) ∙ c .before .if3 .left)))
 
 refused-requires-3 : tie.Need-refused-requires-3
 refused-requires-3 c κs = search needs
 
-returns-8 : tie.Need-returns-8
-returns-8 c = rw (c .refused3 .ensures) (no-state _ _ _ _ _ (sym (c .before .before .before .before .refusal .ensures) ∙ c .before .before .before .if1 .left) (rw (sym (c .before .before .device-fits .ensures) ∙ c .before .if2 .left)))
+returns-9 : tie.Need-returns-9
+returns-9 c = rw (c .refused3 .ensures) (no-state _ _ _ _ _ (sym (c .before .before .before .before .refusal .ensures) ∙ c .before .before .before .if1 .left) (rw (sym (c .before .before .device-fits .ensures) ∙ c .before .if2 .left)))
 
 pub step-spec : {M : Type 1} → statement M
 step-spec =
@@ -132,13 +147,16 @@ step-spec =
     begins-frame-requires
     starts-requires
     returns-4
+    in-field-requires
+    ends-requires
+    returns-5
     held-requires
     same-length
-    returns-5
+    returns-6
     held-requires-2
     same-length-2
-    returns-6
-    refused-requires-2
     returns-7
+    refused-requires-2
+    returns-8
     refused-requires-3
-    returns-8)
+    returns-9)
