@@ -1,6 +1,7 @@
 # What can be done here; `make` alone lists it.
 
 CARGO := cargo run --quiet --offline --manifest-path compare/Cargo.toml --target-dir target/compare --
+BENCH := cargo run --quiet --release --offline --manifest-path bench/Cargo.toml --target-dir target/bench --
 
 # Crates come in levels, and edits in batches: six at a time, so that few processors wait for the longest of a batch.
 export RT_JOBS ?= 6
@@ -14,7 +15,7 @@ WAVES := target/waves/page.vcd
 SHORT := 200
 STRICT := -Wall -Wextra -Werror -Iinclude
 
-.PHONY: help library flash test below compare compare-long examples waves prove clean
+.PHONY: help library flash test below compare compare-long examples waves bench prove clean
 
 help:
 	@echo "make library       build the driver's library, target/staticlib/libc2.a; its header is include/c2.h"
@@ -24,6 +25,7 @@ help:
 	@echo "make test          compare with the second implementation in Rust, run the examples, then prove everything from nothing"
 	@echo "make compare       the comparison alone, some seconds"
 	@echo "make compare-long  the comparison over many more cases"
+	@echo "make bench         time the library beside plain Rust, some minutes; ARGS=--quick for less"
 	@echo "make prove         prove what has changed since the last time"
 	@echo "make clean         remove everything that was built"
 
@@ -63,6 +65,10 @@ waves: $(WAVES)
 $(WAVES): target/examples/waves
 	@mkdir -p $(@D)
 	@target/examples/waves >$@ || { rm -f $@; false; }
+
+# Never part of the tests: its figures are the machine's as much as the code's.
+bench: target/staticlib/libc2.a
+	@$(BENCH) $(ARGS)
 
 # As C11, and as C++ too, since drivers are written in both.
 target/examples/%: examples/%.c examples/c2_text.h include/c2.h target/staticlib/libc2.a

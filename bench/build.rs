@@ -1,0 +1,23 @@
+//! Links the proved code. `C2_LIB_DIR` names the folder with the static library.
+
+use std::env;
+use std::path::{Path, PathBuf};
+
+const DEFAULT_DIR: &str = "../target/staticlib";
+
+fn library_dir() -> PathBuf {
+    let manifest_dir = env::var_os("CARGO_MANIFEST_DIR").expect("cargo sets CARGO_MANIFEST_DIR");
+    let dir = env::var_os("C2_LIB_DIR").unwrap_or_else(|| DEFAULT_DIR.into());
+    Path::new(&manifest_dir).join(dir)
+}
+
+fn main() {
+    let dir = library_dir();
+    let archive = dir.join("libc2.a");
+    println!("cargo:rerun-if-env-changed=C2_LIB_DIR");
+    println!("cargo:rerun-if-changed=build.rs");
+    println!("cargo:rerun-if-changed={}", archive.display());
+    assert!(archive.is_file(), "no static library at {}", archive.display());
+    println!("cargo:rustc-link-search=native={}", dir.display());
+    println!("cargo:rustc-link-lib=static=c2");
+}

@@ -1,0 +1,161 @@
+//! Targets given frames that no session sends, and stray steps: both sides must reply alike.
+
+use crate::job::Random;
+use crate::wire::{command, ins, Settings, FPCTL, KEYS};
+use crate::{ours, target};
+
+const TARGETS: u64 = 20;
+const FRAMES: usize = 5_000;
+
+/// Bytes that mean something to the target come more often than others.
+const BYTES: [u8; 7] =
+    [0x00, 0x01, 0x02, 0x04, command::BLOCK_READ, command::BLOCK_WRITE, command::PAGE_ERASE];
+
+pub fn targets_agree() -> Result<(), String> {
+    (0..TARGETS).try_for_each(|seed| Pair::new(seed).run().map_err(|words| format!("target {seed}: {words}")))
+}
+
+struct Pair {
+    random: Random,
+    fpdat: u8,
+    delays: Vec<u8>,
+    plain: target::Target,
+    ours: ours::Target,
+    plain_flash: Vec<u8>,
+    our_flash: Vec<u8>,
+}
+
+impl Pair {
+    fn new(seed: u64) -> Pair {
+        let mut random = Random::new(seed);
+        let fpdat = 3 + random.below(253) as u8;
+        let settings = Settings {
+            device_id: 0x04,
+            fpdat,
+            page_size: 512 << random.below(2),
+            page_count: 1 + random.below(4),
+        };
+        let flash: Vec<u8> = (0..settings.flash_len()).map(|_| random.next() as u8).collect();
+        Pair {
+            fpdat,
+            delays: (0..random.below(4)).map(|_| random.below(30) as u8).collect(),
+            plain: target::Target::fresh(settings).expect("the settings are in range"),
+            ours: ours::Target::fresh(settings),
+            plain_flash: flash.clone(),
+            our_flash: flash,
+            random,
+        }
+    }
+
+    fn run(&mut self) -> Result<(), String> {
+        self.turn_on()?;
+        for _ in 0..FRAMES {
+            self.frame()?;
+        }
+        let same = self.plain_flash == self.our_flash && self.plain.collision() == self.ours.collision();
+        same.then_some(()).ok_or("the flash or the collision mark differs".into())
+    }
+
+    /// One frame; now and then the interface is reset and turned on again.
+    fn frame(&mut self) -> Result<(), String> {
+        match self.random.below(64) {
+            0 => {
+                let address = self.address();
+                self.address_write(address)
+            }
+            1 => self.turn_on(),
+            2..=24 => {
+                let byte = self.byte();
+                self.data_write(byte)
+            }
+            25..=44 => self.address_read(),
+            _ => self.data_read(),
+        }
+    }
+
+    fn address(&mut self) -> u8 {
+        [0, FPCTL, self.fpdat, self.fpdat][self.random.below(4) as usize]
+    }
+
+    fn byte(&mut self) -> u8 {
+        let any = self.random.next() as u8;
+        *BYTES.get(self.random.below(12) as usize).unwrap_or(&any)
+    }
+
+    /// LENGTH is seldom other than 0.
+    fn length(&mut self) -> u8 {
+        self.random.below(64).saturating_sub(60) as u8
+    }
+
+    /// The first key twice changes nothing; a frame after the last key spoils them all.
+    fn turn_on(&mut self) -> Result<(), String> {
+        self.step(4)?;
+        self.address_write(FPCTL)?;
+        if self.random.below(4) == 0 {
+            self.data_write(KEYS[0])?;
+        }
+        KEYS.into_iter().try_for_each(|key| self.data_write(key))?;
+        if self.random.below(4) == 0 {
+            self.address_read()?;
+        }
+        self.step(5)?;
+        self.address_write(self.fpdat)
+    }
+
+    fn address_write(&mut self, address: u8) -> Result<(), String> {
+        self.begin(ins::ADDRESS_WRITE)?;
+        self.drive(address, 8)?;
+        self.release(1)
+    }
+
+    fn address_read(&mut self) -> Result<(), String> {
+        self.begin(ins::ADDRESS_READ)?;
+        self.release(8 + 1)
+    }
+
+    fn data_write(&mut self, byte: u8) -> Result<(), String> {
+        let length = self.length();
+        self.begin(ins::DATA_WRITE)?;
+        self.drive(length, 2)?;
+        (0..=length).try_for_each(|_| self.drive(byte, 8))?;
+        self.wait()?;
+        self.release(1)
+    }
+
+    fn data_read(&mut self) -> Result<(), String> {
+        let length = self.length();
+        self.begin(ins::DATA_READ)?;
+        self.drive(length, 2)?;
+        self.wait()?;
+        self.release(8 * (length + 1) + 1)
+    }
+
+    fn begin(&mut self, ins: u8) -> Result<(), String> {
+        self.release(1)?;
+        self.drive(ins, 2)
+    }
+
+    fn drive(&mut self, value: u8, bits: u8) -> Result<(), String> {
+        (0..bits).try_for_each(|bit| self.step(2 + (value >> bit & 1)).map(drop))
+    }
+
+    fn release(&mut self, strobes: u8) -> Result<(), String> {
+        (0..strobes).try_for_each(|_| self.step(0).map(drop))
+    }
+
+    fn wait(&mut self) -> Result<(), String> {
+        while self.step(0)? == 0 {}
+        Ok(())
+    }
+
+    /// The step on both sides; seldom a stray one in its place, which may be no step at all.
+    fn step(&mut self, step: u8) -> Result<u8, String> {
+        let step = if self.random.below(1000) == 0 { self.random.below(9) as u8 } else { step };
+        let plain = self.plain.step(step, &mut self.plain_flash, &self.delays).map_err(u32::from);
+        let ours = self.ours.step(step, &mut self.our_flash, &self.delays);
+        if plain != ours {
+            return Err(format!("step {step}: plain {plain:?}, ours {ours:?}"));
+        }
+        Ok(plain.unwrap_or(1))
+    }
+}

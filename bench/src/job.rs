@@ -1,0 +1,108 @@
+//! The job that both sides do: one image, one device, one delay list, and a recording of the whole session.
+
+use crate::sides::{Session, Target};
+use crate::wire::{Settings, Step};
+
+/// A device of the program's kind, which the image fills from page 0 on.
+const SETTINGS: Settings = Settings { device_id: 0x04, fpdat: 0xB4, page_size: 512, page_count: 32 };
+const IMAGE_BYTES: usize = 16 * 1024;
+
+pub const OFF: u8 = Step::Off as u8;
+
+pub struct Job {
+    pub settings: Settings,
+    pub first_page: u32,
+    pub image: Vec<u8>,
+    pub delays: Vec<u8>,
+}
+
+impl Job {
+    pub fn new(delays: &[u8]) -> Job {
+        let mut random = Random::new(1);
+        let image = (0..IMAGE_BYTES).map(|_| random.next() as u8).collect();
+        Job { settings: SETTINGS, first_page: 0, image, delays: delays.to_vec() }
+    }
+}
+
+/// The steps of a session and the reply to each.
+#[derive(Default)]
+pub struct Recording {
+    pub steps: Vec<u8>,
+    pub replies: Vec<u8>,
+}
+
+/// A session wired to a target.
+pub struct Wired<S, T> {
+    pub session: S,
+    pub target: T,
+    pub flash: Vec<u8>,
+    pub step: u8,
+}
+
+impl<S: Session, T: Target> Wired<S, T> {
+    pub fn new(job: &Job) -> Wired<S, T> {
+        let (session, step) = S::open(job);
+        let target = T::fresh(job.settings);
+        Wired { session, target, flash: vec![0; job.settings.flash_len()], step }
+    }
+
+    /// The target's reply to the step that awaits one.
+    #[inline]
+    pub fn reply(&mut self, job: &Job) -> u8 {
+        self.target.step(self.step, &mut self.flash, &job.delays)
+    }
+
+    /// Gives the session a reply, which brings the next step.
+    #[inline]
+    pub fn take(&mut self, reply: u8, job: &Job) -> u8 {
+        self.step = self.session.advance(reply, &job.image);
+        self.step
+    }
+
+    #[inline]
+    pub fn turn(&mut self, job: &Job) -> u8 {
+        let reply = self.reply(job);
+        self.take(reply, job);
+        reply
+    }
+
+    /// The session's number, 0 while it runs, and its offset.
+    pub fn outcome(&self, job: &Job) -> (u32, u32) {
+        self.session.outcome(&job.image)
+    }
+
+    pub fn collision(&self) -> bool {
+        self.target.collision()
+    }
+
+    /// Records the session from here on, at most `limit` replies of it.
+    pub fn record(&mut self, job: &Job, limit: usize) -> Recording {
+        let mut recording = Recording::default();
+        while self.step != OFF && recording.replies.len() < limit {
+            recording.steps.push(self.step);
+            let reply = self.turn(job);
+            recording.replies.push(reply);
+        }
+        recording
+    }
+}
+
+/// Small, repeatable random numbers (xorshift64*).
+pub struct Random(u64);
+
+impl Random {
+    pub fn new(seed: u64) -> Random {
+        Random(seed.wrapping_mul(0x9E37_79B9_7F4A_7C15) | 1)
+    }
+
+    pub fn next(&mut self) -> u32 {
+        self.0 ^= self.0 >> 12;
+        self.0 ^= self.0 << 25;
+        self.0 ^= self.0 >> 27;
+        (self.0.wrapping_mul(0x2545_F491_4F6C_DD1D) >> 32) as u32
+    }
+
+    pub fn below(&mut self, bound: u32) -> u32 {
+        self.next() % bound
+    }
+}

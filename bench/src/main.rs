@@ -1,0 +1,91 @@
+//! The same job in plain Rust and in the proved library, timed side by side.
+//!
+//!     bench [--quick] [--repeat N]
+//!     bench --only SIDE:ROW [--delays none|255] [--repeat N]
+//!
+//! The second form runs one row of one side, untimed and unchecked, for a profiler: SIDE is plain or ours, ROW many, one, target
+//! or loop.
+
+mod check;
+mod clock;
+mod frames;
+mod job;
+mod measure;
+mod options;
+mod ours;
+mod rows;
+mod session;
+mod sides;
+mod target;
+mod wire;
+
+use std::hint::black_box;
+use std::process::ExitCode;
+
+use job::{Job, Recording, Wired};
+use measure::{Comparison, Work, PIECE};
+use options::{Options, Side, LISTS};
+use rows::Row;
+
+fn work<'a>(side: Side, row: Row, job: &'a Job, recording: &'a Recording) -> Box<dyn Work + 'a> {
+    match side {
+        Side::Plain => row.work::<session::Session, target::Target>(job, recording),
+        Side::Ours => row.work::<ours::Session, ours::Target>(job, recording),
+    }
+}
+
+/// Only as much of the session is recorded as the repetitions run, so that a profiler need not wait.
+fn profile(side: Side, row: Row, options: &Options) {
+    let job = black_box(Job::new(options.delays));
+    let limit = options.repeat * PIECE;
+    let recording = Wired::<session::Session, target::Target>::new(&job).record(&job, limit);
+    let mut work = work(side, row, &job, &recording);
+    let ran = measure::alone(work.as_mut(), recording.replies.len(), options.repeat);
+    println!("{ran} steps");
+}
+
+fn table(name: &str, delays: &[u8], repeat: usize) -> Result<(), String> {
+    // The compiler is not to know what the job is.
+    let job = black_box(Job::new(delays));
+    let recording = check::recorded(&job)?;
+    let steps = recording.replies.len();
+    println!("\n16 KiB image, delays {name}: {steps} steps to a session, {repeat} repetitions\n");
+    println!("| ns a step | plain | ours | plain, steps/s | ours, steps/s | ours/plain | pair by pair |");
+    println!("|---|---|---|---|---|---|---|");
+    for row in Row::ALL {
+        let mut plain = work(Side::Plain, row, &job, &recording);
+        let mut ours = work(Side::Ours, row, &job, &recording);
+        print_row(row, &measure::interleaved(plain.as_mut(), ours.as_mut(), steps, repeat));
+    }
+    Ok(())
+}
+
+fn print_row(row: Row, Comparison { plain, ours, pairs }: &Comparison) {
+    let (title, ratio) = (row.title(), ours.median / plain.median);
+    let (plain_rate, our_rate) = (plain.millions(), ours.millions());
+    println!(
+        "| {title} | {plain} | {ours} | {plain_rate:.1} M | {our_rate:.1} M | {ratio:.2} | {} |",
+        pairs.quartiles()
+    );
+}
+
+fn run() -> Result<(), String> {
+    let options = Options::from_arguments(std::env::args().skip(1))?;
+    if let Some((side, row)) = options.only {
+        profile(side, row, &options);
+        return Ok(());
+    }
+    check::troubled_sessions_agree()?;
+    frames::targets_agree()?;
+    LISTS.into_iter().try_for_each(|(name, delays)| table(name, delays, options.repeat))
+}
+
+fn main() -> ExitCode {
+    match run() {
+        Ok(()) => ExitCode::SUCCESS,
+        Err(words) => {
+            eprintln!("bench: {words}");
+            ExitCode::FAILURE
+        }
+    }
+}
