@@ -67,7 +67,7 @@ $(WAVES): target/examples/waves
 	@target/examples/waves >$@ || { rm -f $@; false; }
 
 # Never part of the tests: its figures are the machine's as much as the code's.
-bench: target/staticlib/libc2.a
+bench: target/staticlib/libc2.a target/staticlib/libprogramming.a
 	@$(BENCH) $(ARGS)
 
 # As C11, and as C++ too, since drivers are written in both.

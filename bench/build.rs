@@ -1,9 +1,10 @@
-//! Links the proved code. `C2_LIB_DIR` names the folder with the static library.
+//! Links the proved code. `C2_LIB_DIR` names the folder with the static libraries.
 
 use std::env;
 use std::path::{Path, PathBuf};
 
 const DEFAULT_DIR: &str = "../target/staticlib";
+const LIBRARIES: [&str; 2] = ["c2", "programming"];
 
 fn library_dir() -> PathBuf {
     let manifest_dir = env::var_os("CARGO_MANIFEST_DIR").expect("cargo sets CARGO_MANIFEST_DIR");
@@ -13,11 +14,13 @@ fn library_dir() -> PathBuf {
 
 fn main() {
     let dir = library_dir();
-    let archive = dir.join("libc2.a");
     println!("cargo:rerun-if-env-changed=C2_LIB_DIR");
     println!("cargo:rerun-if-changed=build.rs");
-    println!("cargo:rerun-if-changed={}", archive.display());
-    assert!(archive.is_file(), "no static library at {}", archive.display());
     println!("cargo:rustc-link-search=native={}", dir.display());
-    println!("cargo:rustc-link-lib=static=c2");
+    for name in LIBRARIES {
+        let archive = dir.join(format!("lib{name}.a"));
+        println!("cargo:rerun-if-changed={}", archive.display());
+        assert!(archive.is_file(), "no static library at {}", archive.display());
+        println!("cargo:rustc-link-lib=static={name}");
+    }
 }

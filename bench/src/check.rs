@@ -1,76 +1,138 @@
-//! Both sides must do the same job before their times mean anything.
+//! All sides must do the same job before their times mean anything.
 
+use crate::damage::Damage;
 use crate::job::{Job, Random, Recording, Wired, OFF};
+use crate::ours::Library;
+use crate::plain::Plain;
+use crate::sides::{Kept, Run, Side};
 use crate::wire::Settings;
-use crate::{ours, session, target};
 
-type Plain = Wired<session::Session, target::Target>;
-type Ours = Wired<ours::Session, ours::Target>;
+/// Every side on the same job, in lock-step.
+struct Sides {
+    kept: Wired<Kept>,
+    plain: Wired<Plain>,
+    ours: Wired<Library>,
+}
 
-/// The whole session by plain Rust, recorded; ours must give the same steps, replies, outcome and flash.
-pub fn recorded(job: &Job) -> Result<Recording, String> {
-    let mut plain = Plain::new(job);
-    let recording = plain.record(job, usize::MAX);
-    let mut ours = Ours::new(job);
-    for (at, (&step, &reply)) in recording.steps.iter().zip(&recording.replies).enumerate() {
-        if (step, reply) != (ours.step, ours.turn(job)) {
-            return Err(format!("step {at} or its reply differs"));
-        }
+impl Sides {
+    fn new(job: &Job) -> Sides {
+        Sides { kept: Wired::new(job), plain: Wired::new(job), ours: Wired::new(job) }
     }
-    same_end(job, &plain, &ours)?;
-    if plain.outcome(job) != (32, 0) || plain.flash != job.image {
+
+    /// The targets' reply to the step that awaits one.
+    fn reply(&mut self, job: &Job) -> Result<u8, String> {
+        let (kept, plain, ours) = (self.kept.reply(job), self.plain.reply(job), self.ours.reply(job));
+        if (kept, plain) != (ours, ours) || self.plain.target.state != self.ours.target.state {
+            return Err(format!("replies {kept}, {plain} and {ours}, or the states differ"));
+        }
+        Ok(ours)
+    }
+
+    /// Gives the sessions a reply.
+    fn take(&mut self, reply: u8, job: &Job) -> Result<(), String> {
+        let kept = self.kept.take(reply, job);
+        let (plain, ours) = (self.plain.take(reply, job), self.ours.take(reply, job));
+        if (kept, plain) != (ours, ours) || self.plain.session.record != self.ours.session.record {
+            return Err(format!("steps {kept}, {plain} and {ours}, or the records differ"));
+        }
+        Ok(())
+    }
+
+    /// The number and offset that all end with.
+    fn end(&self, job: &Job) -> Result<(u32, u32), String> {
+        let ours = self.ours.numbers(job);
+        let (kept, plain) = (self.kept.numbers(job), self.plain.numbers(job));
+        if (kept, plain) != (ours, ours) {
+            return Err(format!("they end with {kept:?}, {plain:?} and {ours:?}"));
+        }
+        let flash = &self.ours.flash;
+        let mark = self.ours.collision();
+        if [&self.kept.flash, &self.plain.flash] != [flash; 2]
+            || [self.kept.collision(), self.plain.collision()] != [mark; 2]
+        {
+            return Err("the flash or the collision mark differs".into());
+        }
+        Ok(ours)
+    }
+}
+
+/// The whole session, recorded: all sides must give the same steps, replies, records, states, outcome and flash.
+pub fn recorded(job: &Job) -> Result<Recording, String> {
+    let mut sides = Sides::new(job);
+    let mut recording = Recording::default();
+    while sides.ours.step != OFF {
+        let place = |words| format!("step {}: {words}", recording.steps.len());
+        let step = sides.ours.step;
+        let reply = sides.reply(job).map_err(place)?;
+        sides.take(reply, job).map_err(place)?;
+        recording.steps.push(step);
+        recording.replies.push(reply);
+    }
+    if sides.end(job)? != (32, 0) || sides.ours.flash != job.image {
         return Err("the session did not program the image".into());
     }
+    programs_agree(job, recording.replies.len())?;
     Ok(recording)
 }
 
-fn same_end(job: &Job, plain: &Plain, ours: &Ours) -> Result<(), String> {
-    if plain.step != ours.step {
-        return Err("the last steps differ".into());
-    }
-    let outcomes = (plain.outcome(job), ours.outcome(job));
-    if outcomes.0 != outcomes.1 {
-        return Err(format!("plain ends with {:?}, ours with {:?}", outcomes.0, outcomes.1));
-    }
-    if plain.flash != ours.flash || plain.collision() != ours.collision() {
-        return Err("the flash or the collision mark differs".into());
+/// Enough for a whole session without delays.
+const BUDGET: usize = 1 << 20;
+
+/// The whole loop in one call, as far as the budget goes.
+fn programs_agree(job: &Job, steps: usize) -> Result<(), String> {
+    let (mut plain_flash, mut our_flash) = (job.blank_flash(), job.blank_flash());
+    let plain = Plain::program(job, &mut plain_flash, BUDGET);
+    let ours = Library::program(job, &mut our_flash, BUDGET);
+    let replies = steps.min(BUDGET);
+    let number = if replies == steps { 32 } else { 0 };
+    let expected = Run { number, offset: 0, replies, collision: false };
+    if [plain, ours] != [expected; 2] || plain_flash != our_flash {
+        return Err(format!("in one call: plain {plain:?}, ours {ours:?}, or the flash differs"));
     }
     Ok(())
 }
 
 const TROUBLED_SESSIONS: u64 = 500;
 
-/// Sessions on a bad line. They must end alike, and between them in every way that the rules have and a call can reach.
+/// Sessions on a bad line. They must end alike, and between them in every way that the rules have and a call can reach. Their
+/// records are damaged now and then, for a call of its own.
 pub fn troubled_sessions_agree() -> Result<(), String> {
     let mut seen = [false; 33];
+    let mut damage = Damage::new(0);
     for seed in 0..TROUBLED_SESSIONS {
-        let number = troubled_session(seed).map_err(|words| format!("troubled session {seed}: {words}"))?;
+        let number = troubled_session(seed, &mut damage)
+            .map_err(|words| format!("troubled session {seed}: {words}"))?;
         seen[number as usize] = true;
     }
+    damage.enough()?;
     match [9, 10, 11, 12, 13, 14, 32].into_iter().find(|&number| !seen[number]) {
         Some(number) => Err(format!("no troubled session ended with {number}")),
         None => Ok(()),
     }
 }
 
+/// Turns from one damaged record to the next, and damaged records of an ended session.
+const DAMAGED: u32 = 23;
+
 /// One such session, in lock-step; its number.
-fn troubled_session(seed: u64) -> Result<u32, String> {
+fn troubled_session(seed: u64, damage: &mut Damage) -> Result<u32, String> {
     let mut random = Random::new(seed);
     let job = small_job(&mut random);
-    let (mut plain, mut ours) = (Plain::new(&job), Ours::new(&job));
+    let mut sides = Sides::new(&job);
     let (trouble, from) = (Trouble::any(&mut random), random.below(60_000) >> random.below(16));
     let mut turn = 0;
-    while plain.step != OFF {
-        let replies = (plain.reply(&job), ours.reply(&job));
-        let reply = if turn < from { replies.0 } else { trouble.reply(replies.0, &mut random) };
-        let steps = (plain.take(reply, &job), ours.take(reply, &job));
-        if replies.0 != replies.1 || steps.0 != steps.1 {
-            return Err(format!("turn {turn}: replies {replies:?}, steps {steps:?}"));
+    while sides.ours.step != OFF {
+        if turn % DAMAGED == 0 {
+            damage.record(&sides.ours.session.record, &job.image)?;
         }
+        let place = |words| format!("turn {turn}: {words}");
+        let reply = sides.reply(&job).map_err(place)?;
+        let reply = if turn < from { reply } else { trouble.reply(reply, &mut random) };
+        sides.take(reply, &job).map_err(place)?;
         turn += 1;
     }
-    same_end(&job, &plain, &ours)?;
-    Ok(plain.outcome(&job).0)
+    (0..DAMAGED).try_for_each(|_| damage.record(&sides.ours.session.record, &job.image))?;
+    Ok(sides.end(&job)?.0)
 }
 
 fn small_job(random: &mut Random) -> Job {

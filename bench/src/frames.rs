@@ -1,8 +1,12 @@
-//! Targets given frames that no session sends, and stray steps: both sides must reply alike.
+//! Targets given frames that no session sends, and stray steps: all sides must reply alike.
 
+use crate::damage::{Damage, Held};
+use crate::face::{Face, State};
 use crate::job::Random;
+use crate::ours::Library;
+use crate::plain::Plain;
+use crate::target;
 use crate::wire::{command, ins, Settings, FPCTL, KEYS};
-use crate::{ours, target};
 
 const TARGETS: u64 = 20;
 const FRAMES: usize = 5_000;
@@ -11,36 +15,47 @@ const FRAMES: usize = 5_000;
 const BYTES: [u8; 7] =
     [0x00, 0x01, 0x02, 0x04, command::BLOCK_READ, command::BLOCK_WRITE, command::PAGE_ERASE];
 
+/// One step in so many has its state damaged, for a call of its own.
+const DAMAGED: u32 = 8;
+
 pub fn targets_agree() -> Result<(), String> {
-    (0..TARGETS).try_for_each(|seed| Pair::new(seed).run().map_err(|words| format!("target {seed}: {words}")))
+    let mut damage = Damage::new(0);
+    for seed in 0..TARGETS {
+        Trio::new(seed, &mut damage).run().map_err(|words| format!("target {seed}: {words}"))?;
+    }
+    damage.enough()
 }
 
-struct Pair {
+/// The plain target as a struct that is kept, and the state that both faces have.
+struct Trio<'a> {
     random: Random,
-    fpdat: u8,
+    damage: &'a mut Damage,
+    settings: Settings,
     delays: Vec<u8>,
-    plain: target::Target,
-    ours: ours::Target,
+    kept: target::Target,
+    state: State,
+    kept_flash: Vec<u8>,
     plain_flash: Vec<u8>,
     our_flash: Vec<u8>,
 }
 
-impl Pair {
-    fn new(seed: u64) -> Pair {
+impl Trio<'_> {
+    fn new(seed: u64, damage: &mut Damage) -> Trio<'_> {
         let mut random = Random::new(seed);
-        let fpdat = 3 + random.below(253) as u8;
         let settings = Settings {
             device_id: 0x04,
-            fpdat,
+            fpdat: 3 + random.below(253) as u8,
             page_size: 512 << random.below(2),
             page_count: 1 + random.below(4),
         };
         let flash: Vec<u8> = (0..settings.flash_len()).map(|_| random.next() as u8).collect();
-        Pair {
-            fpdat,
+        Trio {
+            damage,
+            settings,
             delays: (0..random.below(4)).map(|_| random.below(30) as u8).collect(),
-            plain: target::Target::fresh(settings).expect("the settings are in range"),
-            ours: ours::Target::fresh(settings),
+            kept: target::Target::fresh(settings).expect("the settings are in range"),
+            state: Library::fresh(),
+            kept_flash: flash.clone(),
             plain_flash: flash.clone(),
             our_flash: flash,
             random,
@@ -52,8 +67,9 @@ impl Pair {
         for _ in 0..FRAMES {
             self.frame()?;
         }
-        let same = self.plain_flash == self.our_flash && self.plain.collision() == self.ours.collision();
-        same.then_some(()).ok_or("the flash or the collision mark differs".into())
+        let same = [&self.kept_flash, &self.plain_flash] == [&self.our_flash; 2];
+        let same_mark = u8::from(self.kept.collision()) == self.state.collision;
+        (same && same_mark).then_some(()).ok_or("the flash or the collision mark differs".into())
     }
 
     /// One frame; now and then the interface is reset and turned on again.
@@ -74,7 +90,7 @@ impl Pair {
     }
 
     fn address(&mut self) -> u8 {
-        [0, FPCTL, self.fpdat, self.fpdat][self.random.below(4) as usize]
+        [0, FPCTL, self.settings.fpdat, self.settings.fpdat][self.random.below(4) as usize]
     }
 
     fn byte(&mut self) -> u8 {
@@ -99,7 +115,7 @@ impl Pair {
             self.address_read()?;
         }
         self.step(5)?;
-        self.address_write(self.fpdat)
+        self.address_write(self.settings.fpdat)
     }
 
     fn address_write(&mut self, address: u8) -> Result<(), String> {
@@ -148,14 +164,21 @@ impl Pair {
         Ok(())
     }
 
-    /// The step on both sides; seldom a stray one in its place, which may be no step at all.
+    /// The step on all sides; seldom a stray one in its place, which may be no step at all.
     fn step(&mut self, step: u8) -> Result<u8, String> {
-        let step = if self.random.below(1000) == 0 { self.random.below(9) as u8 } else { step };
-        let plain = self.plain.step(step, &mut self.plain_flash, &self.delays).map_err(u32::from);
-        let ours = self.ours.step(step, &mut self.our_flash, &self.delays);
-        if plain != ours {
-            return Err(format!("step {step}: plain {plain:?}, ours {ours:?}"));
+        if self.random.below(DAMAGED) == 0 {
+            let Trio { settings, state, .. } = *self;
+            self.damage.state(Held { settings, state, flash: self.our_flash.clone() }, &self.delays)?;
         }
-        Ok(plain.unwrap_or(1))
+        let step = if self.random.below(1000) == 0 { self.random.below(9) as u8 } else { step };
+        let kept = self.kept.step(step, &mut self.kept_flash, &self.delays);
+        let plain = Plain::step(self.settings, self.state, &mut self.plain_flash, &self.delays, step);
+        let ours = Library::step(self.settings, self.state, &mut self.our_flash, &self.delays, step);
+        let kept = kept.map_or_else(|refusal| (refusal.into(), 1), |reply| (0, reply.into()));
+        if plain != ours || kept != (ours.number, ours.reply) {
+            return Err(format!("step {step}: kept {kept:?}, plain {plain:?}, ours {ours:?}"));
+        }
+        self.state = ours.target;
+        Ok(ours.reply as u8)
     }
 }

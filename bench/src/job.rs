@@ -1,6 +1,6 @@
-//! The job that both sides do: one image, one device, one delay list, and a recording of the whole session.
+//! The job that all sides do: one image, one device, one delay list, and a recording of the whole session.
 
-use crate::sides::{Session, Target};
+use crate::sides::{Session, Side, Target};
 use crate::wire::{Settings, Step};
 
 /// A device of the program's kind, which the image fills from page 0 on.
@@ -22,6 +22,10 @@ impl Job {
         let image = (0..IMAGE_BYTES).map(|_| random.next() as u8).collect();
         Job { settings: SETTINGS, first_page: 0, image, delays: delays.to_vec() }
     }
+
+    pub fn blank_flash(&self) -> Vec<u8> {
+        vec![0; self.settings.flash_len()]
+    }
 }
 
 /// The steps of a session and the reply to each.
@@ -32,18 +36,18 @@ pub struct Recording {
 }
 
 /// A session wired to a target.
-pub struct Wired<S, T> {
-    pub session: S,
-    pub target: T,
+pub struct Wired<S: Side> {
+    pub session: S::Session,
+    pub target: S::Target,
     pub flash: Vec<u8>,
     pub step: u8,
 }
 
-impl<S: Session, T: Target> Wired<S, T> {
-    pub fn new(job: &Job) -> Wired<S, T> {
-        let (session, step) = S::open(job);
-        let target = T::fresh(job.settings);
-        Wired { session, target, flash: vec![0; job.settings.flash_len()], step }
+impl<S: Side> Wired<S> {
+    pub fn new(job: &Job) -> Wired<S> {
+        let (session, step) = S::Session::open(job);
+        let target = S::Target::fresh(job.settings);
+        Wired { session, target, flash: job.blank_flash(), step }
     }
 
     /// The target's reply to the step that awaits one.
@@ -67,8 +71,8 @@ impl<S: Session, T: Target> Wired<S, T> {
     }
 
     /// The session's number, 0 while it runs, and its offset.
-    pub fn outcome(&self, job: &Job) -> (u32, u32) {
-        self.session.outcome(&job.image)
+    pub fn numbers(&self, job: &Job) -> (u32, u32) {
+        self.session.numbers(&job.image)
     }
 
     pub fn collision(&self) -> bool {

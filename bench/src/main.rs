@@ -3,16 +3,19 @@
 //!     bench [--quick] [--repeat N]
 //!     bench --only SIDE:ROW [--delays none|255] [--repeat N]
 //!
-//! The second form runs one row of one side, untimed and unchecked, for a profiler: SIDE is plain or ours, ROW many, one, target
-//! or loop.
+//! The second form runs one row of one side, untimed and unchecked, for a profiler: SIDE is plain, ours or kept (the plain structs
+//! without the face), ROW many, one, target, loop or program.
 
 mod check;
 mod clock;
+mod damage;
+mod face;
 mod frames;
 mod job;
 mod measure;
 mod options;
 mod ours;
+mod plain;
 mod rows;
 mod session;
 mod sides;
@@ -25,12 +28,16 @@ use std::process::ExitCode;
 use job::{Job, Recording, Wired};
 use measure::{Comparison, Work, PIECE};
 use options::{Options, Side, LISTS};
+use ours::Library;
+use plain::Plain;
 use rows::Row;
+use sides::Kept;
 
 fn work<'a>(side: Side, row: Row, job: &'a Job, recording: &'a Recording) -> Box<dyn Work + 'a> {
     match side {
-        Side::Plain => row.work::<session::Session, target::Target>(job, recording),
-        Side::Ours => row.work::<ours::Session, ours::Target>(job, recording),
+        Side::Plain => row.work::<Plain>(job, recording),
+        Side::Ours => row.work::<Library>(job, recording),
+        Side::Kept => row.work::<Kept>(job, recording),
     }
 }
 
@@ -38,9 +45,9 @@ fn work<'a>(side: Side, row: Row, job: &'a Job, recording: &'a Recording) -> Box
 fn profile(side: Side, row: Row, options: &Options) {
     let job = black_box(Job::new(options.delays));
     let limit = options.repeat * PIECE;
-    let recording = Wired::<session::Session, target::Target>::new(&job).record(&job, limit);
+    let recording = Wired::<Kept>::new(&job).record(&job, limit);
     let mut work = work(side, row, &job, &recording);
-    let ran = measure::alone(work.as_mut(), recording.replies.len(), options.repeat);
+    let ran = measure::untimed(work.as_mut(), recording.replies.len(), options.repeat);
     println!("{ran} steps");
 }
 
@@ -57,7 +64,19 @@ fn table(name: &str, delays: &[u8], repeat: usize) -> Result<(), String> {
         let mut ours = work(Side::Ours, row, &job, &recording);
         print_row(row, &measure::interleaved(plain.as_mut(), ours.as_mut(), steps, repeat));
     }
+    scale(&job, &recording, repeat);
     Ok(())
+}
+
+/// The plain structs without the face, for scale.
+fn scale(job: &Job, recording: &Recording, repeat: usize) {
+    println!("\n| ns a step | plain structs, kept by the caller | steps/s |");
+    println!("|---|---|---|");
+    for row in Row::KEPT {
+        let mut kept = work(Side::Kept, row, job, recording);
+        let summary = measure::alone(kept.as_mut(), recording.replies.len(), repeat);
+        println!("| {} | {summary} | {:.1} M |", row.title(), summary.millions());
+    }
 }
 
 fn print_row(row: Row, Comparison { plain, ours, pairs }: &Comparison) {

@@ -90,8 +90,13 @@ pub fn interleaved(plain: &mut dyn Work, ours: &mut dyn Work, steps: usize, repe
     }
 }
 
+/// One side alone.
+pub fn alone(work: &mut dyn Work, steps: usize, repeat: usize) -> Summary {
+    Summary::of(pieces(steps).take(repeat).map(|piece| timed(work, piece)))
+}
+
 /// One side alone, untimed: for a profiler. Gives the steps that it ran.
-pub fn alone(work: &mut dyn Work, steps: usize, repeat: usize) -> usize {
+pub fn untimed(work: &mut dyn Work, steps: usize, repeat: usize) -> usize {
     let mut ran = 0;
     for piece in pieces(steps).take(repeat) {
         if piece.start == 0 {

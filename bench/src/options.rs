@@ -13,6 +13,7 @@ pub const LISTS: [(&str, &[u8]); 2] = [("none", &[]), ("255", &[255; 256])];
 pub enum Side {
     Plain,
     Ours,
+    Kept,
 }
 
 pub struct Options {
@@ -51,7 +52,8 @@ fn side_and_row(value: &str) -> Result<(Side, Row), String> {
     let side = match side {
         "plain" => Side::Plain,
         "ours" => Side::Ours,
-        _ => return Err(format!("{side} is neither plain nor ours")),
+        "kept" => Side::Kept,
+        _ => return Err(format!("{side} is neither plain, ours nor kept")),
     };
     let row = Row::ALL.into_iter().find(|known| known.name() == row).ok_or(format!("{row} is no row"))?;
     Ok((side, row))

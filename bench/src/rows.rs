@@ -1,11 +1,12 @@
-//! The rows of the table: what one repetition does. Each loop is written once and run for both sides.
+//! The rows of the table: what one repetition does. Each loop is written once and run for every side.
 
 use std::hint::black_box;
+use std::marker::PhantomData;
 use std::ops::Range;
 
 use crate::job::{Job, Recording, Wired, OFF};
 use crate::measure::Work;
-use crate::sides::{Session, Target};
+use crate::sides::{Session, Side, Target};
 
 /// Replies to a call in the row of many.
 const MANY: usize = 4096;
@@ -16,10 +17,13 @@ pub enum Row {
     One,
     Target,
     Loop,
+    Program,
 }
 
 impl Row {
-    pub const ALL: [Row; 4] = [Row::Many, Row::One, Row::Target, Row::Loop];
+    pub const ALL: [Row; 5] = [Row::Many, Row::One, Row::Target, Row::Loop, Row::Program];
+    /// Those of the structs that the caller keeps.
+    pub const KEPT: [Row; 4] = [Row::Many, Row::One, Row::Target, Row::Loop];
 
     /// The name on the command line.
     pub fn name(self) -> &'static str {
@@ -28,6 +32,7 @@ impl Row {
             Row::One => "one",
             Row::Target => "target",
             Row::Loop => "loop",
+            Row::Program => "program",
         }
     }
 
@@ -37,20 +42,18 @@ impl Row {
             Row::Many => "session, 4,096 replies a call",
             Row::One => "session, one reply a call",
             Row::Target => "target",
-            Row::Loop => "whole loop",
+            Row::Loop => "whole loop, call by call",
+            Row::Program => "whole loop in one call",
         }
     }
 
-    pub fn work<'a, S: Session + 'a, T: Target + 'a>(
-        self,
-        job: &'a Job,
-        recording: &'a Recording,
-    ) -> Box<dyn Work + 'a> {
+    pub fn work<'a, S: Side + 'a>(self, job: &'a Job, recording: &'a Recording) -> Box<dyn Work + 'a> {
         match self {
-            Row::Many => Box::new(Many::<S>::new(job, recording)),
-            Row::One => Box::new(One::<S>::new(job, recording)),
-            Row::Target => Box::new(Alone::<T>::new(job, recording)),
-            Row::Loop => Box::new(Whole::<S, T>::new(job)),
+            Row::Many => Box::new(Many::<S::Session>::new(job, recording)),
+            Row::One => Box::new(One::<S::Session>::new(job, recording)),
+            Row::Target => Box::new(Alone::<S::Target>::new(job, recording)),
+            Row::Loop => Box::new(Whole::<S>::new(job)),
+            Row::Program => Box::new(Program::<S>::new(job)),
         }
     }
 }
@@ -117,7 +120,7 @@ struct Alone<'a, T> {
 
 impl<'a, T: Target> Alone<'a, T> {
     fn new(job: &'a Job, recording: &'a Recording) -> Self {
-        Alone { job, recording, target: T::fresh(job.settings), flash: vec![0; job.settings.flash_len()] }
+        Alone { job, recording, target: T::fresh(job.settings), flash: job.blank_flash() }
     }
 }
 
@@ -134,18 +137,18 @@ impl<T: Target> Work for Alone<'_, T> {
 }
 
 /// A session and a target together, one reply to a call.
-struct Whole<'a, S, T> {
+struct Whole<'a, S: Side> {
     job: &'a Job,
-    wired: Wired<S, T>,
+    wired: Wired<S>,
 }
 
-impl<'a, S: Session, T: Target> Whole<'a, S, T> {
+impl<'a, S: Side> Whole<'a, S> {
     fn new(job: &'a Job) -> Self {
         Whole { job, wired: Wired::new(job) }
     }
 }
 
-impl<S: Session, T: Target> Work for Whole<'_, S, T> {
+impl<S: Side> Work for Whole<'_, S> {
     fn restart(&mut self) {
         self.wired = Wired::new(self.job);
     }
@@ -157,5 +160,28 @@ impl<S: Session, T: Target> Work for Whole<'_, S, T> {
             }
             black_box(self.wired.turn(self.job));
         }
+    }
+}
+
+/// A session and a target together in one call, which starts anew at every piece: it has no place to go on from.
+struct Program<'a, S> {
+    job: &'a Job,
+    flash: Vec<u8>,
+    side: PhantomData<S>,
+}
+
+impl<'a, S: Side> Program<'a, S> {
+    fn new(job: &'a Job) -> Self {
+        Program { job, flash: job.blank_flash(), side: PhantomData }
+    }
+}
+
+impl<S: Side> Work for Program<'_, S> {
+    fn restart(&mut self) {
+        self.flash.fill(0);
+    }
+
+    fn run(&mut self, piece: Range<usize>) {
+        black_box(S::program(self.job, &mut self.flash, piece.len()));
     }
 }

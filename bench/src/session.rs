@@ -1,5 +1,9 @@
 //! A session in plain Rust: it programs an image page by page, one reply at a time.
 
+mod face;
+
+pub use face::{advance, open};
+
 use crate::wire::{command, ins, status, Refusal, Settings, Step, BLOCK, COMMAND_OK, FPCTL, KEYS};
 
 /// How a session ended.
@@ -13,6 +17,22 @@ pub enum Outcome {
     BadStatus,
     Differs { offset: usize },
     NoImageByte,
+}
+
+impl Outcome {
+    /// Its number and the image offset, as include/c2.h has them.
+    fn numbers(self) -> (u8, usize) {
+        match self {
+            Outcome::Done => (32, 0),
+            Outcome::BadReply => (9, 0),
+            Outcome::WaitLimit => (10, 0),
+            Outcome::PollLimit => (11, 0),
+            Outcome::OtherDevice => (12, 0),
+            Outcome::BadStatus => (13, 0),
+            Outcome::Differs { offset } => (14, offset),
+            Outcome::NoImageByte => (15, 0),
+        }
+    }
 }
 
 /// What follows the driven bits of a frame.
@@ -126,16 +146,19 @@ enum Task {
     LastReset,
 }
 
+/// The commands of a page. The numbers are those of the record's stages.
 #[derive(Clone, Copy)]
+#[repr(u8)]
 enum Command {
-    Erase,
-    Write,
-    Read,
+    Erase = 1,
+    Write = 2,
+    Read = 3,
 }
 
-/// One entry of a command's script.
+/// One entry of a command's script. Bytes of the image are named by their offset.
 enum Entry {
     Put(u8),
+    PutImage(usize),
     Status,
     Compare(usize),
     End,
@@ -170,10 +193,14 @@ impl Session {
         if first_page as usize + image.len() / page_size > settings.page_count as usize {
             return Err(Refusal::PastLastPage);
         }
-        let session = Session {
+        Ok((Session::new(settings, first_page, image.len()), Step::Reset))
+    }
+
+    fn new(settings: Settings, first_page: u32, image_len: usize) -> Session {
+        Session {
             settings,
             first_page,
-            image_len: image.len(),
+            image_len,
             outcome: None,
             task: Task::FirstReset,
             frame: None,
@@ -181,12 +208,13 @@ impl Session {
             offset: 0,
             entry: 0,
             reads: 0,
-        };
-        Ok((session, Step::Reset))
+        }
     }
 
-    pub fn outcome(&self) -> Option<Outcome> {
-        self.outcome
+    /// The session's number, 0 while it runs, and its offset.
+    pub fn numbers(&self) -> (u32, u32) {
+        let (number, offset) = self.outcome.map_or((0, 0), Outcome::numbers);
+        (number.into(), offset as u32)
     }
 
     /// Takes one reply and gives the step that follows it. Not inlined: a driver calls it across a library's boundary.
@@ -207,6 +235,10 @@ impl Session {
         if replies.len() > steps.len() {
             return Err(Refusal::NoRoom);
         }
+        Ok(self.take_all(replies, image, steps))
+    }
+
+    fn take_all(&mut self, replies: &[u8], image: &[u8], steps: &mut [u8]) -> usize {
         let mut taken = 0;
         for (step, &reply) in steps.iter_mut().zip(replies) {
             if self.outcome.is_some() {
@@ -215,10 +247,12 @@ impl Session {
             *step = self.take(reply, image) as u8;
             taken += 1;
         }
-        Ok(taken)
+        taken
     }
 
-    fn take(&mut self, reply: u8, image: &[u8]) -> Step {
+    /// Takes one reply; the image is the one of the opening.
+    #[inline]
+    pub fn take(&mut self, reply: u8, image: &[u8]) -> Step {
         if self.outcome.is_some() {
             return Step::Off;
         }
@@ -309,19 +343,22 @@ impl Session {
     }
 
     fn begin_entry(&mut self, image: &[u8]) -> Step {
-        match self.script(image) {
-            Some(Entry::Put(byte)) => self.begin(Task::Put, Frame::data_write(byte)),
-            Some(Entry::Status | Entry::Compare(_)) => self.poll(Task::AwaitOutput),
-            Some(Entry::End) => self.next_command(),
-            None => self.end(Outcome::NoImageByte),
+        match self.script() {
+            Entry::Put(byte) => self.begin(Task::Put, Frame::data_write(byte)),
+            Entry::PutImage(offset) => match image.get(offset) {
+                Some(&byte) => self.begin(Task::Put, Frame::data_write(byte)),
+                None => self.end(Outcome::NoImageByte),
+            },
+            Entry::Status | Entry::Compare(_) => self.poll(Task::AwaitOutput),
+            Entry::End => self.next_command(),
         }
     }
 
-    /// The entry that the session is at; none where the image lacks the byte. What is no put, compare or end is a status: entries
-    /// 1, 3 and 5 of an erase, 1 and 261 of a block write, 1 and 5 of a block read.
-    fn script(&self, image: &[u8]) -> Option<Entry> {
+    /// The entry that the session is at. What is no put, compare or end is a status: entries 1, 3 and 5 of an erase, 1 and 261 of a
+    /// block write, 1 and 5 of a block read.
+    fn script(&self) -> Entry {
         let [_, _, high, low] = self.flash_address().to_be_bytes();
-        let entry = match (self.command, self.entry) {
+        match (self.command, self.entry) {
             (Command::Erase, 0) => Entry::Put(command::PAGE_ERASE),
             (Command::Erase, 2) => Entry::Put((self.flash_address() / self.settings.page_size) as u8),
             (Command::Erase, 4) => Entry::Put(0),
@@ -331,12 +368,11 @@ impl Session {
             (Command::Write | Command::Read, 2) => Entry::Put(high),
             (Command::Write | Command::Read, 3) => Entry::Put(low),
             (Command::Write | Command::Read, 4) => Entry::Put(0),
-            (Command::Write, n @ 5..=260) => Entry::Put(*image.get(self.offset + n - 5)?),
+            (Command::Write, n @ 5..=260) => Entry::PutImage(self.offset + n - 5),
             (Command::Read, n @ 6..=261) => Entry::Compare(self.offset + n - 6),
             (Command::Write | Command::Read, 262) => Entry::End,
             _ => Entry::Status,
-        };
-        Some(entry)
+        }
     }
 
     fn flash_address(&self) -> u32 {
@@ -344,7 +380,7 @@ impl Session {
     }
 
     fn judge(&mut self, value: u8, image: &[u8]) -> Step {
-        let Some(Entry::Compare(offset)) = self.script(image) else {
+        let Entry::Compare(offset) = self.script() else {
             return if value == COMMAND_OK { self.next_entry(image) } else { self.end(Outcome::BadStatus) };
         };
         match image.get(offset) {

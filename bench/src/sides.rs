@@ -1,9 +1,11 @@
-//! Both sides behind one face, so that the same loops run them.
+//! The sides behind one trait, so that the same loops run them.
 
+use crate::face;
 use crate::job::Job;
-use crate::session::{self, Outcome};
-use crate::wire::Settings;
-use crate::{ours, target};
+use crate::ours::{self, Library};
+use crate::plain::{self, Plain};
+use crate::wire::{Refusal, Settings};
+use crate::{session, target};
 
 /// A session. No call is refused here: each is lent what the opening was lent.
 pub trait Session: Sized {
@@ -11,7 +13,7 @@ pub trait Session: Sized {
     fn advance(&mut self, reply: u8, image: &[u8]) -> u8;
     fn advance_all(&mut self, replies: &[u8], image: &[u8], steps: &mut [u8]) -> usize;
     /// The session's number, 0 while it runs, and its offset.
-    fn outcome(&self, image: &[u8]) -> (u32, u32);
+    fn numbers(&self, image: &[u8]) -> (u32, u32);
 }
 
 /// A modelled target.
@@ -21,13 +23,58 @@ pub trait Target {
     fn collision(&self) -> bool;
 }
 
-#[cold]
-fn refused(number: u32) -> ! {
-    panic!("a call was refused with number {number}")
+/// What a whole run comes to: number and offset, the replies taken, the collision mark.
+#[repr(C)]
+#[derive(Clone, Copy, PartialEq, Eq, Debug, Default)]
+pub struct Run {
+    pub number: u32,
+    pub offset: u32,
+    pub replies: usize,
+    pub collision: bool,
 }
 
-fn accepted<T, N: Into<u32>>(answer: Result<T, N>) -> T {
-    answer.unwrap_or_else(|number| refused(number.into()))
+pub trait Side {
+    type Session: Session;
+    type Target: Target;
+    /// Runs the job from its start in one call, for at most `budget` replies.
+    fn program(job: &Job, flash: &mut [u8], budget: usize) -> Run;
+}
+
+impl Side for Library {
+    type Session = face::Session<Library>;
+    type Target = face::Target<Library>;
+
+    #[inline]
+    fn program(Job { settings, first_page, image, delays }: &Job, flash: &mut [u8], budget: usize) -> Run {
+        ours::program(*settings, *first_page, image, flash, delays, budget)
+    }
+}
+
+impl Side for Plain {
+    type Session = face::Session<Plain>;
+    type Target = face::Target<Plain>;
+
+    #[inline]
+    fn program(Job { settings, first_page, image, delays }: &Job, flash: &mut [u8], budget: usize) -> Run {
+        plain::program(*settings, *first_page, image, flash, delays, budget)
+    }
+}
+
+/// The plain structs as they are: kept by the caller between calls, with no record and no state that could be damaged.
+pub struct Kept;
+
+impl Side for Kept {
+    type Session = session::Session;
+    type Target = target::Target;
+
+    #[inline]
+    fn program(job: &Job, flash: &mut [u8], budget: usize) -> Run {
+        Plain::program(job, flash, budget)
+    }
+}
+
+fn accepted<T>(answer: Result<T, Refusal>) -> T {
+    answer.unwrap_or_else(|refusal| panic!("a call was refused: {refusal:?}"))
 }
 
 impl Session for session::Session {
@@ -46,59 +93,14 @@ impl Session for session::Session {
         accepted(self.advance_all(replies, image, steps))
     }
 
-    fn outcome(&self, _image: &[u8]) -> (u32, u32) {
-        match self.outcome() {
-            None => (0, 0),
-            Some(Outcome::Done) => (32, 0),
-            Some(Outcome::BadReply) => (9, 0),
-            Some(Outcome::WaitLimit) => (10, 0),
-            Some(Outcome::PollLimit) => (11, 0),
-            Some(Outcome::OtherDevice) => (12, 0),
-            Some(Outcome::BadStatus) => (13, 0),
-            Some(Outcome::Differs { offset }) => (14, offset as u32),
-            Some(Outcome::NoImageByte) => (15, 0),
-        }
-    }
-}
-
-impl Session for ours::Session {
-    fn open(job: &Job) -> (Self, u8) {
-        accepted(ours::Session::open(job.settings, job.first_page, &job.image))
-    }
-
-    #[inline]
-    fn advance(&mut self, reply: u8, image: &[u8]) -> u8 {
-        accepted(self.advance(reply, image))
-    }
-
-    #[inline]
-    fn advance_all(&mut self, replies: &[u8], image: &[u8], steps: &mut [u8]) -> usize {
-        accepted(self.advance_all(replies, image, steps))
-    }
-
-    fn outcome(&self, image: &[u8]) -> (u32, u32) {
-        accepted(self.outcome(image))
+    fn numbers(&self, _image: &[u8]) -> (u32, u32) {
+        self.numbers()
     }
 }
 
 impl Target for target::Target {
     fn fresh(settings: Settings) -> Self {
         accepted(target::Target::fresh(settings))
-    }
-
-    #[inline]
-    fn step(&mut self, step: u8, flash: &mut [u8], delays: &[u8]) -> u8 {
-        accepted(self.step(step, flash, delays))
-    }
-
-    fn collision(&self) -> bool {
-        self.collision()
-    }
-}
-
-impl Target for ours::Target {
-    fn fresh(settings: Settings) -> Self {
-        ours::Target::fresh(settings)
     }
 
     #[inline]

@@ -1,5 +1,9 @@
 //! The modelled target in plain Rust: a device on the other end of the wire.
 
+mod face;
+
+pub use face::step;
+
 use crate::wire::{command, ins, status, Refusal, Settings, Step, BLOCK, COMMAND_OK, FPCTL, KEYS};
 
 /// Bits heard of a field, lowest first.
@@ -126,17 +130,21 @@ impl Target {
     #[inline(never)]
     pub fn step(&mut self, step: u8, flash: &mut [u8], delays: &[u8]) -> Result<u8, Refusal> {
         if flash.len() != self.settings.flash_len() {
-            return Err(Refusal::OtherFlash);
+            return Err(Refusal::NoPoint);
         }
-        match Step::try_from(step)? {
-            strobe @ (Step::Released | Step::Low | Step::High) => {
-                return Ok(self.strobe(strobe, flash, delays))
-            }
+        Ok(self.reply(Step::try_from(step)?, flash, delays))
+    }
+
+    /// The reply to a step; the flash is as long as the settings say.
+    #[inline]
+    pub fn reply(&mut self, step: Step, flash: &mut [u8], delays: &[u8]) -> u8 {
+        match step {
+            Step::Released | Step::Low | Step::High => return self.strobe(step, flash, delays),
             Step::Reset => self.reset(),
-            Step::Pause => self.interface_on |= self.keys == KEYS.len(),
+            Step::Pause => self.interface_on |= self.keys == KEYS.len() && matches!(self.field, Field::Start),
             Step::Off => {}
         }
-        Ok(1)
+        1
     }
 
     fn reset(&mut self) {

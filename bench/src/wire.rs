@@ -79,10 +79,11 @@ pub enum Refusal {
     BadPageCount = 3,
     BadImage = 4,
     PastLastPage = 5,
+    BadRecord = 6,
     OtherImage = 7,
     NoRoom = 8,
     NoStep = 16,
-    OtherFlash = 17,
+    NoPoint = 17,
 }
 
 impl From<Refusal> for u32 {
@@ -92,6 +93,7 @@ impl From<Refusal> for u32 {
 }
 
 /// The device, as its data sheet has it.
+#[repr(C)]
 #[derive(Clone, Copy, Debug)]
 pub struct Settings {
     pub device_id: u8,
