@@ -1,5 +1,5 @@
--- For the code, which tests a state on its plain numbers: those of a point, of a command and of the output that some target has. Nothing here
--- needs to be believed; the laws are in proofs/.
+-- For the code, which tests a state, and moves it by most strobes, on its plain numbers: those of a point, of a command and of the output that
+-- some target has. Nothing here needs to be believed; the laws are in proofs/.
 use mathlib.Core.Bool.{Bool, true, false, cond}
 use Prim.Native.Nat.{ℕ, _+_, _-_, _*_, _/_, _%_}
 use lib.Dec.{eqb, ltb, leb}

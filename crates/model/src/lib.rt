@@ -1071,7 +1071,7 @@ pub fn fresh() -> State
     }
 }
 
-// One step of the target whose state this is.
+// One step of the target whose state this is. Most strobes move a few numbers and nothing else: for those no target is read.
 pub fn step(t: Settings, state: State, flash: &mut [u8], delays: &[u8], x: u8) -> ModelReplied
     ensures { λ r. ⌜ r ≡ model-answer t state (now (flash .entry)) (now (delays .entry)) x ⌝ }
     ensures { λ _. ⌜ now (flash .exit) ≡ model-flash t state (now (flash .entry)) (now (delays .entry)) x ⌝ }
