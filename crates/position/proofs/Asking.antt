@@ -5,7 +5,7 @@ use mathlib.Core.List.{List}
 use Prim.Native.Nat.{ℕ, _*_, _%_, _<_, _≤_}
 use native.Mathlib.Omega.{arith}
 use native.Mathlib.Decide.{decLt}
-use borrow.Author.Tests.{lt-ltb, le-ltb}
+use borrow.Author.Tests.{lt-ltb, le-ltb, ne-eqb}
 use lib.Dec.{eqb}
 use lib.ListN.{length}
 use Rattle.laws.proofs.Testing.{by-test}
@@ -26,7 +26,7 @@ use Rattle.tasks.specs.declared.Task.{Task}
 use Rattle.tasks.specs.declared.Task.the-variants.{Reset, Pause, Address, Send, Input, Output, Ident, Status, Compare}
 use Rattle.session.specs.declared.Point.the-variants.{Running, Ended}
 use Rattle.session.specs.declared.Session.{Session}
-use Rattle.tasks.specs.Tasks.{task-of}
+use Rattle.tasks.specs.Tasks.{task-of, read-task}
 use Rattle.session.specs.Sent.{stage-byte, byte-of, compared-offset}
 use Rattle.session.specs.Machine.{at, running, task-step, point-step, step-of}
 use Rattle.session.specs.Range.{strobes-in, reads-in, in-range, point-in-range}
@@ -43,10 +43,10 @@ use Rattle.order.specs.Point
 is-sent : Task → Bool
 is-sent = elim [ Reset ↦ false | Pause ↦ false | Address ↦ true | Send ↦ true | Input ↦ false | Output ↦ false | Ident ↦ false | Status ↦ false | Compare ↦ false ]
 
-late-unsent : (k : ℕ) → 11 ≤ k → is-sent (task-of Read k) ≡ false
+late-unsent : (k : ℕ) → 11 ≤ k → is-sent (read-task k) ≡ false
 unfolding is-sent
 late-unsent k h =
-    rw (le-ltb k 5 (omega arith), le-ltb k 11 h)
+    rw (ne-eqb k 0 (λ e. omega arith), ne-eqb k 3 (λ e. omega arith), ne-eqb k 4 (λ e. omega arith), le-ltb k 11 h)
     (by-test (eqb (k % 2) 1) (λ e. rw e) (λ e. by-test (eqb k 12) (λ f. rw (e, f)) (λ f. rw (e, f))))
 
 sent-byte : (s : Session) (image : List ℕ) (h : Fits s image) (g : Stage) (i j k : ℕ) → is-sent (task-of g k) ≡ true

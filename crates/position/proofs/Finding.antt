@@ -165,7 +165,8 @@ write-at f b k d id o e h = go (decLt k 11) (decLt k 523)
         ∙ rw (lt-ltb k 11 y) (same-below (λ n. getD C n d) (λ n. task-act (task-of Write n) (command-byte f 7 b n) id o) 11 (command-writes f 7 b d id o) k y)
     go (no y) (yes z) =
         second-part C P status d 512 (length-command f 7 b) lp k (omega arith) z
-        ∙ rw (le-ltb k 11 (omega arith), le-ltb k 5 (omega arith), lt-ltb k 523 z) (middle (omega arith) z (eqb (k % 2) 1) refl)
+        ∙ rw (le-ltb k 11 (omega arith), ne-eqb k 0 (λ q. omega arith), ne-eqb k 3 (λ q. omega arith), ne-eqb k 4 (λ q. omega arith), lt-ltb k 523 z)
+        (middle (omega arith) z (eqb (k % 2) 1) refl)
     go (no y) (no z) = third-part C P status d 512 (length-command f 7 b) lp k (omega arith) ∙ last (omega arith) (decLt k 524)
 
 pub length-status : length status ≡ 2
@@ -223,4 +224,5 @@ read-at f b k d id e h = go (decLt k 11) (decLt k 13)
     go (no y) (yes z) = second-part C status S d 2 (length-command f 6 b) two k (omega arith) z ∙ middle (omega arith) (decLt k 12) z
     go (no y) (no z) =
         third-part C status S d 2 (length-command f 6 b) two k (omega arith)
-        ∙ rw (le-ltb k 11 (omega arith), le-ltb k 5 (omega arith)) (last (omega arith) (eqb (k % 2) 1) refl)
+        ∙ rw (le-ltb k 11 (omega arith), ne-eqb k 0 (λ q. omega arith), ne-eqb k 3 (λ q. omega arith), ne-eqb k 4 (λ q. omega arith))
+        (last (omega arith) (eqb (k % 2) 1) refl)

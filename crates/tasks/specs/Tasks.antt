@@ -1,6 +1,6 @@
 -- The act of a number, by arithmetic: what it does. Nothing here needs to be believed: `Finding` of the crate position has the law that these are
 -- the acts of the session's order.
-use mathlib.Core.Bool.{Bool, false, cond}
+use mathlib.Core.Bool.{cond}
 use Prim.Native.Nat.{ℕ, _%_}
 use lib.Dec.{eqb, ltb}
 use Rattle.tasks.specs.declared.Stage.{Stage}
@@ -16,36 +16,29 @@ lead-task act =
 abbrev pub put-task : ℕ → Task
 put-task act = cond (eqb (act % 2) 1) Send Input
 
--- The first five acts of an erase and of a block: FPDAT's address, the command byte and its status,
-abbrev pub starts : Stage → ℕ → Bool
-starts Lead act = false
-starts Erase act = ltb act 5
-starts Write act = ltb act 5
-starts Read act = ltb act 5
-starts Close act = false
-
-abbrev pub start-task : ℕ → Task
-start-task act = cond (eqb act 0) Address (cond (eqb act 1) Send (cond (eqb act 2) Input (cond (eqb act 3) Output Status)))
-
--- and the acts that follow
 abbrev pub erase-task : ℕ → Task
-erase-task act = cond (eqb (act % 4) 1) Send (cond (eqb (act % 4) 2) Input (cond (eqb (act % 4) 3) Output Status))
+erase-task act =
+    cond (eqb act 0) Address
+    (cond (eqb (act % 4) 1) Send (cond (eqb (act % 4) 2) Input (cond (eqb (act % 4) 3) Output Status)))
 
 abbrev pub write-task : ℕ → Task
-write-task act = cond (ltb act 523) (put-task act) (cond (eqb act 523) Output Status)
+write-task act =
+    cond (eqb act 0) Address
+    (cond (eqb act 3) Output (cond (eqb act 4) Status (cond (ltb act 523) (put-task act) (cond (eqb act 523) Output Status))))
 
 abbrev pub read-task : ℕ → Task
-read-task act = cond (ltb act 11) (put-task act) (cond (eqb (act % 2) 1) Output (cond (eqb act 12) Status Compare))
-
-abbrev pub later-task : Stage → ℕ → Task
-later-task Lead act = lead-task act
-later-task Erase act = erase-task act
-later-task Write act = write-task act
-later-task Read act = read-task act
-later-task Close act = Reset
+read-task act =
+    cond (eqb act 0) Address
+    (cond (eqb act 3) Output
+    (cond (eqb act 4) Status
+    (cond (ltb act 11) (put-task act) (cond (eqb (act % 2) 1) Output (cond (eqb act 12) Status Compare)))))
 
 abbrev pub task-of : Stage → ℕ → Task
-task-of g act = cond (starts g act) (start-task act) (later-task g act)
+task-of Lead act = lead-task act
+task-of Erase act = erase-task act
+task-of Write act = write-task act
+task-of Read act = read-task act
+task-of Close act = Reset
 
 -- how many acts a stage has: for each page those of its erase, for each block those of its write and of its read
 abbrev pub acts-in : Stage → ℕ

@@ -1,6 +1,6 @@
 // The acts of the order by their numbers: what an act of a stage does, and how many acts a stage has.
 ghost use mathlib.Core.Path.{_≡_};
-ghost use Rattle.tasks.specs.Tasks.{lead-task, put-task, starts, start-task, erase-task, write-task, read-task, later-task, task-of, acts-in};
+ghost use Rattle.tasks.specs.Tasks.{lead-task, put-task, erase-task, write-task, read-task, task-of, acts-in};
 
 // The stages of the order: up to the pause; then for each page its erase, its block writes and its block reads; and the last reset.
 pub enum Stage {
@@ -56,44 +56,12 @@ fn put_task(act: u16) -> Task
     Task::Input
 }
 
-// The first five acts of an erase and of a block, which are alike. Those of a block's bytes are by far the most, so the number is tested first.
-fn starts(stage: Stage, act: u16) -> bool
-    ensures { λ r. ⌜ r ≡ starts stage act ⌝ }
-{
-    if 4 < act {
-        return false;
-    }
-    match stage {
-        Stage::Lead => false,
-        Stage::Erase => true,
-        Stage::Write => true,
-        Stage::Read => true,
-        Stage::Close => false,
-    }
-}
-
-fn start_task(act: u16) -> Task
-    ensures { λ r. ⌜ r ≡ start-task act ⌝ }
+fn erase_task(act: u16) -> Task
+    ensures { λ r. ⌜ r ≡ erase-task act ⌝ }
 {
     if act == 0 {
         return Task::Address;
     }
-    if act == 1 {
-        return Task::Send;
-    }
-    if act == 2 {
-        return Task::Input;
-    }
-    if act == 3 {
-        return Task::Output;
-    }
-    Task::Status
-}
-
-// The acts after those.
-fn erase_task(act: u16) -> Task
-    ensures { λ r. ⌜ r ≡ erase-task act ⌝ }
-{
     if act % 4 == 1 {
         return Task::Send;
     }
@@ -109,6 +77,15 @@ fn erase_task(act: u16) -> Task
 fn write_task(act: u16) -> Task
     ensures { λ r. ⌜ r ≡ write-task act ⌝ }
 {
+    if act == 0 {
+        return Task::Address;
+    }
+    if act == 3 {
+        return Task::Output;
+    }
+    if act == 4 {
+        return Task::Status;
+    }
     if act < 523 {
         return put_task(act);
     }
@@ -121,6 +98,15 @@ fn write_task(act: u16) -> Task
 fn read_task(act: u16) -> Task
     ensures { λ r. ⌜ r ≡ read-task act ⌝ }
 {
+    if act == 0 {
+        return Task::Address;
+    }
+    if act == 3 {
+        return Task::Output;
+    }
+    if act == 4 {
+        return Task::Status;
+    }
     if act < 11 {
         return put_task(act);
     }
@@ -133,8 +119,9 @@ fn read_task(act: u16) -> Task
     Task::Compare
 }
 
-fn later_task(stage: Stage, act: u16) -> Task
-    ensures { λ r. ⌜ r ≡ later-task stage act ⌝ }
+// What the act of a stage does.
+pub fn task_of(stage: Stage, act: u16) -> Task
+    ensures { λ r. ⌜ r ≡ task-of stage act ⌝ }
 {
     match stage {
         Stage::Lead => lead_task(act),
@@ -143,16 +130,6 @@ fn later_task(stage: Stage, act: u16) -> Task
         Stage::Read => read_task(act),
         Stage::Close => Task::Reset,
     }
-}
-
-// What the act of a stage does.
-pub fn task_of(stage: Stage, act: u16) -> Task
-    ensures { λ r. ⌜ r ≡ task-of stage act ⌝ }
-{
-    if starts(stage, act) {
-        return start_task(act);
-    }
-    later_task(stage, act)
 }
 
 // How many acts a stage has: of a page in Erase, of a block in Write and Read.
