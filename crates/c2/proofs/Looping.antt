@@ -8,8 +8,10 @@ use native.Mathlib.Omega.{arith}
 use lib.ListN.{length, getD, set, take, drop, length-set, take-append-drop, drop-of-length-le, length-drop}
 use lib.Seq.{drop-cons, take-suc-set, drop-set-lt, drop-drop, length-take-le, take-all}
 use Rattle.session.specs.declared.Session.{Session}
-use Rattle.session.specs.Machine.{advanced, step-of}
-use Rattle.outcome.specs.Standing.{is-running}
+use Rattle.tasks.specs.declared.Task.{Task}
+use Rattle.session.specs.Machine.{advanced, step-of, advanced-by, step-by}
+use Rattle.outcome.specs.Standing.{is-running, task-next}
+use Rattle.outcome.proofs.Knowing.{Knows, advanced-known, step-known, known-next}
 use Rattle.c2.specs.Loop.{ran, wrote}
 
 -- a session that has ended takes nothing
@@ -54,6 +56,18 @@ module _ (image replies steps₀ : List ℕ) (s₀ : Session) where
           out = k .out ∙ rw (add-one, take-suc-set steps i v, append-assoc, drop-cons replies i 0, run);
           rest = rw (add-one, drop-set-lt (suc i) steps i v, ← add-one, ← drop-drop 1 i steps, k .rest, drop-drop 1 i steps₀);
         }
+
+    -- the same by what is known of the session's act
+    pub goes-known : (t : Task) → Knows t (s .point) → i < length replies → is-running (s .point) ≡ true
+        → (s₁ : Session) → s₁ ≡ advanced-by 20 256 t s (getD replies i 0) image → (t₁ : Task) → t₁ ≡ task-next (s₁ .point) t
+        → (v : ℕ) → v ≡ step-by t₁ s₁ image → Sofar image replies steps₀ s₀ (set steps i v) s₁ (i + 1) × Knows t₁ (s₁ .point)
+    goes-known t m h run s₁ es t₁ et v ev =
+        let e : s₁ ≡ advanced 20 256 s (getD replies i 0) image = es ∙ advanced-known 20 256 s t image (getD replies i 0) m in
+        let n : Knows (task-next (advanced 20 256 s (getD replies i 0) image .point) t) (advanced 20 256 s (getD replies i 0) image .point)
+        = known-next 20 256 s t image (getD replies i 0) m in
+        let k₁ : Knows t₁ (s₁ .point) = rw (et, e) n in
+        let f : v ≡ step-of (advanced 20 256 s (getD replies i 0) image) image = ev ∙ step-known 20 256 s₁ t₁ image k₁ ∙ ap (λ (z : Session). step-of z image) e in
+        (rw (f, e) (goes h run), k₁)
 
     -- the steps written so far are all
     ends : wrote image s (drop i replies) ≡ [] → s ≡ ran image s (drop i replies) → Due image replies steps₀ s₀ steps s i

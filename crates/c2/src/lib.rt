@@ -20,6 +20,8 @@ use numbers::OTHER_IMAGE;
 use numbers::RUNNING;
 use outcome::is_running;
 use outcome::outcome_of;
+use outcome::task_at;
+use outcome::task_next;
 use record::Unpacked;
 use session::Session;
 use settings::Settings;
@@ -59,6 +61,8 @@ fn run(start: Session, image: &[u8], replies: &[u8], steps: &mut [u8]) -> Ran
     ensures { λ r. ⌜ now (steps .exit) ≡ wrote (now (image .entry)) start (now (replies .entry)) ++ drop (r .taken) (now (steps .entry)) ⌝ }
 {
     let mut s = start;
+    let begun = start.point;
+    let mut task = task_at(begun);
     let mut i = 0;
     while i < replies.len() {
         let point = s.point;
@@ -68,8 +72,10 @@ fn run(start: Session, image: &[u8], replies: &[u8], steps: &mut [u8]) -> Ran
                 taken: i,
             };
         }
-        s = s.advance(replies[i], image);
-        steps[i] = s.step(image);
+        s = s.advance(task, replies[i], image);
+        let next = s.point;
+        task = task_next(next, task);
+        steps[i] = s.step(task, image);
         i += 1;
     }
     Ran {

@@ -1,6 +1,10 @@
 -- How a point stands: it runs, with 0, or it has ended with its number and the image offset for 14.
-use mathlib.Core.Bool.{Bool, true, false}
+use mathlib.Core.Bool.{Bool, true, false, cond}
 use Prim.Native.Nat.{ℕ}
+use lib.Dec.{eqb}
+use Rattle.tasks.specs.declared.Task.{Task}
+use Rattle.tasks.specs.declared.Task.the-variants.{Reset}
+use Rattle.tasks.specs.Tasks.{task-of}
 use Rattle.session.specs.declared.Point.{Point}
 use Rattle.session.specs.declared.Point.the-variants.{Running, Ended}
 use Rattle.outcome.specs.declared.Outcome.{Outcome}
@@ -18,3 +22,13 @@ number-of p = outcome-of p .number
 
 abbrev pub offset-of : Point → ℕ
 offset-of p = outcome-of p .offset
+
+-- What the act at a point does; and the same where it is known for the point before: it is another act's only where an act begins, or a poll
+-- anew, at strobe 0.
+abbrev pub task-at : Point → Task
+task-at (Running g i j k q c v) = task-of g k
+task-at (Ended n o) = Reset
+
+abbrev pub task-next : Point → Task → Task
+task-next (Running g i j k q c v) t = cond (eqb q 0) (task-of g k) t
+task-next (Ended n o) t = t

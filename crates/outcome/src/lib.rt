@@ -1,8 +1,10 @@
-// How a session stands: running, or ended with its outcome.
+// How a session stands: running, and what its act does, or ended with its outcome.
 ghost use mathlib.Core.Path.{_≡_};
-ghost use Rattle.outcome.specs.Standing.{is-running, outcome-of};
+ghost use Rattle.outcome.specs.Standing.{is-running, outcome-of, task-at, task-next};
 use numbers::RUNNING;
 use session::Point;
+use tasks::Task;
+use tasks::task_of;
 
 // The session's number, and the image offset for 14.
 pub struct Outcome {
@@ -50,5 +52,52 @@ pub fn outcome_of(point: Point) -> Outcome
             number: number,
             offset: offset,
         },
+    }
+}
+
+// What the act at a point does. An ended session has none, and what is said of it here is not used.
+pub fn task_at(point: Point) -> Task
+    ensures { λ r. ⌜ r ≡ task-at point ⌝ }
+{
+    match point {
+        Point::Running {
+            stage,
+            page: _,
+            block: _,
+            act,
+            strobe: _,
+            count: _,
+            bits: _,
+        } => task_of(stage, act),
+        Point::Ended {
+            number: _,
+            offset: _,
+        } => Task::Reset,
+    }
+}
+
+// The same, where it is known for the point before: so it is told anew only where an act begins, or a poll anew.
+pub fn task_next(point: Point, task: Task) -> Task
+    ensures { λ r. ⌜ r ≡ task-next point task ⌝ }
+{
+    match point {
+        Point::Running {
+            stage,
+            page: _,
+            block: _,
+            act,
+            strobe,
+            count: _,
+            bits: _,
+        } => {
+            if strobe == 0 {
+                return task_of(stage, act);
+            }
+            task
+        }
+        Point::Ended {
+            number: _,
+            offset: _,
+        } => task,
     }
 }

@@ -149,10 +149,12 @@ abbrev pub task-taken : (wait-limit poll-limit : ℕ) → Task → Session → A
 task-taken w r k s a p b image =
     cond (eqb (alone k) 0) (settled r (followed w (frame (frame-of k) 0) p b) k s a (p .count) image) (onward s a)
 
--- a reply that is neither 0 nor 1 comes first
+-- a reply in an act that does this; one that is neither 0 nor 1 comes first
+abbrev pub replied-by : (wait-limit poll-limit : ℕ) → Task → Session → At → Place → (reply : ℕ) → List ℕ → Point
+replied-by w r k s a p reply image = cond (ltb 1 reply) (ended bad-reply) (task-taken w r k s a p (eqb reply 1) image)
+
 unfoldable pub replied : (wait-limit poll-limit : ℕ) → Session → At → Place → (reply : ℕ) → List ℕ → Point
-replied w r s a p reply image =
-    cond (ltb 1 reply) (ended bad-reply) (task-taken w r (task-of (a .stage) (a .act)) s a p (eqb reply 1) image)
+replied w r s a p reply image = replied-by w r (task-of (a .stage) (a .act)) s a p reply image
 
 -- an ended session takes no reply
 abbrev pub point-advanced : (wait-limit poll-limit : ℕ) → Point → Session → (reply : ℕ) → List ℕ → Point
@@ -163,6 +165,15 @@ point-advanced w r (Ended n o) s reply image = Ended n o
 unfoldable pub advanced : (wait-limit poll-limit : ℕ) → Session → (reply : ℕ) → List ℕ → Session
 advanced w r s reply image =
     record { settings = s .settings; first = s .first; pages = s .pages; point = point-advanced w r (s .point) s reply image }
+
+-- For the code: the same in an act of which it is known what it does. `Knowing` of the crate outcome has the law that it is the same.
+abbrev pub point-advanced-by : (wait-limit poll-limit : ℕ) → Task → Point → Session → (reply : ℕ) → List ℕ → Point
+point-advanced-by w r t (Running g i j k q c v) s reply image = replied-by w r t s (at g i j k) (place q c v) reply image
+point-advanced-by w r t (Ended n o) s reply image = Ended n o
+
+unfoldable pub advanced-by : (wait-limit poll-limit : ℕ) → Task → Session → (reply : ℕ) → List ℕ → Session
+advanced-by w r t s reply image =
+    record { settings = s .settings; first = s .first; pages = s .pages; point = point-advanced-by w r t (s .point) s reply image }
 
 -- the step that a session waits at
 abbrev pub task-byte : Task → Session → At → List ℕ → ℕ
@@ -177,3 +188,10 @@ point-step (Ended n o) s image = 6
 
 unfoldable pub step-of : Session → List ℕ → ℕ
 step-of s image = point-step (s .point) s image
+
+abbrev pub point-step-by : Task → Point → Session → List ℕ → ℕ
+point-step-by t (Running g i j k q c v) s image = task-step t s (at g i j k) q image
+point-step-by t (Ended n o) s image = 6
+
+unfoldable pub step-by : Task → Session → List ℕ → ℕ
+step-by t s image = point-step-by t (s .point) s image

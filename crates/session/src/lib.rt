@@ -1,13 +1,11 @@
 // A programming session as a value: settings, pages and the point reached in the session's order. Each reply turns a session into its
 // successor.
 ghost use mathlib.Core.Path.{_≡_};
-ghost use mathlib.Core.Bool.{Bool, cond};
-ghost use Prim.Native.Nat.{ℕ, _+_, _*_, _/_, _%_, _<_, _≤_};
-ghost use lib.Dec.{eqb};
+ghost use mathlib.Core.Bool.{cond};
+ghost use Prim.Native.Nat.{_+_, _*_, _/_, _%_, _<_};
 ghost use lib.ListN.{length};
-ghost use Rattle.tasks.specs.Tasks.{task-of, acts-in};
 ghost use Rattle.session.specs.Sent.{block-offset, high-byte, lead-byte, erase-byte, block-byte, image-byte, sent-offset, compared-offset, write-byte, stage-byte, byte-of};
-ghost use Rattle.session.specs.Machine.{at, running, ended, begins, next-write, next-page, next-read, next-stage, onward, again, differs, compared, compares, judged, sends-image, drives-image, wants, stays, settled, alone, frame-of, sends, task-taken, replied, point-advanced, advanced, task-byte, task-step, point-step, step-of};
+ghost use Rattle.session.specs.Machine.{at, running, ended, begins, next-write, next-page, next-read, next-stage, onward, again, differs, compared, compares, judged, sends-image, drives-image, wants, stays, settled, alone, frame-of, sends, task-taken, replied-by, point-advanced-by, advanced-by, task-byte, task-step, point-step-by, step-by};
 use numbers::BAD_REPLY;
 use numbers::BAD_STATUS;
 use numbers::COMPARE_DIFFERS;
@@ -20,7 +18,6 @@ use settings::Settings;
 use tasks::Stage;
 use tasks::Task;
 use tasks::acts_in;
-use tasks::task_of;
 use wire::Frame;
 use wire::Moved;
 use wire::Place;
@@ -514,18 +511,17 @@ impl Session {
         self.settled(moved, task, at, place.count, image)
     }
 
-    fn taken(self, at: At, place: Place, reply: u8, image: &[u8]) -> Point
-        ensures { λ r. ⌜ r ≡ replied 20 256 self at place reply (now (image .entry)) ⌝ }
+    fn taken(self, task: Task, at: At, place: Place, reply: u8, image: &[u8]) -> Point
+        ensures { λ r. ⌜ r ≡ replied-by 20 256 task self at place reply (now (image .entry)) ⌝ }
     {
         if 1 < reply {
             return ended(BAD_REPLY);
         }
-        let stage = at.stage;
-        self.task_taken(task_of(stage, at.act), at, place, reply == 1, image)
+        self.task_taken(task, at, place, reply == 1, image)
     }
 
-    fn point_advanced(self, point: Point, reply: u8, image: &[u8]) -> Point
-        ensures { λ r. ⌜ r ≡ point-advanced 20 256 point self reply (now (image .entry)) ⌝ }
+    fn point_advanced(self, task: Task, point: Point, reply: u8, image: &[u8]) -> Point
+        ensures { λ r. ⌜ r ≡ point-advanced-by 20 256 task point self reply (now (image .entry)) ⌝ }
     {
         match point {
             Point::Running {
@@ -537,6 +533,7 @@ impl Session {
                 count,
                 bits,
             } => self.taken(
+                task,
                 At {
                     stage: stage,
                     page: page,
@@ -558,9 +555,9 @@ impl Session {
         }
     }
 
-    // The session after a reply, lent its image. A session that has ended takes none.
-    pub fn advance(self, reply: u8, image: &[u8]) -> Session
-        ensures { λ r. ⌜ r ≡ advanced 20 256 self reply (now (image .entry)) ⌝ }
+    // The session after a reply in an act that does this, lent its image. A session that has ended takes none.
+    pub fn advance(self, task: Task, reply: u8, image: &[u8]) -> Session
+        ensures { λ r. ⌜ r ≡ advanced-by 20 256 task self reply (now (image .entry)) ⌝ }
     {
         let settings = self.settings;
         let point = self.point;
@@ -568,7 +565,7 @@ impl Session {
             settings: settings,
             first: self.first,
             pages: self.pages,
-            point: self.point_advanced(point, reply, image),
+            point: self.point_advanced(task, point, reply, image),
         }
     }
 
@@ -593,8 +590,8 @@ impl Session {
         wire::step(frame_of(task), self.task_byte(task, at, image), strobe)
     }
 
-    fn point_step(self, point: Point, image: &[u8]) -> u8
-        ensures { λ r. ⌜ r ≡ point-step point self (now (image .entry)) ⌝ }
+    fn point_step(self, task: Task, point: Point, image: &[u8]) -> u8
+        ensures { λ r. ⌜ r ≡ point-step-by task point self (now (image .entry)) ⌝ }
     {
         match point {
             Point::Running {
@@ -606,7 +603,7 @@ impl Session {
                 count: _,
                 bits: _,
             } => self.task_step(
-                task_of(stage, act),
+                task,
                 At {
                     stage: stage,
                     page: page,
@@ -623,11 +620,11 @@ impl Session {
         }
     }
 
-    // The step that the session waits at, lent its image: 6 once it has ended.
-    pub fn step(self, image: &[u8]) -> u8
-        ensures { λ r. ⌜ r ≡ step-of self (now (image .entry)) ⌝ }
+    // The step that the session waits at in an act that does this, lent its image: 6 once it has ended.
+    pub fn step(self, task: Task, image: &[u8]) -> u8
+        ensures { λ r. ⌜ r ≡ step-by task self (now (image .entry)) ⌝ }
     {
         let point = self.point;
-        self.point_step(point, image)
+        self.point_step(task, point, image)
     }
 }

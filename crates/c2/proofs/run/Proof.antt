@@ -1,21 +1,25 @@
--- `c2::run` meets its contract: the loop keeps `Sofar`, by the laws of Looping.
+-- `c2::run` meets its contract: the loop keeps `Sofar`, by the laws of Looping, and what the session's act does, by those of Knowing.
 use mathlib.Core.Path.{sym, _∙_}
 use Prim.Native.Nat.{_-_}
 use borrow.Author.Needs.{needs}
 use borrow.Author.Tests.{not-true, not-false}
 use lib.ListN.{length}
-use Rattle.c2.proofs.Looping.{Sofar, starts, goes, done, stops}
+use Rattle.outcome.proofs.Knowing.{Knows, known-at}
+use Rattle.c2.proofs.Looping.{Sofar, starts, goes-known, done, stops}
 use Rattle.c2.proofs.run.Statement.{statement}
 use Rattle.c2.proofs.run.Tie as tie
 
 abbrev Inv-loop : tie.InvT-loop
-Inv-loop image replies steps₀ s₀ i₀ steps s i = Sofar image replies steps₀ s₀ steps s i
+Inv-loop image replies steps₀ s₀ task₀ i₀ steps s task i = Sofar image replies steps₀ s₀ steps s i × Knows task (s .point)
 
 abbrev μ-loop : tie.MeasureT-loop
-μ-loop image replies steps₀ s₀ i₀ steps s i = length replies - i
+μ-loop image replies steps₀ s₀ task₀ i₀ steps s task i = length replies - i
+
+task-at-requires : tie.Need-task-at-requires Inv-loop μ-loop
+task-at-requires c κs = search needs
 
 loop-holds : tie.Need-loop-holds Inv-loop μ-loop
-loop-holds c = starts _ _ _ _ (c .before .before .before .pre)
+loop-holds c = (starts _ _ _ _ (c .before .before .before .before .pre), rw (c .task-at .ensures) (known-at (c .before .before .before .before .args .start .point)))
 
 is-running-requires : tie.Need-is-running-requires Inv-loop μ-loop
 is-running-requires c κs = search needs
@@ -25,7 +29,7 @@ same-length c = search needs
 
 returns : tie.Need-returns Inv-loop μ-loop
 returns c =
-    let k = c .before .before .before .loop .inv in
+    let k = c .before .before .before .loop .inv .0 in
     let d = stops _ _ _ _ _ _ _ k (sym (c .before .is-running .ensures) ∙ not-true _ (c .if1 .taken)) in
     (d .session, (d .taken, d .out))
 
@@ -34,6 +38,9 @@ shared-slice-read-advance c = search needs
 
 advance-requires : tie.Need-advance-requires Inv-loop μ-loop
 advance-requires c κs = search needs
+
+task-next-requires : tie.Need-task-next-requires Inv-loop μ-loop
+task-next-requires c κs = search needs
 
 step-requires : tie.Need-step-requires Inv-loop μ-loop
 step-requires c κs = search needs
@@ -49,17 +56,16 @@ loop-less c = search needs
 
 loop-again : tie.Need-loop-again Inv-loop μ-loop
 loop-again c =
-    let k = c .before .before .before .before .before .before .loop .inv in
-    let run = sym (c .before .before .before .before .is-running .ensures) ∙ not-false _ (c .before .before .before .if1 .left) in
-    rw (c .step .ensures, c .before .advance .ensures)
-    (goes _ _ _ _ _ _ _ k (c .before .before .before .before .before .loop-test .taken) run)
+    let l = c .before .before .before .before .before .before .before .loop .inv in
+    let run = sym (c .before .before .before .before .before .is-running .ensures) ∙ not-false _ (c .before .before .before .before .if1 .left) in
+    goes-known _ _ _ _ _ _ _ (l .0) _ (l .1) (c .before .before .before .before .before .before .loop-test .taken) run _ (c .before .before .advance .ensures) _ (c .before .task-next .ensures) _ (c .step .ensures)
 
 same-length-2 : tie.Need-same-length-2 Inv-loop μ-loop
 same-length-2 c = search needs
 
 returns-2 : tie.Need-returns-2 Inv-loop μ-loop
 returns-2 c =
-    let d = done _ _ _ _ _ _ _ (c .before .loop .inv) (c .loop-test .left) in
+    let d = done _ _ _ _ _ _ _ (c .before .loop .inv .0) (c .loop-test .left) in
     (d .session, (d .taken, d .out))
 
 pub run-spec : {M : Type 1} → statement M
@@ -68,12 +74,14 @@ run-spec =
     (tie.spec
     Inv-loop
     μ-loop
+    task-at-requires
     loop-holds
     is-running-requires
     same-length
     returns
     shared-slice-read-advance
     advance-requires
+    task-next-requires
     step-requires
     slice-write-steps
     add-i
