@@ -42,6 +42,9 @@ step-requires c κs = search needs
 step-requires-2 : tie.Need-step-requires-2 Inv-loop μ-loop
 step-requires-2 c κs = search needs
 
+same-target-requires : tie.Need-same-target-requires Inv-loop μ-loop
+same-target-requires c κs = search needs
+
 low-requires : tie.Need-low-requires Inv-loop μ-loop
 low-requires c κs = search needs
 
@@ -52,20 +55,20 @@ task-next-requires : tie.Need-task-next-requires Inv-loop μ-loop
 task-next-requires c κs = search needs
 
 add-n : tie.Need-add-n Inv-loop μ-loop
-add-n c = omega (arith, c .before .before .before .before .before .before .before .before .before .before .before .loop-test .taken, c .before .before .before .before .before .before .before .before .before .before .before .before .before .before .before .before .before .before .fits .budget .fits)
+add-n c = omega (arith, c .before .before .before .before .before .before .before .before .before .before .before .before .loop-test .taken, c .before .before .before .before .before .before .before .before .before .before .before .before .before .before .before .before .before .before .before .fits .budget .fits)
 
 loop-less : tie.Need-loop-less Inv-loop μ-loop
 loop-less c = search needs
 
 loop-again : tie.Need-loop-again Inv-loop μ-loop
 loop-again c =
-    let l = c .before .before .before .before .before .before .before .before .before .before .before .before .loop .inv in
-    let run = sym (c .before .before .before .before .before .before .before .before .before .before .is-running .ensures) ∙ not-false _ (c .before .before .before .before .before .before .before .before .before .if1 .left) in
-    let step = c .before .before .before .before .before .before .step2 .ensures in
-    let long = rw (step .1) at (c .before .before .before .before .before .flash .given) in
+    let l = c .before .before .before .before .before .before .before .before .before .before .before .before .before .loop .inv in
+    let run = sym (c .before .before .before .before .before .before .before .before .before .before .before .is-running .ensures) ∙ not-false _ (c .before .before .before .before .before .before .before .before .before .before .if1 .left) in
+    let step = c .before .before .before .before .before .before .before .step2 .ensures in
+    let long = rw (step .1) at (c .before .before .before .before .before .before .flash .given) in
     let heard = rw (step .0) at (c .before .before .low .ensures) in
-    rw (step .1, step .0)
-    (goes-known _ _ _ _ _ _ _ _ _ _ (l .0) _ (l .1) (c .before .before .before .before .before .before .before .before .before .before .before .loop-test .taken) run _ (c .before .before .before .before .before .before .before .step .ensures) long _ heard _ (c .before .advance .ensures) _ (c .task-next .ensures))
+    rw (c .before .before .before .same-target .ensures, step .1, step .0)
+    (goes-known _ _ _ _ _ _ _ _ _ _ (l .0) _ (l .1) (c .before .before .before .before .before .before .before .before .before .before .before .before .loop-test .taken) run _ (c .before .before .before .before .before .before .before .before .step .ensures) long _ heard _ (c .before .advance .ensures) _ (c .task-next .ensures))
 
 same-length-2 : tie.Need-same-length-2 Inv-loop μ-loop
 same-length-2 c = search needs
@@ -89,6 +92,7 @@ play-spec =
     returns
     step-requires
     step-requires-2
+    same-target-requires
     low-requires
     advance-requires
     task-next-requires
