@@ -55,7 +55,7 @@ long-bits n k =
     (λ g. by-test (eqb n 24) (λ h. let z = eqb-true n 24 h in omega arith)
     (λ h. let z = eqb-true n 32 (rw (e, g, h) at k) in omega arith)))
 
-pub waits-effect : (n : ℕ) (e : Effect) → after-its-wait n e ≡ true → (n < 256) × (known-effect e ≡ true)
+waits-effect : (n : ℕ) (e : Effect) → after-its-wait n e ≡ true → (n < 256) × (known-effect e ≡ true)
 unfolding after-its-wait known-effect
 waits-effect n Nothing k = (long-bits n k, refl)
 waits-effect n (SetAddress a) k = not-so k
@@ -72,12 +72,12 @@ sent-byte n v k =
     let p = pow-le-pow-right {n = 2} (omega arith) {i = n} {j = 8} a in
     (omega arith, omega arith)
 
-pub record Sent (n v : ℕ) (e : Effect) : Type 0 where
+record Sent (n v : ℕ) (e : Effect) : Type 0 where
   pub left : n < 256
   pub value : v < 256
   pub effect : known-effect e ≡ true
 
-pub sent-effect : (n v : ℕ) (e : Effect) → is-sent n v e ≡ true → Sent n v e
+sent-effect : (n v : ℕ) (e : Effect) → is-sent n v e ≡ true → Sent n v e
 unfolding is-sent known-effect
 sent-effect n v Nothing k =
     let h = both (leb n 32) (eqb v 0) k in
@@ -89,7 +89,7 @@ sent-effect n v (Write b) k = not-so k
 sent-effect n v CountDown k = let h = sent-byte n v k in record { left = h .0; value = h .1; effect = refl }
 sent-effect n v Read k = let h = sent-byte n v k in record { left = h .0; value = h .1; effect = refl }
 
-pub heard-back : (w n v : ℕ) → w ≤ 8 → hearing w n v ≡ true → (n % 256 ≡ n) × (v % 256 ≡ v)
+heard-back : (w n v : ℕ) → w ≤ 8 → hearing w n v ≡ true → (n % 256 ≡ n) × (v % 256 ≡ v)
 heard-back w n v h k = let g = hearing-says w n v h k in (mod-eq-of-lt (omega arith), mod-eq-of-lt (g .1))
 
 -- the point, whatever stands beside it
@@ -118,12 +118,12 @@ module _ (place : ℕ) (mark : Bool) (d : Device) where
       rw (mod-eq-of-lt (h .left), mod-eq-of-lt (h .value), effect-back e (h .effect))
   point-back (Stop e) k = rw (effect-back e k)
 
-pub count-says : (n : ℕ) → is-count n ≡ true → n ≤ 256
+count-says : (n : ℕ) → is-count n ≡ true → n ≤ 256
 unfolding is-count
 count-says n k = leb-true n 256 (both (leb 1 n) (leb n 256) k .1)
 
 -- a block in a flash of at most 65,536 bytes
-pub block-back : (end a n : ℕ) → end ≤ 65536 → known-block end a n ≡ true → (a % 65536 ≡ a) × (n % 65536 ≡ n)
+block-back : (end a n : ℕ) → end ≤ 65536 → known-block end a n ≡ true → (a % 65536 ≡ a) × (n % 65536 ≡ n)
 unfolding known-block
 block-back end a n h k =
     let g = block-says end a n k in
@@ -159,11 +159,11 @@ module _ (p : Point) (place : ℕ) (mark : Bool) (address : ℕ) (on : Bool) (ke
   output-back c (Block a n) k = let h = block-back end a n small k in rw (h .0, h .1)
 
 -- the sizes of accepted settings
-pub record Sized (s : Settings) : Type 0 where
+record Sized (s : Settings) : Type 0 where
   pub bytes : s .size * s .count ≤ 65536
   pub pages : s .count ≤ 128
 
-pub sized : (s : Settings) → settings-refusal s ≡ 0 → Sized s
+sized : (s : Settings) → settings-refusal s ≡ 0 → Sized s
 unfolding settings-refusal is-page-size is-page-count
 sized s h =
     let a = passes (is-fpdat (s .fpdat)) _ bad-fpdat (omega arith) h in

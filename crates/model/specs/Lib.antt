@@ -1,4 +1,4 @@
 pub mod State
 pub mod Model
-pub mod Flat
+pub mod Form
 pub mod Claims

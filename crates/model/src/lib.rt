@@ -1,15 +1,11 @@
 // The modelled target for C: its state is a struct of plain numbers, handed in and back by value. Nothing else is kept between steps.
 ghost use mathlib.Core.Path.{_≡_};
-ghost use mathlib.Core.Bool.{true, cond};
-ghost use Prim.Native.Nat.{_*_, _%_, _≤_};
-ghost use lib.Dec.{eqb};
+ghost use Prim.Native.Nat.{_%_};
 ghost use Rattle.wire.specs.Bits.{bit};
-ghost use Rattle.target.specs.Known.{hearing, after-its-wait, is-count, known-block};
 ghost use Rattle.target.specs.Delays.{setup};
-ghost use Rattle.target.specs.Strobes.{line, with-bit};
-ghost use Rattle.target.specs.Target.{fresh, step-of, answer, flash-after};
+ghost use Rattle.target.specs.Target.{fresh, answer, flash-after};
 ghost use Rattle.model.specs.State.{effect-code, effect-byte, fields, point-fields, command-fields, output-fields, command-numbers, output-numbers, state-of, effect-of, point-of, command-of, output-of, later-point, target-read};
-ghost use Rattle.model.specs.Flat.{none, stop-fits, wait-fits, sent-fits, heard-fits, later-fits, point-fits, early-fits, command-fits, output-fits, device-fits, is-strobe, mark, hears-more, heard, sent, begins-frame, started, in-field, shown-bits, beginning, after-code, after-field, ended};
+ghost use Rattle.model.specs.Form.{none, effect-in-form, later-in-form, point-in-form, early-in-form, command-in-form, output-in-form, in-form};
 ghost use Rattle.model.specs.Model.{gives, held-answer, model-answer, model-flash};
 use numbers::NO_POINT;
 use settings::Settings;
@@ -492,37 +488,8 @@ fn none(a: u8, b: u8, c: u8, d: u8) -> bool
     wide(a) + wide(b) + wide(c) + wide(d) == 0
 }
 
-// Fewer bits than the width, and none but those in the value.
-fn bits_fit(width: u8, heard: u8, value: u8) -> bool
-    requires { ⌜ width ≤ 9 ⌝ }
-    ensures { λ r. ⌜ r ≡ hearing width heard value ⌝ }
-{
-    if heard < width {
-        return wide(value) < (1usize << wide(heard));
-    }
-    false
-}
-
-fn count_fits(count: u16) -> bool
-    ensures { λ r. ⌜ r ≡ is-count count ⌝ }
-{
-    if 1 <= count {
-        return count <= 256;
-    }
-    false
-}
-
-fn block_fits(end: usize, start: u16, count: u16) -> bool
-    ensures { λ r. ⌜ r ≡ known-block end start count ⌝ }
-{
-    if count_fits(count) {
-        return wide16(start) + wide16(count) <= end;
-    }
-    false
-}
-
-fn stop_fits(effect: u8, byte: u8) -> bool
-    ensures { λ r. ⌜ r ≡ stop-fits effect byte ⌝ }
+fn effect_in_form(effect: u8, byte: u8) -> bool
+    ensures { λ r. ⌜ r ≡ effect-in-form effect byte ⌝ }
 {
     if effect == 1 {
         return true;
@@ -536,138 +503,65 @@ fn stop_fits(effect: u8, byte: u8) -> bool
     false
 }
 
-fn long_bits(left: u8) -> bool
-    ensures { λ r. ⌜ r ≡ after-its-wait left Effect.Nothing ⌝ }
+fn later_in_form(point: u8, value: u8, left: u8, zeros: u8, effect: u8, byte: u8) -> bool
+    ensures { λ r. ⌜ r ≡ later-in-form point value left zeros effect byte ⌝ }
 {
-    if left == 0 {
-        return true;
-    }
-    if left == 16 {
-        return true;
-    }
-    if left == 24 {
-        return true;
-    }
-    left == 32
-}
-
-fn wait_fits(left: u8, effect: u8, byte: u8) -> bool
-    ensures { λ r. ⌜ r ≡ wait-fits left effect byte ⌝ }
-{
-    if effect == 2 {
-        return left == 0;
-    }
-    if byte == 0 {
-        if effect == 4 {
-            return left == 8;
-        }
-        if effect == 0 {
-            return long_bits(left);
+    if point == 9 {
+        if zeros == 0 {
+            return effect_in_form(effect, byte);
         }
         return false;
     }
-    false
-}
-
-fn sent_fits(value: u8, left: u8, effect: u8) -> bool
-    ensures { λ r. ⌜ r ≡ sent-fits value left effect ⌝ }
-{
-    if left == 0 {
-        return false;
-    }
-    if effect == 0 {
-        if left <= 32 {
-            return value == 0;
-        }
-        return false;
-    }
-    if effect < 3 {
-        return false;
-    }
-    if effect < 5 {
-        return bits_fit(9, left, value);
-    }
-    false
-}
-
-fn heard_fits(point: u8, heard: u8, value: u8) -> bool
-    ensures { λ r. ⌜ r ≡ heard-fits point heard value ⌝ }
-{
-    if point == 0 {
-        return bits_fit(1, heard, value);
-    }
-    if point < 4 {
-        return bits_fit(2, heard, value);
-    }
-    bits_fit(8, heard, value)
-}
-
-fn later_fits(point: u8, left: u8, zeros: u8, effect: u8, byte: u8) -> bool
-    ensures { λ r. ⌜ r ≡ later-fits point left zeros effect byte ⌝ }
-{
     if point == 10 {
-        if none(left, zeros, 0, 0) {
-            return stop_fits(effect, byte);
+        if none(value, left, zeros, 0) {
+            return effect_in_form(effect, byte);
         }
         return false;
     }
     if point == 7 {
-        if zeros == 0 {
-            return wait_fits(left, effect, byte);
+        if none(value, zeros, 0, 0) {
+            return effect_in_form(effect, byte);
         }
         return false;
     }
     if point == 8 {
-        if zeros < 19 {
-            return wait_fits(left, effect, byte);
+        if value == 0 {
+            return effect_in_form(effect, byte);
         }
         return false;
     }
     if point == 6 {
-        if none(zeros, effect, byte, 0) {
-            if left == 0 {
-                return false;
-            }
-            return left <= 32;
-        }
-        return false;
+        return none(value, zeros, effect, byte);
     }
     false
 }
 
-// The numbers of a point that some frame has.
-fn point_fits(point: u8, heard: u8, value: u8, left: u8, zeros: u8, effect: u8, byte: u8) -> bool
-    ensures { λ r. ⌜ r ≡ point-fits point heard value left zeros effect byte ⌝ }
+fn point_in_form(point: u8, heard: u8, value: u8, left: u8, zeros: u8, effect: u8, byte: u8) -> bool
+    ensures { λ r. ⌜ r ≡ point-in-form point heard value left zeros effect byte ⌝ }
 {
-    if point == 9 {
-        if none(heard, zeros, byte, 0) {
-            return sent_fits(value, left, effect);
-        }
-        return false;
-    }
     if point < 6 {
         if none(left, zeros, effect, byte) {
-            return heard_fits(point, heard, value);
+            if point == 0 {
+                return none(heard, value, 0, 0);
+            }
+            return true;
         }
         return false;
     }
-    if none(heard, value, 0, 0) {
-        return later_fits(point, left, zeros, effect, byte);
+    if heard == 0 {
+        return later_in_form(point, value, left, zeros, effect, byte);
     }
     false
 }
 
-fn early_fits(command: u8, write: u8, page: u8, high: u8, pages: u32) -> bool
-    ensures { λ r. ⌜ r ≡ early-fits command write page high pages ⌝ }
+fn early_in_form(command: u8, write: u8, page: u8, high: u8) -> bool
+    ensures { λ r. ⌜ r ≡ early-in-form command write page high ⌝ }
 {
     if command < 2 {
         return none(write, page, high, 0);
     }
     if command == 2 {
-        if none(write, high, 0, 0) {
-            return (page as u32) < pages;
-        }
-        return false;
+        return none(write, high, 0, 0);
     }
     if command == 3 {
         if none(page, high, 0, 0) {
@@ -684,31 +578,15 @@ fn early_fits(command: u8, write: u8, page: u8, high: u8, pages: u32) -> bool
     false
 }
 
-// The numbers of a command that some target has.
-fn command_fits(
-    command: u8,
-    write: u8,
-    page: u8,
-    high: u8,
-    start: u16,
-    rest: u16,
-    pages: u32,
-    end: usize,
-) -> bool
-    ensures { λ r. ⌜ r ≡ command-fits command write page high start rest pages end ⌝ }
+fn command_in_form(command: u8, write: u8, page: u8, high: u8, start: u16, rest: u16) -> bool
+    ensures { λ r. ⌜ r ≡ command-in-form command write page high start rest ⌝ }
 {
     if command == 6 {
-        if none(write, page, high, 0) {
-            return block_fits(end, start, rest);
-        }
-        return false;
+        return none(write, page, high, 0);
     }
     if command == 7 {
-        if none(write, page, high, 0) {
-            if start == 0 {
-                return count_fits(rest);
-            }
-            return false;
+        if start == 0 {
+            return none(write, page, high, 0);
         }
         return false;
     }
@@ -720,16 +598,15 @@ fn command_fits(
             return false;
         }
         if start == 0 {
-            return early_fits(command, write, page, high, pages);
+            return early_in_form(command, write, page, high);
         }
         return false;
     }
     false
 }
 
-// The numbers of an output that some target has.
-fn output_fits(output: u8, passed: u8, next: u16, count: u16, end: usize) -> bool
-    ensures { λ r. ⌜ r ≡ output-fits output passed next count end ⌝ }
+fn output_in_form(output: u8, passed: u8, next: u16, count: u16) -> bool
+    ensures { λ r. ⌜ r ≡ output-in-form output passed next count ⌝ }
 {
     if output < 2 {
         if wide16(next) + wide16(count) == 0 {
@@ -738,41 +615,28 @@ fn output_fits(output: u8, passed: u8, next: u16, count: u16, end: usize) -> boo
         return false;
     }
     if output < 4 {
-        if passed == 0 {
-            return block_fits(end, next, count);
-        }
-        return false;
+        return passed == 0;
     }
     false
 }
 
-fn flash_size(size: u32, count: u32) -> usize
-    ensures { λ r. ⌜ r ≡ size * count ⌝ }
+// Tags exist, truth values are 0 or 1, and numbers that are not in use are 0: so this is the state of the target that it says.
+fn in_form(s: State) -> bool
+    ensures { λ r. ⌜ r ≡ in-form s ⌝ }
 {
-    (size as usize) * (count as usize)
-}
-
-// All but the point are numbers that some target has, with a flash of this length.
-fn device_fits(t: Settings, s: State, end: usize) -> bool
-    ensures { λ r. ⌜ r ≡ device-fits t s end ⌝ }
-{
-    if end == flash_size(t.size, t.count) {
-        if s.collision < 2 {
-            if s.on < 2 {
-                if s.keys < 4 {
-                    if output_fits(s.output, s.passed, s.next, s.count, end) {
-                        return command_fits(
-                            s.command,
-                            s.write,
-                            s.page,
-                            s.high,
-                            s.start,
-                            s.rest,
-                            t.count,
-                            end,
-                        );
-                    }
-                    return false;
+    if s.collision < 2 {
+        if s.on < 2 {
+            if output_in_form(s.output, s.passed, s.next, s.count) {
+                if command_in_form(s.command, s.write, s.page, s.high, s.start, s.rest) {
+                    return point_in_form(
+                        s.point,
+                        s.heard,
+                        s.value,
+                        s.left,
+                        s.zeros,
+                        s.effect,
+                        s.byte,
+                    );
                 }
                 return false;
             }
@@ -794,7 +658,7 @@ fn refused(number: u32, state: State) -> ModelReplied
     }
 }
 
-// One step of the target that this state says. The caller has seen that it exists.
+// One step of the target that this state says. The caller has seen that it is in form.
 fn held(t: Settings, state: State, flash: &mut [u8], delays: &[u8], x: u8) -> ModelReplied
     ensures { λ r. ⌜ r ≡ held-answer (answer (setup t (now (delays .entry))) (target-read state) (now (flash .entry)) x) state ⌝ }
     ensures { λ _. ⌜ now (flash .exit) ≡ flash-after (setup t (now (delays .entry))) (target-read state) (now (flash .entry)) x ⌝ }
@@ -809,234 +673,6 @@ fn held(t: Settings, state: State, flash: &mut [u8], delays: &[u8], x: u8) -> Mo
         };
     }
     refused(replied.number, state)
-}
-
-fn is_strobe(x: u8) -> bool
-    ensures { λ r. ⌜ r ≡ is-strobe x ⌝ }
-{
-    if x == 1 {
-        return false;
-    }
-    x < 4
-}
-
-fn line(x: u8) -> u32
-    ensures { λ r. ⌜ r ≡ bit (line (step-of x)) ⌝ }
-{
-    if x == 2 {
-        return 0;
-    }
-    1
-}
-
-fn mark(collision: u8, x: u8) -> u8
-    ensures { λ r. ⌜ r ≡ mark collision x ⌝ }
-{
-    if x == 0 {
-        return collision;
-    }
-    1
-}
-
-// The value of the bits heard, with one more.
-fn with_bit(heard: u8, value: u8, x: u8) -> u8
-    requires { ⌜ hearing 8 heard value ≡ true ⌝ }
-    ensures { λ r. ⌜ r ≡ with-bit heard value (step-of x) ⌝ }
-{
-    if x == 2 {
-        return value;
-    }
-    value + (1u8 << heard)
-}
-
-// The field that is heard has more bits after this one.
-fn hears_more(point: u8, heard: u8) -> bool
-    ensures { λ r. ⌜ r ≡ hears-more point heard ⌝ }
-{
-    if point == 0 {
-        return false;
-    }
-    if point < 4 {
-        return heard == 0;
-    }
-    if point < 6 {
-        return heard < 7;
-    }
-    false
-}
-
-// A bit that is heard in the middle of its field, on the numbers alone.
-fn hears(s: State, x: u8) -> ModelReplied
-    requires { ⌜ hearing 8 (s .heard) (s .value) ≡ true ⌝ }
-    ensures { λ r. ⌜ r ≡ gives 0 (bit (line (step-of x))) (heard s x) ⌝ }
-{
-    let mut n = s;
-    n.heard = s.heard + 1;
-    n.value = with_bit(s.heard, s.value, x);
-    ModelReplied {
-        number: 0,
-        reply: line(x),
-        target: n,
-    }
-}
-
-// The point after so many bits to be sent, less one.
-fn point_sent(left: u8) -> u8
-    ensures { λ r. ⌜ r ≡ cond (eqb left 1) 10 9 ⌝ }
-{
-    if left == 1 {
-        return 10;
-    }
-    9
-}
-
-// A bit that is sent, likewise.
-fn sends(s: State, x: u8) -> ModelReplied
-    requires { ⌜ 1 ≤ s .left ⌝ }
-    ensures { λ r. ⌜ r ≡ gives 0 (s .value % 2) (sent s x) ⌝ }
-{
-    let mut n = s;
-    n.point = point_sent(s.left);
-    n.value = s.value / 2;
-    n.left = s.left - 1;
-    n.collision = mark(s.collision, x);
-    ModelReplied {
-        number: 0,
-        reply: (s.value % 2) as u32,
-        target: n,
-    }
-}
-
-// A START that takes no three key writes away.
-fn begins_frame(point: u8, keys: u8) -> bool
-    ensures { λ r. ⌜ r ≡ begins-frame point keys ⌝ }
-{
-    if point == 0 {
-        return keys < 3;
-    }
-    false
-}
-
-fn starts(s: State, x: u8) -> ModelReplied
-    ensures { λ r. ⌜ r ≡ gives 0 1 (started s x) ⌝ }
-{
-    let mut n = s;
-    n.point = 1;
-    n.collision = mark(s.collision, x);
-    ModelReplied {
-        number: 0,
-        reply: 1,
-        target: n,
-    }
-}
-
-fn in_field(point: u8) -> bool
-    ensures { λ r. ⌜ r ≡ in-field point ⌝ }
-{
-    if point == 0 {
-        return false;
-    }
-    point < 6
-}
-
-// What an Address Read shows.
-fn shown_bits(fpdat: u8, on: u8, address: u8, busy: u8, late: u8, output: u8) -> u8
-    ensures { λ r. ⌜ r ≡ shown-bits fpdat on address busy late output ⌝ }
-{
-    if on == 1 {
-        if address == fpdat {
-            if 0 < busy {
-                return 2;
-            }
-            if late == 0 {
-                if output == 0 {
-                    return 0;
-                }
-                return 1;
-            }
-            return 0;
-        }
-        return address;
-    }
-    address
-}
-
-// The numbers of a point that begins: after INS,
-fn beginning(point: u8, value: u8, left: u8, effect: u8, byte: u8) -> PointFields
-    ensures { λ r. ⌜ r ≡ beginning point value left effect byte ⌝ }
-{
-    PointFields {
-        point: point,
-        heard: 0,
-        value: value,
-        left: left,
-        zeros: 0,
-        effect: effect,
-        byte: byte,
-    }
-}
-
-fn after_code(ins: u8, shown: u8) -> PointFields
-    ensures { λ r. ⌜ r ≡ after-code ins shown ⌝ }
-{
-    if ins == 0 {
-        return beginning(3, 0, 0, 0, 0);
-    }
-    if ins == 1 {
-        return beginning(2, 0, 0, 0, 0);
-    }
-    if ins == 2 {
-        return beginning(9, shown, 8, 3, 0);
-    }
-    beginning(4, 0, 0, 0, 0)
-}
-
-// and after any field that is heard.
-fn after_field(point: u8, value: u8, shown: u8) -> PointFields
-    ensures { λ r. ⌜ r ≡ after-field point value shown ⌝ }
-{
-    if point == 1 {
-        return after_code(value, shown);
-    }
-    if point == 2 {
-        if value == 0 {
-            return beginning(5, 0, 0, 0, 0);
-        }
-        return beginning(6, 0, value % 4 * 8 + 8, 0, 0);
-    }
-    if point == 3 {
-        if value == 0 {
-            return beginning(7, 0, 8, 4, 0);
-        }
-        return beginning(7, 0, value % 4 * 8 + 8, 0, 0);
-    }
-    if point == 4 {
-        return beginning(10, 0, 0, 1, value);
-    }
-    beginning(7, 0, 0, 2, value)
-}
-
-// The last bit of a field that is heard.
-fn ends(t: Settings, s: State, x: u8) -> ModelReplied
-    requires { ⌜ hearing 8 (s .heard) (s .value) ≡ true ⌝ }
-    ensures { λ r. ⌜ r ≡ gives 0 (bit (line (step-of x))) (ended t s x) ⌝ }
-{
-    let value = with_bit(s.heard, s.value, x);
-    let shown = shown_bits(t.fpdat, s.on, s.address, s.busy, s.late, s.output);
-    let p = after_field(s.point, value, shown);
-    let mut n = s;
-    n.point = p.point;
-    n.heard = p.heard;
-    n.value = p.value;
-    n.left = p.left;
-    n.zeros = p.zeros;
-    n.effect = p.effect;
-    n.byte = p.byte;
-    ModelReplied {
-        number: 0,
-        reply: line(x),
-        target: n,
-    }
 }
 
 // The state of a fresh target: all of its numbers are 0.
@@ -1071,43 +707,17 @@ pub fn fresh() -> State
     }
 }
 
-// One step of the target whose state this is. Most strobes move a few numbers and nothing else: for those no target is read.
+// One step of the target whose state this is.
 pub fn step(t: Settings, state: State, flash: &mut [u8], delays: &[u8], x: u8) -> ModelReplied
     ensures { λ r. ⌜ r ≡ model-answer t state (now (flash .entry)) (now (delays .entry)) x ⌝ }
     ensures { λ _. ⌜ now (flash .exit) ≡ model-flash t state (now (flash .entry)) (now (delays .entry)) x ⌝ }
 {
+    if in_form(state) {
+        return held(t, state, flash, delays, x);
+    }
     let number = settings::refusal(t);
     if number != 0 {
         return refused(number, state);
-    }
-    if device_fits(t, state, flash.len()) {
-        if point_fits(
-            state.point,
-            state.heard,
-            state.value,
-            state.left,
-            state.zeros,
-            state.effect,
-            state.byte,
-        ) {
-            if is_strobe(x) {
-                if state.point == 9 {
-                    return sends(state, x);
-                }
-                if hears_more(state.point, state.heard) {
-                    return hears(state, x);
-                }
-                if begins_frame(state.point, state.keys) {
-                    return starts(state, x);
-                }
-                if in_field(state.point) {
-                    return ends(t, state, x);
-                }
-                return held(t, state, flash, delays, x);
-            }
-            return held(t, state, flash, delays, x);
-        }
-        return refused(NO_POINT, state);
     }
     refused(NO_POINT, state)
 }
