@@ -72,10 +72,10 @@ fn run(start: Session, image: &[u8], replies: &[u8], steps: &mut [u8]) -> Ran
                 taken: i,
             };
         }
-        s = s.advance(task, replies[i], image);
+        s = s.advance_by(task, replies[i], image);
         let next = s.point;
         task = task_next(next, task);
-        steps[i] = s.step(task, image);
+        steps[i] = s.step_by(task, image);
         i += 1;
     }
     Ran {

@@ -7,10 +7,8 @@ use native.Mathlib.Omega.{arith}
 use lib.ListN.{length}
 use Rattle.settings.specs.declared.Settings.{Settings}
 use Rattle.session.specs.declared.Session.{Session}
-use Rattle.tasks.specs.declared.Task.{Task}
-use Rattle.session.specs.Machine.{advanced, step-of, advanced-by, step-by}
-use Rattle.outcome.specs.Standing.{is-running, task-next}
-use Rattle.outcome.proofs.Knowing.{Knows, advanced-known, step-known, known-next}
+use Rattle.session.specs.Machine.{advanced, step-of}
+use Rattle.outcome.specs.Standing.{is-running}
 use Rattle.target.specs.declared.Target.{Target}
 use Rattle.target.specs.Delays.{setup}
 use Rattle.target.specs.Target.{fresh, answer, flash-after}
@@ -33,19 +31,6 @@ module _ (t : Settings) (image f₀ ds : List ℕ) (budget : ℕ) (s₀ : Sessio
     goes h run l =
         let z : budget - n ≡ suc (budget - (n + 1)) = omega arith in
         record { small = omega arith; long = l ∙ k .long; same = k .same ∙ rw (z, run) }
-
-    -- the same by what is known of the session's act
-    pub goes-known : (u : Task) → Knows u (s .point) → n < budget → is-running (s .point) ≡ true → (x : ℕ) → x ≡ step-by u s image
-        → length (flash-after (setup t ds) y f x) ≡ length f → (z : ℕ) → z ≡ answer (setup t ds) y f x .reply % 256
-        → (s₁ : Session) → s₁ ≡ advanced-by 20 256 u s z image → (u₁ : Task) → u₁ ≡ task-next (s₁ .point) u
-        → Sofar t image f₀ ds budget s₀ (flash-after (setup t ds) y f x) s₁ (answer (setup t ds) y f x .target) (n + 1) × Knows u₁ (s₁ .point)
-    goes-known u m h run x ex l z ez s₁ es u₁ eu =
-        let e : x ≡ step-of s image = ex ∙ step-known 20 256 s u image m in
-        let a : s₁ ≡ advanced 20 256 s z image = es ∙ advanced-known 20 256 s u image z m in
-        let r : z ≡ answer (setup t ds) y f (step-of s image) .reply % 256 = ez ∙ ap (λ (q : ℕ). answer (setup t ds) y f q .reply % 256) e in
-        let b : s₁ ≡ advanced 20 256 s (answer (setup t ds) y f (step-of s image) .reply % 256) image = a ∙ ap (λ (q : ℕ). advanced 20 256 s q image) r in
-        let k₁ : Knows u₁ (s₁ .point) = rw (eu, a) (known-next 20 256 s u image z m) in
-        (rw (b, e) (goes h run (rw e at l)), k₁)
 
     pub done : budget ≤ n → closed budget 0 t ds image s₀ fresh f₀ ≡ stopped n s y f
     unfolding closed

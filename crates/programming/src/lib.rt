@@ -10,8 +10,6 @@ use numbers::RUNNING;
 use opening::opening_refusal;
 use outcome::is_running;
 use outcome::outcome_of;
-use outcome::task_at;
-use outcome::task_next;
 use session::Session;
 use settings::Settings;
 use target::Command;
@@ -153,8 +151,6 @@ fn play(
     ensures { λ _. ⌜ now (flash .exit) ≡ closed budget 0 t (now (delays .entry)) (now (image .entry)) start fresh (now (flash .entry)) .flash ⌝ }
 {
     let mut s = start;
-    let begun = start.point;
-    let mut task = task_at(begun);
     let mut target = fresh();
     let mut n = 0;
     while n < budget {
@@ -166,12 +162,10 @@ fn play(
                 replies: n,
             };
         }
-        let replied = target::step(t, target, flash, delays, s.step(task, image));
+        let replied = target::step(t, target, flash, delays, s.step(image));
         let after = replied.target;
         target = same_target(after);
-        s = s.advance(task, low(replied.reply), image);
-        let next = s.point;
-        task = task_next(next, task);
+        s = s.advance(low(replied.reply), image);
         n += 1;
     }
     Ran {

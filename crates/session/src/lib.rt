@@ -5,7 +5,7 @@ ghost use mathlib.Core.Bool.{cond};
 ghost use Prim.Native.Nat.{_+_, _*_, _/_, _%_, _<_};
 ghost use lib.ListN.{length};
 ghost use Rattle.session.specs.Sent.{block-offset, high-byte, lead-byte, erase-byte, block-byte, image-byte, sent-offset, compared-offset, write-byte, stage-byte, byte-of};
-ghost use Rattle.session.specs.Machine.{at, running, ended, begins, next-write, next-page, next-read, next-stage, onward, again, differs, compared, compares, judged, sends-image, drives-image, wants, stays, settled, alone, frame-of, sends, task-taken, replied-by, point-advanced-by, advanced-by, task-byte, task-step, point-step-by, step-by};
+ghost use Rattle.session.specs.Machine.{at, running, ended, begins, next-write, next-page, next-read, next-stage, onward, again, differs, compared, compares, judged, sends-image, drives-image, wants, stays, settled, alone, frame-of, sends, task-taken, replied-by, point-advanced, advanced, point-advanced-by, advanced-by, task-byte, task-step, point-step, step-of, point-step-by, step-by};
 use numbers::BAD_REPLY;
 use numbers::BAD_STATUS;
 use numbers::COMPARE_DIFFERS;
@@ -18,6 +18,7 @@ use settings::Settings;
 use tasks::Stage;
 use tasks::Task;
 use tasks::acts_in;
+use tasks::task_of;
 use wire::Frame;
 use wire::Moved;
 use wire::Place;
@@ -254,6 +255,7 @@ fn sends(task: Task) -> bool
 }
 
 impl Session {
+    // The zeros in a WAIT that refuse, and the unsatisfied reads in a poll.
     pub const WAIT_LIMIT: usize = 20;
 
     pub const POLL_LIMIT: usize = 256;
@@ -455,7 +457,7 @@ impl Session {
         match task {
             Task::Input => self.polled(byte / 2 % 2 == 0, at, reads),
             Task::Output => self.polled(byte % 2 == 1, at, reads),
-            Task::Status => self.expects(byte == 13, BAD_STATUS, at),
+            Task::Status => self.expects(byte == 0x0d, BAD_STATUS, at),
             Task::Compare => {
                 self.compares(image_byte(image, self.compared_offset(at)), at, byte)
             }
@@ -520,7 +522,56 @@ impl Session {
         self.task_taken(task, at, place, reply == 1, image)
     }
 
-    fn point_advanced(self, task: Task, point: Point, reply: u8, image: &[u8]) -> Point
+    fn point_advanced(self, point: Point, reply: u8, image: &[u8]) -> Point
+        ensures { λ r. ⌜ r ≡ point-advanced 20 256 point self reply (now (image .entry)) ⌝ }
+    {
+        match point {
+            Point::Running {
+                stage,
+                page,
+                block,
+                act,
+                strobe,
+                count,
+                bits,
+            } => self.taken(
+                task_of(stage, act),
+                At {
+                    stage: stage,
+                    page: page,
+                    block: block,
+                    act: act,
+                },
+                Place {
+                    strobe: strobe,
+                    count: count,
+                    bits: bits,
+                },
+                reply,
+                image,
+            ),
+            Point::Ended { number, offset } => Point::Ended {
+                number: number,
+                offset: offset,
+            },
+        }
+    }
+
+    // The session after a reply, lent its image. A session that has ended takes none.
+    pub fn advance(self, reply: u8, image: &[u8]) -> Session
+        ensures { λ r. ⌜ r ≡ advanced 20 256 self reply (now (image .entry)) ⌝ }
+    {
+        let settings = self.settings;
+        let point = self.point;
+        Session {
+            settings: settings,
+            first: self.first,
+            pages: self.pages,
+            point: self.point_advanced(point, reply, image),
+        }
+    }
+
+    fn point_advanced_by(self, task: Task, point: Point, reply: u8, image: &[u8]) -> Point
         ensures { λ r. ⌜ r ≡ point-advanced-by 20 256 task point self reply (now (image .entry)) ⌝ }
     {
         match point {
@@ -555,8 +606,8 @@ impl Session {
         }
     }
 
-    // The session after a reply in an act that does this, lent its image. A session that has ended takes none.
-    pub fn advance(self, task: Task, reply: u8, image: &[u8]) -> Session
+    // The same where the caller knows what the act does: the session can tell, but not for nothing.
+    pub fn advance_by(self, task: Task, reply: u8, image: &[u8]) -> Session
         ensures { λ r. ⌜ r ≡ advanced-by 20 256 task self reply (now (image .entry)) ⌝ }
     {
         let settings = self.settings;
@@ -565,7 +616,7 @@ impl Session {
             settings: settings,
             first: self.first,
             pages: self.pages,
-            point: self.point_advanced(task, point, reply, image),
+            point: self.point_advanced_by(task, point, reply, image),
         }
     }
 
@@ -590,7 +641,45 @@ impl Session {
         wire::step(frame_of(task), self.task_byte(task, at, image), strobe)
     }
 
-    fn point_step(self, task: Task, point: Point, image: &[u8]) -> u8
+    fn point_step(self, point: Point, image: &[u8]) -> u8
+        ensures { λ r. ⌜ r ≡ point-step point self (now (image .entry)) ⌝ }
+    {
+        match point {
+            Point::Running {
+                stage,
+                page,
+                block,
+                act,
+                strobe,
+                count: _,
+                bits: _,
+            } => self.task_step(
+                task_of(stage, act),
+                At {
+                    stage: stage,
+                    page: page,
+                    block: block,
+                    act: act,
+                },
+                strobe,
+                image,
+            ),
+            Point::Ended {
+                number: _,
+                offset: _,
+            } => 6,
+        }
+    }
+
+    // The step that the session waits at, lent its image: 6 once it has ended.
+    pub fn step(self, image: &[u8]) -> u8
+        ensures { λ r. ⌜ r ≡ step-of self (now (image .entry)) ⌝ }
+    {
+        let point = self.point;
+        self.point_step(point, image)
+    }
+
+    fn point_step_by(self, task: Task, point: Point, image: &[u8]) -> u8
         ensures { λ r. ⌜ r ≡ point-step-by task point self (now (image .entry)) ⌝ }
     {
         match point {
@@ -620,11 +709,11 @@ impl Session {
         }
     }
 
-    // The step that the session waits at in an act that does this, lent its image: 6 once it has ended.
-    pub fn step(self, task: Task, image: &[u8]) -> u8
+    // The same where the caller knows what the act does.
+    pub fn step_by(self, task: Task, image: &[u8]) -> u8
         ensures { λ r. ⌜ r ≡ step-by task self (now (image .entry)) ⌝ }
     {
         let point = self.point;
-        self.point_step(task, point, image)
+        self.point_step_by(task, point, image)
     }
 }

@@ -33,17 +33,17 @@ returns c =
     let d = stops _ _ _ _ _ _ _ k (sym (c .before .is-running .ensures) ∙ not-true _ (c .if1 .taken)) in
     (d .session, (d .taken, d .out))
 
-shared-slice-read-advance : tie.Need-shared-slice-read-advance Inv-loop μ-loop
-shared-slice-read-advance c = search needs
+shared-slice-read-advance-by : tie.Need-shared-slice-read-advance-by Inv-loop μ-loop
+shared-slice-read-advance-by c = search needs
 
-advance-requires : tie.Need-advance-requires Inv-loop μ-loop
-advance-requires c κs = search needs
+advance-by-requires : tie.Need-advance-by-requires Inv-loop μ-loop
+advance-by-requires c κs = search needs
 
 task-next-requires : tie.Need-task-next-requires Inv-loop μ-loop
 task-next-requires c κs = search needs
 
-step-requires : tie.Need-step-requires Inv-loop μ-loop
-step-requires c κs = search needs
+step-by-requires : tie.Need-step-by-requires Inv-loop μ-loop
+step-by-requires c κs = search needs
 
 slice-write-steps : tie.Need-slice-write-steps Inv-loop μ-loop
 slice-write-steps c = search needs
@@ -58,7 +58,7 @@ loop-again : tie.Need-loop-again Inv-loop μ-loop
 loop-again c =
     let l = c .before .before .before .before .before .before .before .loop .inv in
     let run = sym (c .before .before .before .before .before .is-running .ensures) ∙ not-false _ (c .before .before .before .before .if1 .left) in
-    goes-known _ _ _ _ _ _ _ (l .0) _ (l .1) (c .before .before .before .before .before .before .loop-test .taken) run _ (c .before .before .advance .ensures) _ (c .before .task-next .ensures) _ (c .step .ensures)
+    goes-known _ _ _ _ _ _ _ (l .0) _ (l .1) (c .before .before .before .before .before .before .loop-test .taken) run _ (c .before .before .advance-by .ensures) _ (c .before .task-next .ensures) _ (c .step-by .ensures)
 
 same-length-2 : tie.Need-same-length-2 Inv-loop μ-loop
 same-length-2 c = search needs
@@ -79,10 +79,10 @@ run-spec =
     is-running-requires
     same-length
     returns
-    shared-slice-read-advance
-    advance-requires
+    shared-slice-read-advance-by
+    advance-by-requires
     task-next-requires
-    step-requires
+    step-by-requires
     slice-write-steps
     add-i
     loop-less

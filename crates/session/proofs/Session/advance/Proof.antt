@@ -1,6 +1,6 @@
 -- `session::Session::advance` meets its contract: each return by the tests on its way and what the calls give.
 use borrow.Author.Needs.{needs}
-use Rattle.session.specs.Machine.{advanced-by}
+use Rattle.session.specs.Machine.{advanced}
 use Rattle.session.proofs.Session.advance.Statement.{statement}
 use Rattle.session.proofs.Session.advance.Tie as tie
 
@@ -8,7 +8,7 @@ point-advanced-requires : tie.Need-point-advanced-requires
 point-advanced-requires c κs = search needs
 
 returns : tie.Need-returns
-unfolding advanced-by
+unfolding advanced
 returns c = cc
 
 pub advance-spec : {M : Type 1} → statement M

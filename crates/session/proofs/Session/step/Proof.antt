@@ -1,7 +1,7 @@
 -- `session::Session::step` meets its contract: each return by the tests on its way and what the calls give.
 use borrow.Author.Needs.{needs}
 use Rattle.laws.proofs.Pick.{picks}
-use Rattle.session.specs.Machine.{step-by}
+use Rattle.session.specs.Machine.{step-of}
 use Rattle.session.proofs.Session.step.Statement.{statement}
 use Rattle.session.proofs.Session.step.Tie as tie
 
@@ -9,7 +9,7 @@ point-step-requires : tie.Need-point-step-requires
 point-step-requires c κs = search needs
 
 returns : tie.Need-returns
-unfolding step-by
+unfolding step-of
 returns c = search (needs, picks)
 
 pub step-spec : {M : Type 1} → statement M

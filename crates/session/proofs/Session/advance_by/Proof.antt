@@ -1,0 +1,15 @@
+-- `session::Session::advance_by` meets its contract: each return by the tests on its way and what the calls give.
+use borrow.Author.Needs.{needs}
+use Rattle.session.specs.Machine.{advanced-by}
+use Rattle.session.proofs.Session.advance_by.Statement.{statement}
+use Rattle.session.proofs.Session.advance_by.Tie as tie
+
+point-advanced-by-requires : tie.Need-point-advanced-by-requires
+point-advanced-by-requires c κs = search needs
+
+returns : tie.Need-returns
+unfolding advanced-by
+returns c = cc
+
+pub advance-by-spec : {M : Type 1} → statement M
+advance-by-spec = tie.close (tie.spec point-advanced-by-requires returns)
