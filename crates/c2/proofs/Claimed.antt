@@ -1,4 +1,4 @@
--- The claims of specs/Claims.antt, each proved under its name.
+-- The claims of specs/Claims.antt, each proved under its name; `Asking` has that of the figure.
 use mathlib.Core.Path.{_≡_, refl, sym, ap, _∙_}
 use mathlib.Core.List.{List, [], _∷_}
 use Prim.Native.Nat.{ℕ, _/_}
@@ -26,11 +26,21 @@ point-reached s image (r ∷ rs) h =
     point-reached (advanced 20 256 s r image) image rs (lent-advances s image r h)
     ∙ ap (λ (x : Point.Point). reached session-limits x rs) (advances 20 256 s image (h .range) (h .whole) r)
 
--- and replies leave its settings alone
+-- and replies leave its settings and pages alone
 settings-stay : (s : Session) (image rs : List ℕ) → after-replies s image rs .settings ≡ s .settings
 unfolding after-replies advanced
 settings-stay s image [] = refl
 settings-stay s image (r ∷ rs) = settings-stay (advanced 20 256 s r image) image rs
+
+first-stays : (s : Session) (image rs : List ℕ) → after-replies s image rs .first ≡ s .first
+unfolding after-replies advanced
+first-stays s image [] = refl
+first-stays s image (r ∷ rs) = first-stays (advanced 20 256 s r image) image rs
+
+pages-stay : (s : Session) (image rs : List ℕ) → after-replies s image rs .pages ≡ s .pages
+unfolding after-replies advanced
+pages-stay s image [] = refl
+pages-stay s image (r ∷ rs) = pages-stay (advanced 20 256 s r image) image rs
 
 pub replies-follow : Replies-follow
 unfolding opened-session
@@ -38,6 +48,9 @@ replies-follow t first image rs i f b e =
     let l = begins-lent t first image e i b in
     let h = lent-after (opened-session t first (length image)) image rs l in
     record {
+      settings = settings-stay (opened-session t first (length image)) image rs;
+      first-page = first-stays (opened-session t first (length image)) image rs;
+      pages = pages-stay (opened-session t first (length image)) image rs;
       held = pack-unpack 20 256 small (session-after t first image rs) (h .id) (rw (settings-stay (opened-session t first (length image)) image rs) f) (h .range);
       whole = h .whole;
       point = point-reached (opened-session t first (length image)) image rs l ∙ ap (λ (x : Point.Point). reached session-limits x rs) (begins-at t first image e);

@@ -1,9 +1,9 @@
--- What is claimed of a session whose replies come in parts, by the definitions that the calls meet (demand 2, and the first half of demand 3).
--- Types alone: `Claimed` in proofs/ proves each.
+-- What is claimed of a session whose replies come in parts, by the definitions that the calls meet (demand 2, and the first half of demand 3); of
+-- the records that calls write; and of the figure that a question tells. Types alone: `Claimed` and `Asking` in proofs/ prove each.
 use mathlib.Core.Path.{_≡_}
 use mathlib.Core.Bool.{true}
 use mathlib.Core.List.{List, _++_}
-use Prim.Native.Nat.{ℕ, _<_}
+use Prim.Native.Nat.{ℕ, _/_, _<_}
 use lib.ListN.{length}
 use Rattle.wire.specs.Bits.{Bytes}
 use Rattle.wire.specs.Exchange.{fed}
@@ -24,9 +24,12 @@ use Rattle.c2.specs.Calls.{blank}
 abbrev pub session-after : Settings → (first : ℕ) → (image replies : List ℕ) → Session
 session-after t first image rs = after-replies (opened-session t first (length image)) image rs
 
--- Its record is taken and holds it, with the image of the opening; it stands at the point of the order that these replies reach; and what it
--- leaves to say is what they leave of the exchange of the session's order.
+-- Its settings and pages are those of the opening; its record is taken and holds it, with the image of the opening; it stands at the point of the
+-- order that these replies reach; and what it leaves to say is what they leave of the exchange of the session's order.
 pub record Follows (t : Settings) (first : ℕ) (image replies : List ℕ) : Type 0 where
+  pub settings : session-after t first image replies .settings ≡ t
+  pub first-page : session-after t first image replies .first ≡ first
+  pub pages : session-after t first image replies .pages ≡ length image / t .size
   pub held : unpacked 20 256 (packed (session-after t first image replies)) ≡ Held (session-after t first image replies)
   pub whole : length image ≡ image-length (session-after t first image replies)
   pub point : position (session-after t first image replies) image ≡ point-after session-limits t first image replies

@@ -1,5 +1,5 @@
--- For the code: the session reached and the steps written, reply by reply. Nothing here needs to be believed: `Looping` in proofs/ has the laws
--- that these are the steps of the exchange and the session after the replies.
+-- For the code: the session reached and the steps written, reply by reply. Nothing here needs to be believed: `Meeting` in proofs/ has the laws
+-- that these are the session after the replies and the steps of the exchange.
 use mathlib.Core.Bool.{cond}
 use mathlib.Core.List.{List, [], _∷_}
 use Prim.Native.Nat.{ℕ}

@@ -20,7 +20,7 @@ use Rattle.c2.specs.Claims.{session-after}
 use Rattle.following.proofs.Meeting.{outcome-now}
 use Rattle.c2.proofs.Calling.{lent-held}
 use Rattle.calls.specs.Calls.{Call, opening, taking, asking, refusal, Told, opened, accepted, heard, told, As-left, May-follow, replies-of, in-a-row, by-replies}
-use Rattle.calls.specs.Claims.{Lists-are-replies, Lists-alike, Like-one-call, Refused-unchanged}
+use Rattle.calls.specs.Claims.{Lists-are-replies, Lists-alike, Like-one-call, Refused-unchanged, Each-unchanged}
 use Rattle.calls.proofs.Taking.{after, left-told, takes, asks}
 
 module _ (t : Settings) (first : ℕ) (image : List ℕ) (o : Opening t first image) where
@@ -107,3 +107,7 @@ unfolding refusal record-opened opening-answer
 refused-unchanged (opening r image t first) n = rw (ne-eqb (opening-number (length r) t first (length image)) 0 n) (refl, refl)
 refused-unchanged (taking r image rs buffer place) n = refused-taking (unpacked 20 256 r) r image rs buffer place n
 refused-unchanged (asking r) n = refused-asking (unpacked 20 256 r) n
+
+pub each-unchanged : (calls : List Call) → Each-unchanged calls
+each-unchanged [] = tt
+each-unchanged (c ∷ cs) = (refused-unchanged c, each-unchanged cs)

@@ -34,7 +34,8 @@ use Rattle.playing.proofs.Left.{Lasts, own-replies-leave, own-replies-program}
 use Rattle.calls.specs.Calls.{Call, taking, refusal, Told, opened, May-follow, replies-of, in-a-row, by-replies}
 use Rattle.calls.specs.Target.{own-replies, state-after, flash-after, Ready, answered, Programmed}
 use Rattle.calls.specs.Whole.{Calls-program, Calls-exist, Fresh-ready, Left-ready}
-use Rattle.calls.proofs.Claimed.{opens, accepts, lists-are-replies}
+use Rattle.c2.specs.Calls.{opening-answer}
+use Rattle.calls.proofs.Claimed.{opens, accepts, lists-are-replies, each-unchanged}
 use Rattle.calls.proofs.Targets.{stands, ready, replies-alike, state-alike, flash-alike}
 use Rattle.playing.specs.Playing
 use Rattle.playing.specs.Programmed as Definitions
@@ -71,7 +72,7 @@ module _ (t : Settings) (first : ℕ) (image : List ℕ) (o : Opening t first im
   lasts = record { bytes = r .flash; exists = stands t ds f s r .met .state }
 
   answered-is : answered (by-replies t first image rs) ≡ Playing.answered (exchange-of session-limits t first image) rs
-  unfolding by-replies Playing.answered
+  unfolding by-replies opening-answer Playing.answered
   answered-is = ap (λ (n : ℕ). take (taken e rs) (n ∷ steps e rs)) (sym (first-step t first image))
 
   flash-is : flash-after t ds s f (answered x) ≡ left-by (setup t ds) y f (Playing.answered e rs) .flash
@@ -134,6 +135,7 @@ pub calls-program : Calls-program
 calls-program t first image held o n calls m =
     let same = lists-are-replies t first image held o n calls m in
     record {
+      refused = each-unchanged calls;
       told-is = same;
       ends = λ ds f s r own h.
           rw same (enough-program t first image o (in-a-row calls) ds f s r (rw same at own) (rw (opened-left t first image held o n) at h) .ended);

@@ -45,3 +45,8 @@ Unchanged (asking r) = remaining-answer (unpacked 20 256 r) ≡ record { number 
 
 abbrev pub Refused-unchanged : Type 0
 Refused-unchanged = (c : Call) → (refusal c ≡ 0 → ⊥) → Unchanged c
+
+-- so it is with each refused call of a list
+abbrev pub Each-unchanged : List Call → Type 0
+Each-unchanged [] = Unit {0}
+Each-unchanged (c ∷ cs) = ((refusal c ≡ 0 → ⊥) → Unchanged c) × Each-unchanged cs

@@ -6,12 +6,13 @@ use Prim.Native.Nat.{ℕ, _*_}
 use lib.ListN.{take}
 use Rattle.numbers.specs.Numbers.{done}
 use Rattle.wire.specs.Bits.{Bytes}
-use Rattle.wire.specs.Step.{reset, off, code}
+use Rattle.wire.specs.Step.{off, code}
 use Rattle.wire.specs.Exchange.{outcome}
 use Rattle.settings.specs.declared.Settings.{Settings}
 use Rattle.model.specs.declared.State.{State}
 use Rattle.model.specs.Model.{model-answer, model-flash}
 use Rattle.playing.specs.Programmed.{laid-over}
+use Rattle.c2.specs.Calls.{opening-answer}
 use Rattle.calls.specs.Calls.{Call, Told, in-a-row}
 
 -- the target's replies to steps in a row,
@@ -35,12 +36,13 @@ pub record Ready (t : Settings) (ds f : List ℕ) (s : State) : Type 0 where
   pub flash : Bytes f
   pub delays : Bytes ds
 
--- The replies that the calls took, and the steps that they answer: the opening's, 4, and each that was written but the last.
+-- The replies that the calls took, and the steps that they answer: the opening's, 4, and each that was written but the last, which awaits its
+-- reply or is 6 and has none.
 abbrev pub taken-replies : Told → List Call → List ℕ
 taken-replies x calls = take (x .taken) (in-a-row calls)
 
 abbrev pub answered : Told → List ℕ
-answered x = take (x .taken) (code reset ∷ x .steps)
+answered x = take (x .taken) (opening-answer 0 .step ∷ x .steps)
 
 -- Each reply taken is the target's own to the step before.
 abbrev pub Own : Settings → (delays : List ℕ) → State → (flash : List ℕ) → Told → List Call → Type 0

@@ -13,13 +13,15 @@ use Rattle.target.specs.Target.{fresh}
 use Rattle.model.specs.declared.State.{State}
 use Rattle.model.specs.State.{state-of}
 use Rattle.calls.specs.Calls.{Call, opened, told, May-follow, in-a-row, by-replies}
+use Rattle.calls.specs.Claims.{Each-unchanged}
 use Rattle.calls.specs.Target.{state-after, flash-after, Ready, answered, Own, Programmed}
 
--- One claim about every list of calls after an accepted opening, over one image and against one target with the same settings. What the calls
--- tell is what the replies in a row come to. Where each reply taken is the target's own: the session has ended done at the latest after as many
+-- One claim about every list of calls after an accepted opening, over one image and against one target with the same settings. Each refused call
+-- gives its number, takes no reply and changes no byte that it is lent. What the calls tell is what the replies in a row come to. Where each reply taken is the target's own: the session has ended done at the latest after as many
 -- replies as the most steps to come at the opening; and once it has ended, it has ended done, the named pages hold the image, every other byte is
 -- unchanged and no collision is marked.
 pub record Whole (t : Settings) (first : ℕ) (image held : List ℕ) (calls : List Call) : Type 0 where
+  pub refused : Each-unchanged calls
   pub told-is : told (opened held image t first) calls ≡ by-replies t first image (in-a-row calls)
   pub ends : (ds f : List ℕ) (s : State) → Ready t ds f s → Own t ds s f (told (opened held image t first) calls) calls
       → opened held image t first .left ≤ length (in-a-row calls) → told (opened held image t first) calls .outcome ≡ outcome done

@@ -13,7 +13,7 @@ use Rattle.order.specs.Conversation.{session-limits, conversation}
 use Rattle.order.specs.Point.{begin}
 use Rattle.order.specs.Figure.{figure}
 
--- the steps of an act, where each reply but the last is 1
+-- the steps of an act, where so many replies are 1; the last step's reply is not given
 unfoldable pub steps-of : Act → (replies : ℕ) → List ℕ
 steps-of a n = asks (conversation session-limits (a ∷ [])) ∷ steps (conversation session-limits (a ∷ [])) (replicate n 1)
 

@@ -1,4 +1,5 @@
--- How a point stands: it runs, with 0, or it has ended with its number and the image offset for 14.
+-- How a point stands: it runs, with 0, or it has ended with its number and the image offset for 14. And, for the code, what the act at a point
+-- does.
 use mathlib.Core.Bool.{Bool, true, false, cond}
 use Prim.Native.Nat.{ℕ}
 use lib.Dec.{eqb}

@@ -1,4 +1,4 @@
--- Frames by INS code, and moves as numbers.
+-- For the comparison: frames by INS code, and what a reply makes of a place, as numbers.
 use mathlib.Core.Bool.{cond}
 use Prim.Native.Nat.{ℕ, _%_}
 use lib.Dec.{eqb}

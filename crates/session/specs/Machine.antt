@@ -1,4 +1,6 @@
--- The session as a value, and what a reply and an image make of it: the successor that is handed back.
+-- The session as a value, lent its image: the successor that a reply makes of it, and the step that it waits at, by arithmetic on its numbers.
+-- `Advancing` and `Asking` of the crate position have the laws that for an image of its length these are the next point and the step of its order,
+-- so that they need no belief; for a shorter image they say where 15 strikes.
 use mathlib.Core.Bool.{Bool, true, false, cond}
 use mathlib.Core.List.{List}
 use Prim.Native.Nat.{ℕ, _+_, _/_, _%_}
@@ -83,17 +85,17 @@ judged limit Send s a n x image = onward s a
 judged limit Input s a n x image = cond (eqb (x / 2 % 2) 0) (onward s a) (again limit a n)
 judged limit Output s a n x image = cond (eqb (x % 2) 1) (onward s a) (again limit a n)
 judged limit Ident s a n x image = cond (eqb x (s .settings .id)) (onward s a) (ended other-device)
-judged limit Status s a n x image = cond (eqb x 13) (onward s a) (ended bad-status)
+judged limit Status s a n x image = cond (eqb x 0x0d) (onward s a) (ended bad-status)
 judged limit Compare s a n x image = compares (image-byte image (compared-offset s a)) s a x
 
--- an act of a block write that sends a byte of the image, and a strobe of it that drives a bit of the byte
+-- Number 15. An act of a block write sends a byte of the image, and some of its strobes drive a bit of that byte;
 unfoldable pub sends-image : (act : ℕ) → Bool
 sends-image act = cond (ltb act 11) false (cond (ltb act 523) (eqb (act % 2) 1) false)
 
 unfoldable pub drives-image : At → Place → Bool
 drives-image a p = cond (ltb (p .strobe) 5) false (cond (ltb (p .strobe) 13) (sends-image (a .act)) false)
 
--- and the image has none there
+-- a reply that leads to such a strobe ends the session where the image has no such byte.
 abbrev pub wants : Wanted → At → Place → Point
 wants (Byte b) a p = running a p
 wants Missing a p = ended no-image-byte
@@ -110,7 +112,8 @@ settled limit (Within p) k s a n image = stays (a .stage) s a p image
 settled limit (Stopped x) k s a n image = judged limit k s a n x image
 settled limit WaitLimit k s a n image = ended wait-limit-reached
 
--- the step of an act that stands in no frame, 0 for any other act; the frame of those (of the two it is not asked); and whether it sends a byte
+-- The step of an act that stands in no frame, 0 for any other act; the frame of any other act (what is said of Reset and Pause is not used); and
+-- whether that frame sends a byte.
 abbrev pub alone : Task → ℕ
 alone Reset = 4
 alone Pause = 5

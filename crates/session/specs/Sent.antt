@@ -1,5 +1,5 @@
--- The byte that an act sends or compares, by arithmetic. Nothing here needs to be believed: `Standing` of the crate position has the law that these
--- are the bytes of the session's order.
+-- The byte that an act sends or compares, by arithmetic. `Standing` of the crate position has the law that these are the bytes of the session's
+-- order, so that they need no belief; `image-byte` says besides which bytes a shorter image lacks (number 15).
 use mathlib.Core.Bool.{cond}
 use mathlib.Core.List.{List}
 use Prim.Native.Nat.{ℕ, _+_, _-_, _*_, _/_, _%_}
@@ -17,7 +17,7 @@ use Rattle.session.specs.declared.Wanted.the-variants.{Byte, Missing}
 abbrev pub block-offset : Settings → At → ℕ
 block-offset t at = at .page * t .size + at .block * 256
 
--- and its address in the flash, as the high byte
+-- and the high byte of its address in the flash; the low byte is 0
 abbrev pub high-byte : Session → At → ℕ
 high-byte s at = (s .first * s .settings .size + block-offset (s .settings) at) / 256 % 256
 

@@ -12,7 +12,7 @@ abbrev pub lead-task : ℕ → Task
 lead-task act =
     cond (eqb act 0) Reset (cond (eqb act 1) Ident (cond (eqb act 2) Reset (cond (eqb act 3) Address (cond (ltb act 7) Send Pause))))
 
--- a byte put, in two acts, or a status
+-- a byte put, in two acts: the byte, then the poll
 abbrev pub put-task : ℕ → Task
 put-task act = cond (eqb (act % 2) 1) Send Input
 

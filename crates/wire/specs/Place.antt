@@ -1,7 +1,8 @@
--- A place in a frame, the step there and what a reply makes of it; the exchange that is left there.
+-- A place in a frame: the step there, what a reply makes of it, the exchange that is left there and the most strobes of it, and how far a place's
+-- numbers go.
 use mathlib.Core.Bool.{Bool, cond}
 use mathlib.Core.List.{List, [], _∷_}
-use Prim.Native.Nat.{ℕ, zero, suc, _+_, _-_, _*_, _^_, _%_}
+use Prim.Native.Nat.{ℕ, suc, _+_, _-_, _*_, _^_, _%_}
 use lib.Dec.{ltb}
 use lib.ListN.{length, getD, take, drop}
 use Rattle.numbers.specs.Numbers.{wait-limit-reached}
