@@ -23,6 +23,7 @@ use outcome::outcome_of;
 use outcome::task_at;
 use outcome::task_next;
 use record::Unpacked;
+use session::Point;
 use session::Session;
 use settings::Settings;
 
@@ -53,6 +54,48 @@ struct Ran {
     taken: usize,
 }
 
+fn same_point(point: Point) -> Point
+    ensures { λ r. ⌜ r ≡ point ⌝ }
+{
+    match point {
+        Point::Running {
+            stage,
+            page,
+            block,
+            act,
+            strobe,
+            count,
+            bits,
+        } => Point::Running {
+            stage: stage,
+            page: page,
+            block: block,
+            act: act,
+            strobe: strobe,
+            count: count,
+            bits: bits,
+        },
+        Point::Ended { number, offset } => Point::Ended {
+            number: number,
+            offset: offset,
+        },
+    }
+}
+
+// The same session, put together from its numbers: copied whole it would take along the gaps between them, at every reply.
+fn same_session(s: Session) -> Session
+    ensures { λ r. ⌜ r ≡ s ⌝ }
+{
+    let settings = s.settings;
+    let point = s.point;
+    Session {
+        settings: settings,
+        first: s.first,
+        pages: s.pages,
+        point: same_point(point),
+    }
+}
+
 // Takes replies as long as the session runs, and writes the step that follows each.
 fn run(start: Session, image: &[u8], replies: &[u8], steps: &mut [u8]) -> Ran
     requires { ⌜ length (now replies) ≤ length (now steps) ⌝ }
@@ -72,7 +115,7 @@ fn run(start: Session, image: &[u8], replies: &[u8], steps: &mut [u8]) -> Ran
                 taken: i,
             };
         }
-        s = s.advance_by(task, replies[i], image);
+        s = same_session(s.advance_by(task, replies[i], image));
         let next = s.point;
         task = task_next(next, task);
         steps[i] = s.step_by(task, image);

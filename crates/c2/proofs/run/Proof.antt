@@ -1,6 +1,7 @@
 -- `c2::run` meets its contract: the loop keeps `Sofar`, by the laws of Looping, and what the session's act does, by those of Knowing.
 use mathlib.Core.Path.{sym, _∙_}
 use Prim.Native.Nat.{_-_}
+use native.Mathlib.Omega.{arith}
 use borrow.Author.Needs.{needs}
 use borrow.Author.Tests.{not-true, not-false}
 use lib.ListN.{length}
@@ -39,6 +40,9 @@ shared-slice-read-advance-by c = search needs
 advance-by-requires : tie.Need-advance-by-requires Inv-loop μ-loop
 advance-by-requires c κs = search needs
 
+same-session-requires : tie.Need-same-session-requires Inv-loop μ-loop
+same-session-requires c κs = search needs
+
 task-next-requires : tie.Need-task-next-requires Inv-loop μ-loop
 task-next-requires c κs = search needs
 
@@ -49,16 +53,16 @@ slice-write-steps : tie.Need-slice-write-steps Inv-loop μ-loop
 slice-write-steps c = search needs
 
 add-i : tie.Need-add-i Inv-loop μ-loop
-add-i c = search needs
+add-i c = omega (arith, c .before .before .before .before .before .before .before .loop-test .taken, c .before .before .before .before .before .before .before .before .before .before .before .before .before .good .1 .1 .0 .0)
 
 loop-less : tie.Need-loop-less Inv-loop μ-loop
 loop-less c = search needs
 
 loop-again : tie.Need-loop-again Inv-loop μ-loop
 loop-again c =
-    let l = c .before .before .before .before .before .before .before .loop .inv in
-    let run = sym (c .before .before .before .before .before .is-running .ensures) ∙ not-false _ (c .before .before .before .before .if1 .left) in
-    goes-known _ _ _ _ _ _ _ (l .0) _ (l .1) (c .before .before .before .before .before .before .loop-test .taken) run _ (c .before .before .advance-by .ensures) _ (c .before .task-next .ensures) _ (c .step-by .ensures)
+    let l = c .before .before .before .before .before .before .before .before .loop .inv in
+    let run = sym (c .before .before .before .before .before .before .is-running .ensures) ∙ not-false _ (c .before .before .before .before .before .if1 .left) in
+    goes-known _ _ _ _ _ _ _ (l .0) _ (l .1) (c .before .before .before .before .before .before .before .loop-test .taken) run _ (c .before .before .same-session .ensures ∙ c .before .before .before .advance-by .ensures) _ (c .before .task-next .ensures) _ (c .step-by .ensures)
 
 same-length-2 : tie.Need-same-length-2 Inv-loop μ-loop
 same-length-2 c = search needs
@@ -81,6 +85,7 @@ run-spec =
     returns
     shared-slice-read-advance-by
     advance-by-requires
+    same-session-requires
     task-next-requires
     step-by-requires
     slice-write-steps
