@@ -255,9 +255,10 @@ fn sends(task: Task) -> bool
 }
 
 impl Session {
-    // The zeros in a WAIT that refuse, and the unsatisfied reads in a poll.
+    // So many zeros in a WAIT refuse,
     pub const WAIT_LIMIT: usize = 20;
 
+    // and so many unsatisfied reads in a poll.
     pub const POLL_LIMIT: usize = 256;
 
     fn page_number(self, page: u16) -> u8
@@ -606,7 +607,7 @@ impl Session {
         }
     }
 
-    // The same where the caller knows what the act does: the session can tell, but not for nothing.
+    // The same for a caller that knows what the act does, and need not have it found out anew at each strobe.
     pub fn advance_by(self, task: Task, reply: u8, image: &[u8]) -> Session
         ensures { λ r. ⌜ r ≡ advanced-by 20 256 task self reply (now (image .entry)) ⌝ }
     {
@@ -709,7 +710,7 @@ impl Session {
         }
     }
 
-    // The same where the caller knows what the act does.
+    // The same for a caller that knows what the act does.
     pub fn step_by(self, task: Task, image: &[u8]) -> u8
         ensures { λ r. ⌜ r ≡ step-by task self (now (image .entry)) ⌝ }
     {
