@@ -230,12 +230,37 @@ pub extern "C" fn c2_steps_left(held: &[u8]) -> Remaining
     }
 }
 
-// The state of a fresh modelled target.
+// The state of a fresh modelled target: all of its numbers are 0.
 #[no_mangle]
 pub extern "C" fn c2_target_fresh() -> State
     ensures { λ r. ⌜ r ≡ state-of fresh ⌝ }
 {
-    model::fresh()
+    State {
+        place: 0,
+        start: 0,
+        rest: 0,
+        next: 0,
+        count: 0,
+        point: 0,
+        heard: 0,
+        value: 0,
+        left: 0,
+        zeros: 0,
+        effect: 0,
+        byte: 0,
+        collision: 0,
+        address: 0,
+        on: 0,
+        keys: 0,
+        command: 0,
+        write: 0,
+        page: 0,
+        high: 0,
+        output: 0,
+        passed: 0,
+        busy: 0,
+        late: 0,
+    }
 }
 
 // One step of the modelled target whose state this is: the answer, and the flash afterwards.

@@ -3,7 +3,7 @@ ghost use mathlib.Core.Path.{_≡_};
 ghost use Prim.Native.Nat.{_%_};
 ghost use Rattle.wire.specs.Bits.{bit};
 ghost use Rattle.target.specs.Delays.{setup};
-ghost use Rattle.target.specs.Target.{fresh, answer, flash-after};
+ghost use Rattle.target.specs.Target.{answer, flash-after};
 ghost use Rattle.model.specs.State.{effect-code, effect-byte, fields, point-fields, command-fields, output-fields, command-numbers, output-numbers, state-of, effect-of, point-of, command-of, output-of, later-point, target-read};
 ghost use Rattle.model.specs.Form.{none, effect-in-form, later-in-form, point-in-form, early-in-form, command-in-form, output-in-form, in-form};
 ghost use Rattle.model.specs.Model.{gives, held-answer, model-answer, model-flash};
@@ -673,38 +673,6 @@ fn held(t: Settings, state: State, flash: &mut [u8], delays: &[u8], x: u8) -> Mo
         };
     }
     refused(replied.number, state)
-}
-
-// The state of a fresh target: all of its numbers are 0.
-pub fn fresh() -> State
-    ensures { λ r. ⌜ r ≡ state-of fresh ⌝ }
-{
-    State {
-        place: 0,
-        start: 0,
-        rest: 0,
-        next: 0,
-        count: 0,
-        point: 0,
-        heard: 0,
-        value: 0,
-        left: 0,
-        zeros: 0,
-        effect: 0,
-        byte: 0,
-        collision: 0,
-        address: 0,
-        on: 0,
-        keys: 0,
-        command: 0,
-        write: 0,
-        page: 0,
-        high: 0,
-        output: 0,
-        passed: 0,
-        busy: 0,
-        late: 0,
-    }
 }
 
 // One step of the target whose state this is.
