@@ -20,10 +20,10 @@ use numbers::OTHER_IMAGE;
 use numbers::RUNNING;
 use outcome::is_running;
 use outcome::outcome_of;
+use outcome::same_session;
 use outcome::task_at;
 use outcome::task_next;
 use record::Unpacked;
-use session::Point;
 use session::Session;
 use settings::Settings;
 
@@ -52,48 +52,6 @@ pub struct Remaining {
 struct Ran {
     session: Session,
     taken: usize,
-}
-
-fn same_point(point: Point) -> Point
-    ensures { λ r. ⌜ r ≡ point ⌝ }
-{
-    match point {
-        Point::Running {
-            stage,
-            page,
-            block,
-            act,
-            strobe,
-            count,
-            bits,
-        } => Point::Running {
-            stage: stage,
-            page: page,
-            block: block,
-            act: act,
-            strobe: strobe,
-            count: count,
-            bits: bits,
-        },
-        Point::Ended { number, offset } => Point::Ended {
-            number: number,
-            offset: offset,
-        },
-    }
-}
-
-// The same session, put together from its numbers: copied whole it would take along the gaps between them, at every reply.
-fn same_session(s: Session) -> Session
-    ensures { λ r. ⌜ r ≡ s ⌝ }
-{
-    let settings = s.settings;
-    let point = s.point;
-    Session {
-        settings: settings,
-        first: s.first,
-        pages: s.pages,
-        point: same_point(point),
-    }
 }
 
 // Takes replies as long as the session runs, and writes the step that follows each.

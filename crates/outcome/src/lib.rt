@@ -1,8 +1,9 @@
-// How a session stands: running, and what its act does, or ended with its outcome.
+// How a session stands: running, and what its act does, or ended with its outcome. And the same session put together anew, for loops.
 ghost use mathlib.Core.Path.{_≡_};
 ghost use Rattle.outcome.specs.Standing.{is-running, outcome-of, task-at, task-next};
 use numbers::RUNNING;
 use session::Point;
+use session::Session;
 use tasks::Task;
 use tasks::task_of;
 
@@ -99,5 +100,50 @@ pub fn task_next(point: Point, task: Task) -> Task
             number: _,
             offset: _,
         } => task,
+    }
+}
+
+fn same_point(point: Point) -> Point
+    ensures { λ r. ⌜ r ≡ point ⌝ }
+{
+    match point {
+        Point::Running {
+            stage,
+            page,
+            block,
+            act,
+            strobe,
+            count,
+            bits,
+        } => Point::Running {
+            stage: stage,
+            page: page,
+            block: block,
+            act: act,
+            strobe: strobe,
+            count: count,
+            bits: bits,
+        },
+        Point::Ended {
+            number: n,
+            offset: o,
+        } => Point::Ended {
+            number: n,
+            offset: o,
+        },
+    }
+}
+
+// The same session, put together from its numbers: copied whole it would take along the gaps between them, at every turn of a loop.
+pub fn same_session(s: Session) -> Session
+    ensures { λ r. ⌜ r ≡ s ⌝ }
+{
+    let settings = s.settings;
+    let point = s.point;
+    Session {
+        settings: settings,
+        first: s.first,
+        pages: s.pages,
+        point: same_point(point),
     }
 }

@@ -7,8 +7,10 @@ use native.Mathlib.Omega.{arith}
 use lib.ListN.{length}
 use Rattle.settings.specs.declared.Settings.{Settings}
 use Rattle.session.specs.declared.Session.{Session}
-use Rattle.session.specs.Machine.{advanced, step-of}
-use Rattle.outcome.specs.Standing.{is-running}
+use Rattle.tasks.specs.declared.Task.{Task}
+use Rattle.session.specs.Machine.{advanced, step-of, advanced-by, step-by}
+use Rattle.outcome.specs.Standing.{is-running, task-next}
+use Rattle.outcome.proofs.Knowing.{Knows, advanced-known, step-known, known-next}
 use Rattle.target.specs.declared.Target.{Target}
 use Rattle.target.specs.Delays.{setup}
 use Rattle.target.specs.Target.{fresh, answer, flash-after}
@@ -31,6 +33,17 @@ module _ (t : Settings) (image f₀ ds : List ℕ) (budget : ℕ) (s₀ : Sessio
     goes h run l =
         let z : budget - n ≡ suc (budget - (n + 1)) = omega arith in
         record { small = omega arith; long = l ∙ k .long; same = k .same ∙ rw (z, run) }
+
+    -- the same by what is known of the session's act
+    pub goes-known : (task : Task) → Knows task (s .point) → n < budget → is-running (s .point) ≡ true → (x : ℕ) → x ≡ step-by task s image
+        → length (flash-after (setup t ds) y f x) ≡ length f → (r : ℕ) → r ≡ answer (setup t ds) y f x .reply % 256
+        → (s₁ : Session) → s₁ ≡ advanced-by 20 256 task s r image → (task₁ : Task) → task₁ ≡ task-next (s₁ .point) task
+        → Sofar t image f₀ ds budget s₀ (flash-after (setup t ds) y f x) s₁ (answer (setup t ds) y f x .target) (n + 1) × Knows task₁ (s₁ .point)
+    goes-known task m h run x ex l r er s₁ es task₁ et =
+        let e : s₁ ≡ advanced 20 256 s r image = es ∙ advanced-known 20 256 s task image r m in
+        let asked : x ≡ step-of s image = ex ∙ step-known 20 256 s task image m in
+        let knows : Knows task₁ (s₁ .point) = rw (et, e) (known-next 20 256 s task image r m) in
+        (rw (e, er, asked) (goes h run (rw asked at l)), knows)
 
     pub done : budget ≤ n → closed budget 0 t ds image s₀ fresh f₀ ≡ stopped n s y f
     unfolding closed

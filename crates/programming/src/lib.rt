@@ -10,6 +10,9 @@ use numbers::RUNNING;
 use opening::opening_refusal;
 use outcome::is_running;
 use outcome::outcome_of;
+use outcome::same_session;
+use outcome::task_at;
+use outcome::task_next;
 use session::Session;
 use settings::Settings;
 use target::Command;
@@ -122,7 +125,7 @@ fn same_device(device: Device) -> Device
     }
 }
 
-// The same target, put together from its numbers: copied whole it would take along the gaps between them, which is a third of the loop's time.
+// The same target, put together from its numbers: copied whole it would take along the gaps between them, at every turn of the loop.
 fn same_target(target: Target) -> Target
     ensures { λ r. ⌜ r ≡ target ⌝ }
 {
@@ -151,6 +154,8 @@ fn play(
     ensures { λ _. ⌜ now (flash .exit) ≡ closed budget 0 t (now (delays .entry)) (now (image .entry)) start fresh (now (flash .entry)) .flash ⌝ }
 {
     let mut s = start;
+    let begun = start.point;
+    let mut task = task_at(begun);
     let mut target = fresh();
     let mut n = 0;
     while n < budget {
@@ -162,10 +167,12 @@ fn play(
                 replies: n,
             };
         }
-        let replied = target::step(t, target, flash, delays, s.step(image));
+        let replied = target::step(t, target, flash, delays, s.step_by(task, image));
         let after = replied.target;
         target = same_target(after);
-        s = s.advance(low(replied.reply), image);
+        s = same_session(s.advance_by(task, low(replied.reply), image));
+        let next = s.point;
+        task = task_next(next, task);
         n += 1;
     }
     Ran {

@@ -1,24 +1,28 @@
--- `programming::play` meets its contract: the loop keeps `Sofar`, by the laws of Looping.
+-- `programming::play` meets its contract: the loop keeps `Sofar`, by the laws of Looping, and what the session's act does, by those of Knowing.
 use mathlib.Core.Path.{sym, _∙_}
 use Prim.Native.Nat.{_-_}
 use native.Mathlib.Omega.{arith}
 use borrow.Author.Needs.{needs}
 use borrow.Author.Tests.{not-true, not-false}
-use Rattle.programming.proofs.Looping.{Sofar, starts, goes, done, stops, session-at, target-at, flash-at, replies-at}
+use Rattle.outcome.proofs.Knowing.{Knows, known-at}
+use Rattle.programming.proofs.Looping.{Sofar, starts, goes-known, done, stops, session-at, target-at, flash-at, replies-at}
 use Rattle.programming.proofs.play.Statement.{statement}
 use Rattle.programming.proofs.play.Tie as tie
 
 abbrev Inv-loop : tie.InvT-loop
-Inv-loop t image flash₀ delays budget s₀ target₀ n₀ flash s target n = Sofar t image flash₀ delays budget s₀ flash s target n
+Inv-loop t image flash₀ delays budget s₀ task₀ target₀ n₀ flash s task target n = Sofar t image flash₀ delays budget s₀ flash s target n × Knows task (s .point)
 
 abbrev μ-loop : tie.MeasureT-loop
-μ-loop t image flash₀ delays budget s₀ target₀ n₀ flash s target n = budget - n
+μ-loop t image flash₀ delays budget s₀ task₀ target₀ n₀ flash s task target n = budget - n
+
+task-at-requires : tie.Need-task-at-requires Inv-loop μ-loop
+task-at-requires c κs = search needs
 
 fresh-requires : tie.Need-fresh-requires Inv-loop μ-loop
 fresh-requires c κs = search needs
 
 loop-holds : tie.Need-loop-holds Inv-loop μ-loop
-loop-holds c = rw (c .fresh .ensures) (starts _ _ _ _ _ _)
+loop-holds c = (rw (c .fresh .ensures) (starts _ _ _ _ _ _), rw (c .before .task-at .ensures) (known-at (c .before .before .before .before .before .args .start .point)))
 
 is-running-requires : tie.Need-is-running-requires Inv-loop μ-loop
 is-running-requires c κs = search needs
@@ -28,14 +32,14 @@ same-length c = search needs
 
 returns : tie.Need-returns Inv-loop μ-loop
 returns c =
-    let d = stops _ _ _ _ _ _ _ _ _ _ (c .before .before .before .loop .inv) (sym (c .before .is-running .ensures) ∙ not-true _ (c .if1 .taken)) in
+    let d = stops _ _ _ _ _ _ _ _ _ _ (c .before .before .before .loop .inv .0) (sym (c .before .is-running .ensures) ∙ not-true _ (c .if1 .taken)) in
     (session-at d, (target-at d, (replies-at d, flash-at d)))
+
+step-by-requires : tie.Need-step-by-requires Inv-loop μ-loop
+step-by-requires c κs = search needs
 
 step-requires : tie.Need-step-requires Inv-loop μ-loop
 step-requires c κs = search needs
-
-step-requires-2 : tie.Need-step-requires-2 Inv-loop μ-loop
-step-requires-2 c κs = search needs
 
 same-target-requires : tie.Need-same-target-requires Inv-loop μ-loop
 same-target-requires c κs = search needs
@@ -43,30 +47,37 @@ same-target-requires c κs = search needs
 low-requires : tie.Need-low-requires Inv-loop μ-loop
 low-requires c κs = search needs
 
-advance-requires : tie.Need-advance-requires Inv-loop μ-loop
-advance-requires c κs = search needs
+advance-by-requires : tie.Need-advance-by-requires Inv-loop μ-loop
+advance-by-requires c κs = search needs
+
+same-session-requires : tie.Need-same-session-requires Inv-loop μ-loop
+same-session-requires c κs = search needs
+
+task-next-requires : tie.Need-task-next-requires Inv-loop μ-loop
+task-next-requires c κs = search needs
 
 add-n : tie.Need-add-n Inv-loop μ-loop
-add-n c = omega (arith, c .before .before .before .before .before .before .before .before .before .before .before .loop-test .taken, c .before .before .before .before .before .before .before .before .before .before .before .before .before .before .before .before .before .fits .budget .fits)
+add-n c = omega (arith, c .before .before .before .before .before .before .before .before .before .before .before .before .before .loop-test .taken, c .before .before .before .before .before .before .before .before .before .before .before .before .before .before .before .before .before .before .before .before .fits .budget .fits)
 
 loop-less : tie.Need-loop-less Inv-loop μ-loop
-loop-less c = search needs
+loop-less c = omega (arith, c .before .before .before .before .before .before .before .before .before .before .before .before .before .loop-test .taken)
 
 loop-again : tie.Need-loop-again Inv-loop μ-loop
 loop-again c =
-    let k = c .before .before .before .before .before .before .before .before .before .before .before .before .loop .inv in
-    let run = sym (c .before .before .before .before .before .before .before .before .before .before .is-running .ensures) ∙ not-false _ (c .before .before .before .before .before .before .before .before .before .if1 .left) in
-    let b = c .before .before .before .before .before .before in
-    let long = rw (b .step2 .ensures .1, b .before .step .ensures) at (c .before .before .before .before .before .flash .given) in
-    rw (c .advance .ensures, c .before .low .ensures, c .before .before .same-target .ensures, b .step2 .ensures .1, b .step2 .ensures .0, b .before .step .ensures)
-    (goes _ _ _ _ _ _ _ _ _ _ k (c .before .before .before .before .before .before .before .before .before .before .before .loop-test .taken) run long)
+    let k = c .before .before .before .before .before .before .before .before .before .before .before .before .before .before .loop .inv in
+    let run = sym (c .before .before .before .before .before .before .before .before .before .before .before .before .is-running .ensures) ∙ not-false _ (c .before .before .before .before .before .before .before .before .before .before .before .if1 .left) in
+    let b = c .before .before .before .before .before .before .before .before in
+    let long = rw (b .step .ensures .1) at (c .before .before .before .before .before .before .before .flash .given) in
+    let reply = rw (b .step .ensures .0) at (c .before .before .before .low .ensures) in
+    rw (c .before .before .before .before .same-target .ensures, b .step .ensures .1, b .step .ensures .0)
+    (goes-known _ _ _ _ _ _ _ _ _ _ (k .0) _ (k .1) (c .before .before .before .before .before .before .before .before .before .before .before .before .before .loop-test .taken) run _ (b .before .step-by .ensures) long _ reply _ (c .before .same-session .ensures ∙ c .before .before .advance-by .ensures) _ (c .task-next .ensures))
 
 same-length-2 : tie.Need-same-length-2 Inv-loop μ-loop
 same-length-2 c = search needs
 
 returns-2 : tie.Need-returns-2 Inv-loop μ-loop
 returns-2 c =
-    let d = done _ _ _ _ _ _ _ _ _ _ (c .before .loop .inv) (c .loop-test .left) in
+    let d = done _ _ _ _ _ _ _ _ _ _ (c .before .loop .inv .0) (c .loop-test .left) in
     (session-at d, (target-at d, (replies-at d, flash-at d)))
 
 pub play-spec : {M : Type 1} → statement M
@@ -75,16 +86,19 @@ play-spec =
     (tie.spec
     Inv-loop
     μ-loop
+    task-at-requires
     fresh-requires
     loop-holds
     is-running-requires
     same-length
     returns
+    step-by-requires
     step-requires
-    step-requires-2
     same-target-requires
     low-requires
-    advance-requires
+    advance-by-requires
+    same-session-requires
+    task-next-requires
     add-n
     loop-less
     loop-again

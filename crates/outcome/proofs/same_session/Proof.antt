@@ -1,7 +1,7 @@
--- `c2::same_session` meets its contract: its parts are the same, by what the calls give.
+-- `outcome::same_session` meets its contract: its parts are the same, by what the calls give.
 use borrow.Author.Needs.{needs}
-use Rattle.c2.proofs.same_session.Statement.{statement}
-use Rattle.c2.proofs.same_session.Tie as tie
+use Rattle.outcome.proofs.same_session.Statement.{statement}
+use Rattle.outcome.proofs.same_session.Tie as tie
 
 same-point-requires : tie.Need-same-point-requires
 same-point-requires c κs = search needs

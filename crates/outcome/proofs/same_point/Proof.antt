@@ -1,7 +1,7 @@
--- `c2::same_point` meets its contract: each arm gives the value that it was found to be.
+-- `outcome::same_point` meets its contract: each arm gives the value that it was found to be.
 use borrow.Author.Needs.{needs}
-use Rattle.c2.proofs.same_point.Statement.{statement}
-use Rattle.c2.proofs.same_point.Tie as tie
+use Rattle.outcome.proofs.same_point.Statement.{statement}
+use Rattle.outcome.proofs.same_point.Tie as tie
 
 enum-known-point : tie.Need-enum-known-point
 enum-known-point c = search needs
