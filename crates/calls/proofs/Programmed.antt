@@ -3,22 +3,20 @@ use mathlib.Core.Path.{_≡_, refl, sym, ap, _∙_}
 use mathlib.Core.List.{List, [], _∷_, append-nil}
 use Prim.Native.Nat.{ℕ, _*_, _≤_}
 use native.Mathlib.Omega.{arith}
-use borrow.Author.Tests.{eqb-true, eq-eqb}
-use lib.Dec.{eqb}
+use borrow.Author.Tests.{eq-eqb}
 use lib.ListN.{length, take, replicate, length-replicate}
-use Rattle.laws.proofs.Testing.{by-test}
 use Rattle.wire.specs.Bits.{bit}
 use Rattle.wire.specs.Step.{reset, code}
 use Rattle.wire.specs.Frames.{strobes}
 use Rattle.wire.specs.Exchange.{Exchange, ended, strobe, fed, asks, steps, taken, outcome-of}
 use Rattle.settings.specs.declared.Settings.{Settings}
 use Rattle.settings.specs.Accepted.{settings-refusal}
-use Rattle.order.specs.Opening.{opening-refusal}
 use Rattle.order.specs.Order.{lead, order, session-order}
 use Rattle.order.specs.Conversation.{session-limits, conversation}
 use Rattle.order.specs.Point.{begin, reached}
 use Rattle.order.specs.Figure.{figure}
 use Rattle.order.specs.Claims.{Opening, exchange-of}
+use Rattle.order.proofs.Opened.{settings-pass}
 use Rattle.target.specs.declared.Target.{Target}
 use Rattle.target.specs.Delays.{setup}
 use Rattle.target.specs.Target.{fresh}
@@ -40,12 +38,6 @@ use Rattle.calls.proofs.Targets.{stands, ready, replies-alike, state-al
 use Rattle.playing.specs.Playing
 use Rattle.playing.specs.Programmed as Definitions
 
--- an accepted opening has accepted settings
-settings-pass : (t : Settings) (first : ℕ) (image : List ℕ) → Opening t first image → settings-refusal t ≡ 0
-unfolding opening-refusal
-settings-pass t first image o =
-    by-test (eqb (settings-refusal t) 0) (λ p. eqb-true (settings-refusal t) 0 p) (λ p. rw p at (o .accepted))
-
 -- the first step is the reset
 first-step : (t : Settings) (first : ℕ) (image : List ℕ) → asks (exchange-of session-limits t first image) ≡ code reset
 unfolding asks conversation session-order order lead strobes
@@ -63,7 +55,7 @@ module _ (t : Settings) (first : ℕ) (image : List ℕ) (o : Opening t first im
   y = stands t ds f s r .target
 
   ok : settings-refusal t ≡ 0
-  ok = settings-pass t first image o
+  ok = settings-pass t first (length image) (o .accepted)
 
   lent : Lent (setup t ds)
   lent = record { id = o .id; delays = r .delays; wait = omega arith }

@@ -6,6 +6,7 @@ use Prim.Native.Nat.{ℕ, zero, suc, _+_, _-_, _%_, _<_, _≤_}
 use native.Mathlib.Omega.{arith}
 use lib.ListN.{length}
 use Rattle.settings.specs.declared.Settings.{Settings}
+use Rattle.settings.specs.Accepted.{settings-refusal}
 use Rattle.session.specs.declared.Session.{Session}
 use Rattle.tasks.specs.declared.Task.{Task}
 use Rattle.session.specs.Machine.{advanced, step-of, advanced-by, step-by}
@@ -13,7 +14,11 @@ use Rattle.outcome.specs.Standing.{is-running, task-next}
 use Rattle.outcome.proofs.Knowing.{Knows, advanced-known, step-known, known-next}
 use Rattle.target.specs.declared.Target.{Target}
 use Rattle.target.specs.Delays.{setup}
-use Rattle.target.specs.Target.{fresh, answer, flash-after}
+use Rattle.target.specs.declared.Replied.{Replied}
+use Rattle.target.specs.Target.{fresh, answer, flash-after, answer-on, flash-on}
+use Rattle.target.proofs.Steps.{same-on}
+use Rattle.playing.proofs.Knowing.{Lent}
+use Rattle.playing.proofs.Left.{Lasts, answer-lasts}
 use Rattle.programming.specs.Closed.{Closed, stopped, closed}
 
 pub record Sofar (t : Settings) (image f₀ ds : List ℕ) (budget : ℕ) (s₀ : Session) (f : List ℕ) (s : Session) (y : Target) (n : ℕ) : Type 0 where
@@ -34,16 +39,20 @@ module _ (t : Settings) (image f₀ ds : List ℕ) (budget : ℕ) (s₀ : Sessio
         let z : budget - n ≡ suc (budget - (n + 1)) = omega arith in
         record { small = omega arith; long = l ∙ k .long; same = k .same ∙ rw (z, run) }
 
-    -- the same by what is known of the session's act
-    pub goes-known : (task : Task) → Knows task (s .point) → n < budget → is-running (s .point) ≡ true → (x : ℕ) → x ≡ step-by task s image
-        → length (flash-after (setup t ds) y f x) ≡ length f → (r : ℕ) → r ≡ answer (setup t ds) y f x .reply % 256
+    -- the same by what is known of the session's act and of the target
+    pub goes-known : Lent (setup t ds) → settings-refusal t ≡ 0 → Lasts (setup t ds) y f → (task : Task) → Knows task (s .point) → n < budget
+        → is-running (s .point) ≡ true → (x : ℕ) → x ≡ step-by task s image → (a : Replied) → a ≡ answer-on (setup t ds) y f x
+        → (f₁ : List ℕ) → f₁ ≡ flash-on (setup t ds) y f x → length f₁ ≡ length f → (r : ℕ) → r ≡ a .reply % 256
         → (s₁ : Session) → s₁ ≡ advanced-by 20 256 task s r image → (task₁ : Task) → task₁ ≡ task-next (s₁ .point) task
-        → Sofar t image f₀ ds budget s₀ (flash-after (setup t ds) y f x) s₁ (answer (setup t ds) y f x .target) (n + 1) × Knows task₁ (s₁ .point)
-    goes-known task m h run x ex l r er s₁ es task₁ et =
-        let e : s₁ ≡ advanced 20 256 s r image = es ∙ advanced-known 20 256 s task image r m in
+        → Sofar t image f₀ ds budget s₀ f₁ s₁ (a .target) (n + 1) × (Knows task₁ (s₁ .point) × Lasts (setup t ds) (a .target) f₁)
+    goes-known lent accepted lasts task m h run x ex a ea f₁ ef l r er s₁ es task₁ et =
+        let on = same-on (setup t ds) y f x accepted (lasts .exists) in
+        let gives : a ≡ answer (setup t ds) y f x = ea ∙ on .0 in
+        let leaves : f₁ ≡ flash-after (setup t ds) y f x = ef ∙ on .1 in
         let asked : x ≡ step-of s image = ex ∙ step-known 20 256 s task image m in
+        let e : s₁ ≡ advanced 20 256 s r image = es ∙ advanced-known 20 256 s task image r m in
         let knows : Knows task₁ (s₁ .point) = rw (et, e) (known-next 20 256 s task image r m) in
-        (rw (e, er, asked) (goes h run (rw asked at l)), knows)
+        (rw (e, er, gives, leaves, asked) (goes h run (rw (leaves, asked) at l)), (knows, rw (gives, leaves) (answer-lasts (setup t ds) lent y f x lasts)))
 
     pub done : budget ≤ n → closed budget 0 t ds image s₀ fresh f₀ ≡ stopped n s y f
     unfolding closed

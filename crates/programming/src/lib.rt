@@ -2,6 +2,8 @@
 ghost use mathlib.Core.Path.{_≡_};
 ghost use mathlib.Core.Bool.{false};
 ghost use Prim.Native.Nat.{_*_, _%_};
+ghost use lib.ListN.{length};
+ghost use Rattle.settings.specs.Accepted.{settings-refusal};
 ghost use Rattle.target.specs.Target.{fresh};
 ghost use Rattle.programming.specs.Closed.{closed};
 ghost use Rattle.programming.specs.Run.{run-answer, run-flash};
@@ -148,6 +150,8 @@ fn play(
     delays: &[u8],
     budget: usize,
 ) -> Ran
+    requires { ⌜ settings-refusal t ≡ 0 ⌝ }
+    requires { ⌜ length (now flash) ≡ t .size * t .count ⌝ }
     ensures { λ r. ⌜ r .session ≡ closed budget 0 t (now (delays .entry)) (now (image .entry)) start fresh (now (flash .entry)) .session ⌝ }
     ensures { λ r. ⌜ r .target ≡ closed budget 0 t (now (delays .entry)) (now (image .entry)) start fresh (now (flash .entry)) .target ⌝ }
     ensures { λ r. ⌜ r .replies ≡ closed budget 0 t (now (delays .entry)) (now (image .entry)) start fresh (now (flash .entry)) .replies ⌝ }
@@ -167,7 +171,7 @@ fn play(
                 replies: n,
             };
         }
-        let replied = target::step(t, target, flash, delays, s.step_by(task, image));
+        let replied = target::step_on(t, target, flash, delays, s.step_by(task, image));
         let after = replied.target;
         target = same_target(after);
         s = same_session(s.advance_by(task, low(replied.reply), image));

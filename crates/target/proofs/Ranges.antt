@@ -1,5 +1,5 @@
 -- What the tests of a state say of its numbers.
-use mathlib.Core.Path.{_≡_, sym, _∙_}
+use mathlib.Core.Path.{_≡_, sym, ap, _∙_}
 use mathlib.Core.Bool.{true, false, _&&_}
 use mathlib.Core.List.{List}
 use Prim.Native.Nat.{ℕ, suc, _+_, _-_, _*_, _%_, _^_, _<_, _≤_}
@@ -10,10 +10,15 @@ use lib.Dec.{eqb, ltb, leb}
 use lib.ListN.{length}
 use Rattle.laws.proofs.Testing.{both, by-test}
 use Rattle.wire.proofs.Bits.{weight-small}
+use Rattle.target.specs.declared.Effect.{Effect}
+use Rattle.target.specs.declared.Point.{Point}
+use Rattle.target.specs.declared.Point.the-variants.{Stop}
 use Rattle.target.specs.declared.Link.{Link}
 use Rattle.target.specs.declared.Target.{Target}
 use Rattle.target.specs.Delays.{Setup}
 use Rattle.target.specs.Known.{hearing, is-byte, known-point, is-count, known-block, known-command, known-output, known-link, known}
+use Rattle.target.specs.Target.{at-stop, known-on}
+use Rattle.target.specs.Parts.{known-device, known-behind}
 
 -- fewer than eight bits heard, and their value is a byte
 pub hearing-says : (w n v : ℕ) → w ≤ 8 → hearing w n v ≡ true → (n < 8) × (v < 256)
@@ -62,6 +67,31 @@ exists u t f k =
     let b = both (known-point (u .wait) (t .point)) _ (a .1) in
     let c = both (is-byte (d .address)) _ (b .1) in
     record { flash = eqb-true (length f) (u .settings .size * u .settings .count) (a .0); point = b .0; link = both (leb (d .keys) 3) _ (c .1) .1 }
+
+-- at a STOP all of the state has been tested
+pub stop-exists : (u : Setup) (t : Target) (f : List ℕ) (e : Effect) → t .point ≡ Stop e → known-on u t f ≡ true → Exists u t f
+unfolding known-on
+stop-exists u t f e p k = let a : at-stop (t .point) ≡ true = ap (λ (y : Point). at-stop y) p in exists u t f (rw a at k)
+
+-- and a state that exists passes everywhere
+pub exists-on : (u : Setup) (t : Target) (f : List ℕ) → known u t f ≡ true → known-on u t f ≡ true
+unfolding known-on
+exists-on u t f k = by-test (at-stop (t .point)) (λ a. rw a k) (λ a. rw a (exists u t f k .point))
+
+-- the test by its parts
+pub on-behind : (u : Setup) (t : Target) (f : List ℕ) → known-point (u .wait) (t .point) ≡ true → at-stop (t .point) ≡ true
+    → known-on u t f ≡ known-behind (u .settings) (t .device) f
+unfolding known-on known known-behind known-device
+on-behind u t f p a = rw (a, p)
+
+pub on-point : (u : Setup) (t : Target) (f : List ℕ) → at-stop (t .point) ≡ false → known-on u t f ≡ known-point (u .wait) (t .point)
+unfolding known-on
+on-point u t f a = rw a
+
+pub no-point-on : (u : Setup) (t : Target) (f : List ℕ) → known-point (u .wait) (t .point) ≡ false → known-on u t f ≡ false
+unfolding known-on known
+no-point-on u t f p =
+    by-test (at-stop (t .point)) (λ a. rw (a, p) (by-test (eqb (length f) (u .settings .size * u .settings .count)) (λ e. rw e) (λ e. rw e))) (λ a. rw (a, p))
 
 -- a block of n bytes from a on, by the room that is left there
 pub room : (a n end : ℕ) → a ≤ end → leb n (end - a) ≡ leb (a + n) end

@@ -1,21 +1,25 @@
 -- What a step's byte puts on the line, and what a step gives by its refusal.
-use mathlib.Core.Path.{_≡_, sym, _∙_}
+use mathlib.Core.Path.{_≡_, refl, sym, ap, _∙_}
 use mathlib.Core.Bool.{true, false, cond, not}
 use mathlib.Core.List.{List}
-use Prim.Native.Nat.{ℕ, suc, _≤_}
+use Prim.Native.Nat.{ℕ, suc, _≤_, _<_}
 use native.Mathlib.Omega.{arith}
-use borrow.Author.Tests.{eqb-false, leb-true, eq-eqb, ne-eqb}
+use borrow.Author.Tests.{eqb-true, eqb-false, leb-true, eq-eqb, ne-eqb}
 use lib.Dec.{eqb, leb}
 use Rattle.laws.proofs.Testing.{both, by-test, passes}
 use Rattle.numbers.specs.Numbers.{no-step, no-point}
 use Rattle.wire.specs.Step.{drives}
 use Rattle.settings.specs.Accepted.{settings-refusal}
+use Rattle.wire.specs.Bits.{bit}
 use Rattle.target.specs.declared.Target.{Target}
+use Rattle.target.specs.declared.Replied.{Replied}
 use Rattle.target.specs.Delays.{Setup}
-use Rattle.target.specs.Strobes.{line, strobed}
+use Rattle.target.specs.Strobes.{line, turn, strobed}
 use Rattle.target.specs.Known.{known}
-use Rattle.target.specs.Target.{stepped, is-step, step-of, refusal, answer, flash-after}
-use Rattle.target.specs.Parts.{replied}
+use Rattle.target.specs.Target.{after-reset, after-pause, stepped, is-step, step-of, refusal, answered, flash-left, answer, flash-after, known-on, refusal-on, answer-on, flash-on}
+use Rattle.target.specs.Parts.{replied, strobe-flash, still}
+use Rattle.target.proofs.Ranges.{exists-on}
+use Rattle.target.proofs.Flashed.{strobed-flash}
 
 -- only step 2 drives the line low
 pub line-high : (x : ℕ) → eqb x 2 ≡ false → line (step-of x) ≡ true
@@ -52,19 +56,29 @@ is-strobe u t f x k p q r =
     not-one : not (eqb x 1) ≡ true → x ≡ 1 → ⊥
     not-one g e = let w : false ≡ true = rw (eq-eqb x 1 e) at g in let z : _≡_ {A = ℕ} 0 1 = cc in omega arith
 
--- a refused step changes nothing and replies 1
-pub refused : (u : Setup) (t : Target) (f : List ℕ) (x n : ℕ) → n ≡ refusal u t f x → (n ≡ 0 → ⊥)
-    → (record { number = n; reply = 1; target = t } ≡ answer u t f x) × (f ≡ flash-after u t f x)
-unfolding answer flash-after
-refused u t f x n e h = let k = ne-eqb (refusal u t f x) 0 (λ z. h (e ∙ z)) in (rw (k, e), rw k)
+-- what a step gives by the number m of its refusal: a strobe,
+module _ (u : Setup) (t : Target) (f : List ℕ) (x n m : ℕ) (e : m ≡ n) where
+  pub strobe-answered : m ≡ 0 → is-step x ≡ true → x < 4 → (r : Replied) → r ≡ replied (strobed u t f (step-of x)) → (f₁ : List ℕ)
+      → f₁ ≡ strobe-flash (u .settings) (t .point) (t .device) f → (r ≡ answered n u t f x) × (f₁ ≡ flash-left n u t f x)
+  strobe-answered h k l r er f₁ ef =
+      let s = is-strobe u t f x k (λ z. omega arith) (λ z. omega arith) (λ z. omega arith) in
+      let z = eq-eqb n 0 (sym e ∙ h) in
+      (rw (z, s) er, rw (z, s) (ef ∙ sym (strobed-flash u (t .point) t f (step-of x))))
 
--- and any other is what the definition of a step says
-pub accepted : (u : Setup) (t : Target) (f : List ℕ) (x n : ℕ) → n ≡ refusal u t f x → n ≡ 0
-    → (replied (stepped u t f (step-of x)) ≡ answer u t f x) × (stepped u t f (step-of x) .flash ≡ flash-after u t f x)
-unfolding answer flash-after
-accepted u t f x n e h = let k = eq-eqb (refusal u t f x) 0 (sym e ∙ h) in (rw k, rw k)
+  -- and any other, or a refused one
+  still-is : (x < 4 → ⊥) → stepped u t f (step-of x) ≡ turn true (cond (eqb x 4) (after-reset t) (cond (eqb x 5) (after-pause t) t)) f
+  unfolding stepped step-of
+  still-is h =
+      rw (ne-eqb x 0 (λ z. h (omega arith)), ne-eqb x 2 (λ z. h (omega arith)), ne-eqb x 3 (λ z. h (omega arith)))
+      (by-test (eqb x 4) (λ a. rw a) (λ a. rw a (by-test (eqb x 5) (λ b. rw b) (λ b. rw b))))
 
--- it is one of a state that exists, and a step
+  pub still-answered : (m ≡ 0 → x < 4 → ⊥) → (r : Replied) → r ≡ still m t x → (r ≡ answered n u t f x) × (f ≡ flash-left n u t f x)
+  unfolding bit
+  still-answered h r er =
+      let es : r ≡ still n t x = er ∙ ap (λ (k : ℕ). still k t x) e in
+      by-test (eqb n 0) (λ z. let s = still-is (h (e ∙ eqb-true n 0 z)) in (rw (z, s) (rw z at es), rw (z, s))) (λ z. (rw z (rw z at es), rw z))
+
+-- an accepted step is one of a state that exists, and a step
 pub accepts : (u : Setup) (t : Target) (f : List ℕ) (x n : ℕ) → n ≡ refusal u t f x → n ≡ 0 → (known u t f ≡ true) × (is-step x ≡ true)
 unfolding refusal
 accepts u t f x n e h =
@@ -73,3 +87,15 @@ accepts u t f x n e h =
     (λ a. let p = passes (known u t f) (cond (is-step x) 0 no-step) no-point (omega arith) (rw a at w) in
     (p .0, passes (is-step x) 0 no-step (omega arith) (p .1) .0))
     (λ a. absurd (eqb-false (settings-refusal (u .settings)) 0 a (rw a at w)))
+
+pub accepts-on : (u : Setup) (t : Target) (f : List ℕ) (x n : ℕ) → n ≡ refusal-on u t f x → n ≡ 0 → (known-on u t f ≡ true) × (is-step x ≡ true)
+unfolding refusal-on
+accepts-on u t f x n e h =
+    let p = passes (known-on u t f) (cond (is-step x) 0 no-step) no-point (omega arith) (sym e ∙ h) in
+    (p .0, passes (is-step x) 0 no-step (omega arith) (p .1) .0)
+
+-- from a state that exists, with settings that pass, both are the same step
+pub same-on : (u : Setup) (t : Target) (f : List ℕ) (x : ℕ) → settings-refusal (u .settings) ≡ 0 → known u t f ≡ true
+    → (answer-on u t f x ≡ answer u t f x) × (flash-on u t f x ≡ flash-after u t f x)
+unfolding answer-on answer flash-on flash-after refusal-on refusal
+same-on u t f x s k = rw (s, k, exists-on u t f k) (refl, refl)

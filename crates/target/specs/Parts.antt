@@ -2,8 +2,9 @@
 -- believed.
 use mathlib.Core.Bool.{Bool, cond, _&&_}
 use mathlib.Core.List.{List}
-use Prim.Native.Nat.{ℕ}
-use lib.Dec.{leb}
+use Prim.Native.Nat.{ℕ, _*_}
+use lib.Dec.{eqb, leb}
+use lib.ListN.{length}
 use Rattle.wire.specs.Bits.{bit}
 use Rattle.settings.specs.declared.Settings.{Settings}
 use Rattle.target.specs.declared.Effect.{Effect}
@@ -18,6 +19,7 @@ use Rattle.target.specs.Commands.{Taken, takes}
 use Rattle.target.specs.Interface.{Acted, linked}
 use Rattle.target.specs.Strobes.{target, Turn}
 use Rattle.target.specs.Known.{is-byte, known-link}
+use Rattle.target.specs.Target.{after-reset, after-pause}
 
 -- what a step gives that is not refused
 abbrev pub replying : (reply : ℕ) → Target → Replied
@@ -25,6 +27,11 @@ replying r t = record { number = 0; reply = r; target = t }
 
 abbrev pub replied : Turn → Replied
 replied r = replying (bit (r .reply)) (r .target)
+
+-- a step that is no strobe, by the number of its refusal
+abbrev pub still : (number : ℕ) → Target → (step : ℕ) → Replied
+still n t x =
+    cond (eqb n 0) (replying 1 (cond (eqb x 4) (after-reset t) (cond (eqb x 5) (after-pause t) t))) (record { number = n; reply = 1; target = t })
 
 -- the target after a frame's STOP
 abbrev pub stopped : Target → Acted → Target
@@ -59,3 +66,7 @@ strobe-flash s (Stop e) d f = effect-flash s e d f
 -- a device that exists
 unfoldable pub known-device : Settings → Device → (end : ℕ) → Bool
 known-device s d end = is-byte (d .address) && (leb (d .keys) 3 && known-link (s .count) end (d .link))
+
+-- and a flash of the right length before it
+unfoldable pub known-behind : Settings → Device → (flash : List ℕ) → Bool
+known-behind s d f = eqb (length f) (s .size * s .count) && known-device s d (length f)

@@ -13,8 +13,8 @@ ghost use Rattle.target.specs.Commands.{erased, stored, in-flash, opens,
 ghost use Rattle.target.specs.Interface.{link, device, in-busy, out-ready, status-bits, linked, shown, given, late-of, place-after, put-byte, get-byte, counted, next-keys, begun, acted, served, with-served, does};
 ghost use Rattle.target.specs.Strobes.{target, line, marked, with-bit, sending, begins, after-ins, after-write-length, after-read-length, after-address, after-data, after-long-data, value-sent, after-wait, hears, strobed-at, strobed};
 ghost use Rattle.target.specs.Known.{hearing, known-effect, after-its-wait, is-sent, known-point, is-count, known-block, known-command, known-output, known-link, known};
-ghost use Rattle.target.specs.Target.{cleared, after-reset, between-frames, after-pause, is-step, step-of, refusal, answer, flash-after};
-ghost use Rattle.target.specs.Parts.{replying, replied, stopped, taking, effect-flash, strobe-flash, known-device};
+ghost use Rattle.target.specs.Target.{cleared, after-reset, between-frames, after-pause, is-step, step-of, refusal, answer, flash-after, at-stop, known-on, refusal-on, answer-on, flash-on};
+ghost use Rattle.target.specs.Parts.{replying, replied, stopped, taking, effect-flash, strobe-flash, known-device, known-behind, still};
 use numbers::NO_POINT;
 use numbers::NO_STEP;
 use settings::Settings;
@@ -1205,8 +1205,7 @@ impl Target {
 
     // A strobe, by the point.
     fn strobed(self, t: Settings, flash: &[u8], delays: &[u8], x: u8) -> Replied
-        requires { ⌜ known-point 20 (self .point) ≡ true ⌝ }
-        requires { ⌜ known-link (t .count) (length (now flash)) (self .device .link) ≡ true ⌝ }
+        requires { ⌜ known-on (setup t []) self (now flash) ≡ true ⌝ }
         ensures { λ r. ⌜ r ≡ replied (strobed (setup t (now (delays .entry))) self (now (flash .entry)) (step-of x)) ⌝ }
     {
         let point = self.point;
@@ -1289,9 +1288,7 @@ fn effect_writes(t: Settings, effect: Effect, device: Device, flash: &mut [u8])
 
 // What a strobe makes of the flash: only a STOP writes it.
 fn strobe_writes(t: Settings, target: Target, flash: &mut [u8])
-    requires { ⌜ known-link (t .count) (length (now flash)) (target .device .link) ≡ true ⌝ }
-    requires { ⌜ length (now flash) ≡ t .size * t .count ⌝ }
-    requires { ⌜ known-point 20 (target .point) ≡ true ⌝ }
+    requires { ⌜ known-on (setup t []) target (now flash) ≡ true ⌝ }
     ensures { λ r. ⌜ now (flash .exit) ≡ strobe-flash t (target .point) (target .device) (now (flash .entry)) ⌝ }
 {
     let point = target.point;
@@ -1645,6 +1642,68 @@ fn refusal(t: Settings, target: Target, flash: &[u8], x: u8) -> u32
     NO_POINT
 }
 
+fn at_stop(point: Point) -> bool
+    ensures { λ r. ⌜ r ≡ at-stop point ⌝ }
+{
+    match point {
+        Point::Start => false,
+        Point::Ins { heard: _, value: _ } => false,
+        Point::WriteLength { heard: _, value: _ } => false,
+        Point::ReadLength { heard: _, value: _ } => false,
+        Point::Address { heard: _, value: _ } => false,
+        Point::Data { heard: _, value: _ } => false,
+        Point::LongData { left: _ } => false,
+        Point::Wait { left: _, effect: _ } => false,
+        Point::Waiting {
+            zeros: _,
+            left: _,
+            effect: _,
+        } => false,
+        Point::Send {
+            left: _,
+            value: _,
+            effect: _,
+        } => false,
+        Point::Stop { effect: _ } => true,
+    }
+}
+
+// What a frame acts on at its STOP: a flash as long as the pages of the settings, and a device that exists.
+fn known_behind(t: Settings, device: Device, flash: &[u8]) -> bool
+    ensures { λ r. ⌜ r ≡ known-behind t device (now (flash .entry)) ⌝ }
+{
+    if flash.len() == flash_size(t.size, t.count) {
+        return known_device(t, device, flash.len());
+    }
+    false
+}
+
+fn known_on(t: Settings, target: Target, flash: &[u8]) -> bool
+    ensures { λ r. ⌜ ((ds : List ℕ) → r ≡ known-on (setup t ds) target (now (flash .entry))) ⌝ }
+{
+    let point = target.point;
+    let device = target.device;
+    if known_point(point) {
+        if at_stop(point) {
+            return known_behind(t, device, flash);
+        }
+        return true;
+    }
+    false
+}
+
+fn refusal_on(t: Settings, target: Target, flash: &[u8], x: u8) -> u32
+    ensures { λ r. ⌜ ((ds : List ℕ) → r ≡ refusal-on (setup t ds) target (now (flash .entry)) x) ⌝ }
+{
+    if known_on(t, target, flash) {
+        if is_step(x) {
+            return 0;
+        }
+        return NO_STEP;
+    }
+    NO_POINT
+}
+
 // Steps 4, 5 and 6 reply 1.
 fn accepted(target: Target) -> Replied
     ensures { λ r. ⌜ r ≡ replying 1 target ⌝ }
@@ -1656,12 +1715,10 @@ fn accepted(target: Target) -> Replied
     }
 }
 
-// One step of the target: what it gives back, and the flash afterwards. A refused step changes nothing and replies 1.
-pub fn step(t: Settings, target: Target, flash: &mut [u8], delays: &[u8], x: u8) -> Replied
-    ensures { λ r. ⌜ r ≡ answer (setup t (now (delays .entry))) target (now (flash .entry)) x ⌝ }
-    ensures { λ r. ⌜ now (flash .exit) ≡ flash-after (setup t (now (delays .entry))) target (now (flash .entry)) x ⌝ }
+// A step that is no strobe, by the number of its refusal. A refused one changes nothing and replies 1.
+fn still(number: u32, target: Target, x: u8) -> Replied
+    ensures { λ r. ⌜ r ≡ still number target x ⌝ }
 {
-    let number = refusal(t, target, flash, x);
     if number != 0 {
         return Replied {
             number: number,
@@ -1675,10 +1732,37 @@ pub fn step(t: Settings, target: Target, flash: &mut [u8], delays: &[u8], x: u8)
     if x == 5 {
         return accepted(target.after_pause());
     }
-    if x == 6 {
-        return accepted(target);
+    accepted(target)
+}
+
+// One step of the target: what it gives back, and the flash afterwards. A refused step changes nothing and replies 1.
+pub fn step(t: Settings, target: Target, flash: &mut [u8], delays: &[u8], x: u8) -> Replied
+    ensures { λ r. ⌜ r ≡ answer (setup t (now (delays .entry))) target (now (flash .entry)) x ⌝ }
+    ensures { λ r. ⌜ now (flash .exit) ≡ flash-after (setup t (now (delays .entry))) target (now (flash .entry)) x ⌝ }
+{
+    let number = refusal(t, target, flash, x);
+    if number == 0 {
+        if x < 4 {
+            let replied = target.strobed(t, flash, delays, x);
+            strobe_writes(t, target, flash);
+            return replied;
+        }
     }
-    let replied = target.strobed(t, flash, delays, x);
-    strobe_writes(t, target, flash);
-    replied
+    still(number, target, x)
+}
+
+// The same for a caller that hands the target on from step to step, and need not have all of it tested at each.
+pub fn step_on(t: Settings, target: Target, flash: &mut [u8], delays: &[u8], x: u8) -> Replied
+    ensures { λ r. ⌜ r ≡ answer-on (setup t (now (delays .entry))) target (now (flash .entry)) x ⌝ }
+    ensures { λ r. ⌜ now (flash .exit) ≡ flash-on (setup t (now (delays .entry))) target (now (flash .entry)) x ⌝ }
+{
+    let number = refusal_on(t, target, flash, x);
+    if number == 0 {
+        if x < 4 {
+            let replied = target.strobed(t, flash, delays, x);
+            strobe_writes(t, target, flash);
+            return replied;
+        }
+    }
+    still(number, target, x)
 }

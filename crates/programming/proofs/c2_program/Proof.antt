@@ -1,6 +1,7 @@
 -- `programming::c2_program` meets its contract: each return by the laws of Running.
 use mathlib.Core.Path.{sym, _∙_}
 use borrow.Author.Needs.{needs}
+use Rattle.order.proofs.Opened.{settings-pass}
 use Rattle.following.proofs.Meeting.{bytes-all}
 use Rattle.programming.proofs.Running.{refuses-opening, refuses-flash, accepts}
 use Rattle.programming.proofs.c2_program.Statement.{statement}
@@ -32,7 +33,10 @@ start-requires : tie.Need-start-requires
 start-requires c κs = search needs
 
 play-requires : tie.Need-play-requires
-play-requires c κs = search needs
+play-requires c κs = (
+  settings-pass _ _ _ (sym (c .before .before .before .before .before .opening-refusal .ensures) ∙ c .before .before .before .before .if1 .left),
+  c .before .before .if2 .left ∙ c .before .before .before .flash-bytes .ensures,
+)
 
 outcome-of-requires : tie.Need-outcome-of-requires
 outcome-of-requires c κs = search needs

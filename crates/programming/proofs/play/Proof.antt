@@ -4,13 +4,19 @@ use Prim.Native.Nat.{_-_}
 use native.Mathlib.Omega.{arith}
 use borrow.Author.Needs.{needs}
 use borrow.Author.Tests.{not-true, not-false}
+use Rattle.following.proofs.Meeting.{bytes-all}
 use Rattle.outcome.proofs.Knowing.{Knows, known-at}
+use Rattle.target.specs.Delays.{setup}
+use Rattle.target.specs.Target.{fresh}
+use Rattle.playing.proofs.Knowing.{Lent}
+use Rattle.playing.proofs.Left.{Lasts}
+use Rattle.playing.proofs.Whole.{fresh-known}
 use Rattle.programming.proofs.Looping.{Sofar, starts, goes-known, done, stops, session-at, target-at, flash-at, replies-at}
 use Rattle.programming.proofs.play.Statement.{statement}
 use Rattle.programming.proofs.play.Tie as tie
 
 abbrev Inv-loop : tie.InvT-loop
-Inv-loop t image flash₀ delays budget s₀ task₀ target₀ n₀ flash s task target n = Sofar t image flash₀ delays budget s₀ flash s target n × Knows task (s .point)
+Inv-loop t image flash₀ delays budget s₀ task₀ target₀ n₀ flash s task target n = Sofar t image flash₀ delays budget s₀ flash s target n × (Knows task (s .point) × Lasts (setup t delays) target flash)
 
 abbrev μ-loop : tie.MeasureT-loop
 μ-loop t image flash₀ delays budget s₀ task₀ target₀ n₀ flash s task target n = budget - n
@@ -22,7 +28,11 @@ fresh-requires : tie.Need-fresh-requires Inv-loop μ-loop
 fresh-requires c κs = search needs
 
 loop-holds : tie.Need-loop-holds Inv-loop μ-loop
-loop-holds c = (rw (c .fresh .ensures) (starts _ _ _ _ _ _), rw (c .before .task-at .ensures) (known-at (c .before .before .before .before .before .args .start .point)))
+loop-holds c =
+    let a = c .before .before .before .before .before .args in
+    let bytes = bytes-all (a .flash .now) (λ i. c .before .before .before .slice-known .given i .fits) in
+    let lasts : Lasts (setup (a .t) (a .delays .now)) fresh (a .flash .now) = record { bytes = bytes; exists = fresh-known _ _ (c .before .before .before .before .before .pre .1) } in
+    (rw (c .fresh .ensures) (starts _ _ _ _ _ _), (rw (c .before .task-at .ensures) (known-at (a .start .point)), rw (c .fresh .ensures) lasts))
 
 is-running-requires : tie.Need-is-running-requires Inv-loop μ-loop
 is-running-requires c κs = search needs
@@ -38,8 +48,8 @@ returns c =
 step-by-requires : tie.Need-step-by-requires Inv-loop μ-loop
 step-by-requires c κs = search needs
 
-step-requires : tie.Need-step-requires Inv-loop μ-loop
-step-requires c κs = search needs
+step-on-requires : tie.Need-step-on-requires Inv-loop μ-loop
+step-on-requires c κs = search needs
 
 same-target-requires : tie.Need-same-target-requires Inv-loop μ-loop
 same-target-requires c κs = search needs
@@ -64,13 +74,14 @@ loop-less c = omega (arith, c .before .before .before .before .before .before .b
 
 loop-again : tie.Need-loop-again Inv-loop μ-loop
 loop-again c =
+    let a = c .before .before .before .before .before .before .before .before .before .before .before .before .before .before .before .before .before .before .before .before .args in
+    let bytes = bytes-all (a .delays .now) (λ i. c .before .before .before .before .before .before .before .before .before .before .before .before .before .before .before .before .before .shared-slice-known2 .given i .fits) in
+    let lent : Lent (setup (a .t) (a .delays .now)) = record { id = c .before .before .before .before .before .before .before .before .before .before .before .before .before .before .before .before .before .before .before .before .good .1 .0 .1 .1 .0 .1; delays = bytes; wait = omega arith } in
     let k = c .before .before .before .before .before .before .before .before .before .before .before .before .before .before .loop .inv in
     let run = sym (c .before .before .before .before .before .before .before .before .before .before .before .before .is-running .ensures) ∙ not-false _ (c .before .before .before .before .before .before .before .before .before .before .before .if1 .left) in
-    let b = c .before .before .before .before .before .before .before .before in
-    let long = rw (b .step .ensures .1) at (c .before .before .before .before .before .before .before .flash .given) in
-    let reply = rw (b .step .ensures .0) at (c .before .before .before .low .ensures) in
-    rw (c .before .before .before .before .same-target .ensures, b .step .ensures .1, b .step .ensures .0)
-    (goes-known _ _ _ _ _ _ _ _ _ _ (k .0) _ (k .1) (c .before .before .before .before .before .before .before .before .before .before .before .before .before .loop-test .taken) run _ (b .before .step-by .ensures) long _ reply _ (c .before .same-session .ensures ∙ c .before .before .advance-by .ensures) _ (c .task-next .ensures))
+    let b = c .before .before .before .before .before .before .before .before .step-on .ensures in
+    rw (c .before .before .before .before .same-target .ensures)
+    (goes-known _ _ _ _ _ _ _ _ _ _ (k .0) lent (c .before .before .before .before .before .before .before .before .before .before .before .before .before .before .before .before .before .before .before .before .pre .0) (k .1 .1) _ (k .1 .0) (c .before .before .before .before .before .before .before .before .before .before .before .before .before .loop-test .taken) run _ (c .before .before .before .before .before .before .before .before .before .step-by .ensures) _ (b .0) _ (b .1) (c .before .before .before .before .before .before .before .flash .given) _ (c .before .before .before .low .ensures) _ (c .before .same-session .ensures ∙ c .before .before .advance-by .ensures) _ (c .task-next .ensures))
 
 same-length-2 : tie.Need-same-length-2 Inv-loop μ-loop
 same-length-2 c = search needs
@@ -93,7 +104,7 @@ play-spec =
     same-length
     returns
     step-by-requires
-    step-requires
+    step-on-requires
     same-target-requires
     low-requires
     advance-by-requires

@@ -1,6 +1,7 @@
 -- `target::strobe_writes` meets its contract: each return by the tests on its way and what the calls give.
 use borrow.Author.Needs.{needs}
 use Rattle.target.specs.Known.{known-point}
+use Rattle.target.proofs.Ranges.{stop-exists}
 use Rattle.target.proofs.strobe_writes.Statement.{statement}
 use Rattle.target.proofs.strobe_writes.Tie as tie
 
@@ -9,7 +10,9 @@ enum-known-point c = search needs
 
 effect-writes-requires : tie.Need-effect-writes-requires
 unfolding known-point
-effect-writes-requires c κs = (c .before .before .before .before .before .before .pre .0, (c .before .before .before .before .before .before .pre .1 .0, rw (c .before .before .point .given .1) at (c .before .before .before .before .before .before .pre .1 .1)))
+effect-writes-requires c κs =
+    let w = stop-exists _ _ _ _ (c .before .before .point .given .1) (c .before .before .before .before .before .before .pre) in
+    (w .link, (w .flash, rw (c .before .before .point .given .1) at (w .point)))
 
 same-length : tie.Need-same-length
 same-length c = search needs

@@ -3,7 +3,8 @@ use native.Mathlib.Omega.{arith}
 use borrow.Author.Needs.{needs}
 use Rattle.target.specs.Strobes.{strobed-at}
 use Rattle.target.specs.Known.{known-point}
-use Rattle.target.proofs.Ranges.{hearing-says}
+use Rattle.target.specs.Target.{known-on}
+use Rattle.target.proofs.Ranges.{hearing-says, stop-exists}
 use Rattle.target.proofs.Target.strobed.Statement.{statement}
 use Rattle.target.proofs.Target.strobed.Tie as tie
 
@@ -17,36 +18,36 @@ enum-known-point : tie.Need-enum-known-point
 enum-known-point c = search needs
 
 hears-ins-requires : tie.Need-hears-ins-requires
-unfolding known-point
-hears-ins-requires c κs = hearing-says 2 _ _ (omega arith) (rw (c .before .point .given .1) at (c .before .before .before .before .before .pre .0))
+unfolding known-point known-on
+hears-ins-requires c κs = hearing-says 2 _ _ (omega arith) (rw (c .before .point .given .1) at (c .before .before .before .before .before .pre))
 
 enum-known-point-2 : tie.Need-enum-known-point-2
 enum-known-point-2 c = search needs
 
 hears-write-length-requires : tie.Need-hears-write-length-requires
-unfolding known-point
-hears-write-length-requires c κs = hearing-says 2 _ _ (omega arith) (rw (c .before .point2 .given .1) at (c .before .before .before .before .before .pre .0))
+unfolding known-point known-on
+hears-write-length-requires c κs = hearing-says 2 _ _ (omega arith) (rw (c .before .point2 .given .1) at (c .before .before .before .before .before .pre))
 
 enum-known-point-3 : tie.Need-enum-known-point-3
 enum-known-point-3 c = search needs
 
 hears-read-length-requires : tie.Need-hears-read-length-requires
-unfolding known-point
-hears-read-length-requires c κs = hearing-says 2 _ _ (omega arith) (rw (c .before .point3 .given .1) at (c .before .before .before .before .before .pre .0))
+unfolding known-point known-on
+hears-read-length-requires c κs = hearing-says 2 _ _ (omega arith) (rw (c .before .point3 .given .1) at (c .before .before .before .before .before .pre))
 
 enum-known-point-4 : tie.Need-enum-known-point-4
 enum-known-point-4 c = search needs
 
 hears-address-requires : tie.Need-hears-address-requires
-unfolding known-point
-hears-address-requires c κs = hearing-says 8 _ _ (omega arith) (rw (c .before .point4 .given .1) at (c .before .before .before .before .before .pre .0))
+unfolding known-point known-on
+hears-address-requires c κs = hearing-says 8 _ _ (omega arith) (rw (c .before .point4 .given .1) at (c .before .before .before .before .before .pre))
 
 enum-known-point-5 : tie.Need-enum-known-point-5
 enum-known-point-5 c = search needs
 
 hears-data-requires : tie.Need-hears-data-requires
-unfolding known-point
-hears-data-requires c κs = hearing-says 8 _ _ (omega arith) (rw (c .before .point5 .given .1) at (c .before .before .before .before .before .pre .0))
+unfolding known-point known-on
+hears-data-requires c κs = hearing-says 8 _ _ (omega arith) (rw (c .before .point5 .given .1) at (c .before .before .before .before .before .pre))
 
 enum-known-point-6 : tie.Need-enum-known-point-6
 enum-known-point-6 c = search needs
@@ -80,7 +81,9 @@ enum-known-point-10 c = search needs
 
 stops-requires : tie.Need-stops-requires
 unfolding known-point
-stops-requires c κs = (c .before .before .before .before .before .pre .1, rw (c .before .point10 .given .1) at (c .before .before .before .before .before .pre .0))
+stops-requires c κs =
+    let w = stop-exists _ _ _ _ (c .before .point10 .given .1) (c .before .before .before .before .before .pre) in
+    (w .link, rw (c .before .point10 .given .1) at (w .point))
 
 returns : tie.Need-returns
 unfolding strobed-at
