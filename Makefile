@@ -3,9 +3,6 @@
 CARGO := cargo run --quiet --offline --manifest-path compare/Cargo.toml --target-dir target/compare --
 BENCH := cargo run --quiet --release --offline --manifest-path bench/Cargo.toml --target-dir target/bench --
 
-# Crates come in levels, and edits in batches: eight at a time, so that few processors wait for the longest of a batch.
-export RT_JOBS ?= 8
-
 LIBRARIES := target/staticlib/libprobe.a target/staticlib/libc2.a
 
 PROGRAM := target/bin/flash

@@ -15,7 +15,8 @@ use Rattle.outcome.proofs.Knowing.{Knows, advanced-known, step-known, known-nex
 use Rattle.target.specs.declared.Target.{Target}
 use Rattle.target.specs.Delays.{setup}
 use Rattle.target.specs.declared.Replied.{Replied}
-use Rattle.target.specs.Target.{fresh, answer, flash-after, answer-on, flash-on}
+use Rattle.target.specs.Target.{fresh, answer, flash-after}
+use Rattle.target.specs.StepOn.{answer-on, flash-on}
 use Rattle.target.proofs.Steps.{same-on}
 use Rattle.playing.proofs.Knowing.{Lent}
 use Rattle.playing.proofs.Left.{Lasts, answer-lasts}

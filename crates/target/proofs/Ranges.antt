@@ -17,7 +17,7 @@ use Rattle.target.specs.declared.Link.{Link}
 use Rattle.target.specs.declared.Target.{Target}
 use Rattle.target.specs.Delays.{Setup}
 use Rattle.target.specs.Known.{hearing, is-byte, known-point, is-count, known-block, known-command, known-output, known-link, known}
-use Rattle.target.specs.Target.{at-stop, known-on}
+use Rattle.target.specs.StepOn.{at-stop, known-on}
 use Rattle.target.specs.Parts.{known-device, known-behind}
 
 -- fewer than eight bits heard, and their value is a byte

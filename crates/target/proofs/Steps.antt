@@ -16,7 +16,8 @@ use Rattle.target.specs.declared.Replied.{Replied}
 use Rattle.target.specs.Delays.{Setup}
 use Rattle.target.specs.Strobes.{line, turn, strobed}
 use Rattle.target.specs.Known.{known}
-use Rattle.target.specs.Target.{after-reset, after-pause, stepped, is-step, step-of, refusal, answered, flash-left, answer, flash-after, known-on, refusal-on, answer-on, flash-on}
+use Rattle.target.specs.Target.{after-reset, after-pause, stepped, is-step, step-of, refusal, answered, flash-left, answer, flash-after}
+use Rattle.target.specs.StepOn.{known-on, refusal-on, answer-on, flash-on}
 use Rattle.target.specs.Parts.{replied, strobe-flash, still}
 use Rattle.target.proofs.Ranges.{exists-on}
 use Rattle.target.proofs.Flashed.{strobed-flash}

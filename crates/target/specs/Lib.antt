@@ -5,3 +5,4 @@ pub mod Strobes
 pub mod Known
 pub mod Target
 pub mod Parts
+pub mod StepOn

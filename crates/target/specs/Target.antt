@@ -17,7 +17,7 @@ use Rattle.target.specs.declared.Replied.{Replied}
 use Rattle.target.specs.Delays.{Setup}
 use Rattle.target.specs.Interface.{link, device}
 use Rattle.target.specs.Strobes.{target, Turn, turn, strobed}
-use Rattle.target.specs.Known.{known-point, known}
+use Rattle.target.specs.Known.{known}
 
 -- address 0, interface off, no command, output, d or e, and no key write since
 unfoldable pub cleared : Device
@@ -95,30 +95,3 @@ answer u t f x = answered (refusal u t f x) u t f x
 
 unfoldable pub flash-after : Setup → Target → List ℕ → (step : ℕ) → List ℕ
 flash-after u t f x = flash-left (refusal u t f x) u t f x
-
--- For a caller that hands the target on from step to step: settings are not tested, and the state is at a STOP, where a frame acts on it; elsewhere
--- only its point is. From a state that exists, with settings that pass, it is the same step (`same-on` in proofs/Steps).
-abbrev pub at-stop : Point → Bool
-at-stop Start = false
-at-stop (Ins n v) = false
-at-stop (WriteLength n v) = false
-at-stop (ReadLength n v) = false
-at-stop (Address n v) = false
-at-stop (Data n v) = false
-at-stop (LongData n) = false
-at-stop (Wait n e) = false
-at-stop (Waiting z n e) = false
-at-stop (Send n v e) = false
-at-stop (Stop e) = true
-
-unfoldable pub known-on : Setup → Target → List ℕ → Bool
-known-on u t f = cond (at-stop (t .point)) (known u t f) (known-point (u .wait) (t .point))
-
-unfoldable pub refusal-on : Setup → Target → List ℕ → (step : ℕ) → ℕ
-refusal-on u t f x = cond (known-on u t f) (cond (is-step x) 0 no-step) no-point
-
-unfoldable pub answer-on : Setup → Target → List ℕ → (step : ℕ) → Replied
-answer-on u t f x = answered (refusal-on u t f x) u t f x
-
-unfoldable pub flash-on : Setup → Target → List ℕ → (step : ℕ) → List ℕ
-flash-on u t f x = flash-left (refusal-on u t f x) u t f x

@@ -13,7 +13,8 @@ ghost use Rattle.target.specs.Commands.{erased, stored, in-flash, opens,
 ghost use Rattle.target.specs.Interface.{link, device, in-busy, out-ready, status-bits, linked, shown, given, late-of, place-after, put-byte, get-byte, counted, next-keys, begun, acted, served, with-served, does};
 ghost use Rattle.target.specs.Strobes.{target, line, marked, with-bit, sending, begins, after-ins, after-write-length, after-read-length, after-address, after-data, after-long-data, value-sent, after-wait, hears, strobed-at, strobed};
 ghost use Rattle.target.specs.Known.{hearing, known-effect, after-its-wait, is-sent, known-point, is-count, known-block, known-command, known-output, known-link, known};
-ghost use Rattle.target.specs.Target.{cleared, after-reset, between-frames, after-pause, is-step, step-of, refusal, answer, flash-after, at-stop, known-on, refusal-on, answer-on, flash-on};
+ghost use Rattle.target.specs.Target.{cleared, after-reset, between-frames, after-pause, is-step, step-of, refusal, answer, flash-after};
+ghost use Rattle.target.specs.StepOn.{at-stop, known-on, refusal-on, answer-on, flash-on};
 ghost use Rattle.target.specs.Parts.{replying, replied, stopped, taking, effect-flash, strobe-flash, known-device, known-behind, still};
 use numbers::NO_POINT;
 use numbers::NO_STEP;

@@ -1,7 +1,7 @@
 -- `target::refusal_on` meets its contract: each return by the tests on its way and what the calls give.
 use mathlib.Core.Path.{sym, _∙_}
 use borrow.Author.Needs.{needs}
-use Rattle.target.specs.Target.{refusal-on}
+use Rattle.target.specs.StepOn.{refusal-on}
 use Rattle.target.proofs.refusal_on.Statement.{statement}
 use Rattle.target.proofs.refusal_on.Tie as tie
 

@@ -4,7 +4,7 @@ use mathlib.Core.List.{[]}
 use native.Mathlib.Omega.{arith}
 use borrow.Author.Needs.{needs}
 use Rattle.target.specs.Delays.{setup}
-use Rattle.target.specs.Target.{answer-on, flash-on}
+use Rattle.target.specs.StepOn.{answer-on, flash-on}
 use Rattle.target.proofs.Steps.{accepts-on, strobe-answered, still-answered}
 use Rattle.target.proofs.step_on.Statement.{statement}
 use Rattle.target.proofs.step_on.Tie as tie

@@ -3,7 +3,7 @@ use native.Mathlib.Omega.{arith}
 use borrow.Author.Needs.{needs}
 use Rattle.target.specs.Strobes.{strobed-at}
 use Rattle.target.specs.Known.{known-point}
-use Rattle.target.specs.Target.{known-on}
+use Rattle.target.specs.StepOn.{known-on}
 use Rattle.target.proofs.Ranges.{hearing-says, stop-exists}
 use Rattle.target.proofs.Target.strobed.Statement.{statement}
 use Rattle.target.proofs.Target.strobed.Tie as tie
