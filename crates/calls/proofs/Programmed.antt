@@ -8,7 +8,7 @@ use lib.ListN.{length, take, replicate, length-replicate}
 use Rattle.wire.specs.Bits.{bit}
 use Rattle.wire.specs.Step.{reset, code}
 use Rattle.wire.specs.Frames.{strobes}
-use Rattle.wire.specs.Exchange.{Exchange, ended, strobe, fed, asks, steps, taken, outcome-of}
+use Rattle.wire.specs.Exchange.{Exchange, ended, strobe, ask, at, fed, asks, steps, taken, outcome-of}
 use Rattle.settings.specs.declared.Settings.{Settings}
 use Rattle.settings.specs.Accepted.{settings-refusal}
 use Rattle.order.specs.Order.{lead, order, session-order}
@@ -39,7 +39,7 @@ use Rattle.playing.specs.Playing
 use Rattle.playing.specs.Programmed as Definitions
 
 -- the first step is the reset
-first-step : (t : Settings) (first : ℕ) (image : List ℕ) → asks (exchange-of session-limits t first image) ≡ code reset
+pub first-step : (t : Settings) (first : ℕ) (image : List ℕ) → asks (exchange-of session-limits t first image) ≡ code reset
 unfolding asks conversation session-order order lead strobes
 first-step t first image = refl
 
@@ -115,7 +115,7 @@ module _ (t : Settings) (first : ℕ) (image : List ℕ) (o : Opening t first im
         go : (z : Exchange) → fed e rs ≡ z → Programmed t first image ds f s x
         go (ended q) h =
             in-c (rw (own-ends (setup t ds) e y f rs q own-is h) at (programmed session-limits (setup t ds) first image y f o (stands t ds f s r .met)))
-        go (strobe g z k) h = absurd (d (ap (λ (v : Exchange). outcome-of v .number) h))
+        go (ask (at g z) k) h = absurd (d (ap (λ (v : Exchange). outcome-of v .number) h))
 
 -- the figure at the opening is the order's
 opened-left : (t : Settings) (first : ℕ) (image held : List ℕ) → Opening t first image → length held ≡ 32

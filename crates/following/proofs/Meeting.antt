@@ -8,7 +8,7 @@ use lib.ListN.{length, getD}
 use Rattle.wire.specs.Bits.{Bytes}
 use Rattle.wire.specs.Step.{Step}
 use Rattle.wire.specs.Field.{Field}
-use Rattle.wire.specs.Exchange.{Exchange, strobe, outcome, fed, outcome-of}
+use Rattle.wire.specs.Exchange.{Exchange, strobe, ask, at, outcome, fed, outcome-of}
 use Rattle.wire.proofs.Following.{remaining-asks}
 use Rattle.order.specs.Conversation.{session-limits}
 use Rattle.order.specs.Point.{left-to-say, follow-up, strobes-of}
@@ -26,6 +26,7 @@ use Rattle.following.specs.Following.{image-length, exchange-at, after-r
 use Rattle.outcome.specs.Standing.{is-running, number-of, offset-of}
 use Rattle.wire.specs.Exchange
 use Rattle.order.specs.Point
+use Rattle.exchange.specs.Exchange as Shared
 
 -- an ended session stays as it is
 pub advanced-ended : (s : Session) (r : ℕ) (image : List ℕ) → is-running (s .point) ≡ false → advanced 20 256 s r image ≡ s
@@ -43,8 +44,8 @@ after-ended s image (r ∷ rs) e = rw (advanced-ended s r image e) (after-ended 
 
 -- an exchange that has not ended
 abbrev pub Asked : Exchange → Type 0
-Asked (Exchange.ended o) = ⊥
-Asked (strobe f x k) = Unit {0}
+Asked (Shared.ended o) = ⊥
+Asked (ask (at f x) k) = Unit {0}
 
 abbrev Runs : Point.Point → Type 0
 Runs (Point.running a acts p) = Unit {0}
@@ -92,12 +93,12 @@ still-asks s image h e = go (position s image) (position-valid 20 256 s image (h
 
 -- an ended session's exchange is over, with its outcome
 pub ended-over : (s : Session) (image : List ℕ) → is-running (s .point) ≡ false
-    → exchange-at s image ≡ Exchange.ended (record { number = number-of (s .point); offset = offset-of (s .point) })
+    → exchange-at s image ≡ Shared.ended (record { number = number-of (s .point); offset = offset-of (s .point) })
 unfolding left-to-say point-position
 ended-over s image e = go (s .point) e
   where
     go : (y : SessionPoint) → is-running y ≡ false
-        → left-to-say session-limits (point-position s image y) ≡ Exchange.ended (record { number = number-of y; offset = offset-of y })
+        → left-to-say session-limits (point-position s image y) ≡ Shared.ended (record { number = number-of y; offset = offset-of y })
     go (Running g i j k q c v) f = absurd (let z : _≡_ {A = ℕ} 0 1 = cc in omega arith)
     go (Ended n o) f = refl
 

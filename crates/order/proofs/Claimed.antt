@@ -25,6 +25,7 @@ use Rattle.order.proofs.Costs.{starting-figure}
 use Rattle.order.proofs.Every.{every-session, sound}
 use Rattle.order.proofs.Reaching.{passable, way-acts}
 use Rattle.order.proofs.Opened.{Opened, opened}
+use Rattle.exchange.specs.Exchange as Shared
 
 -- points after replies
 reached-valid : (l : Limits) → Positive l → (x : Point) → Valid l x → (rs : List ℕ) → Valid l (reached l x rs)
@@ -71,7 +72,7 @@ own-conversation l (poll ok ∷ acts) (more p f) = own-polling (l .wait) (l .rea
 own-conversation l (expect x o ∷ acts) (more p f) =
     own-strobes (l .wait) (frame DataRead 0) 0 0 _ (masters-frame DataRead 0) (λ y. go (eqb y x) (own-conversation l acts f))
   where
-    go : (t : Bool) → Own (conversation l acts) → Own (cond t (conversation l acts) (Exchange.ended o))
+    go : (t : Bool) → Own (conversation l acts) → Own (cond t (conversation l acts) (Shared.ended o))
     go true g = g
     go false g = own-ended
 

@@ -13,6 +13,7 @@ use Rattle.order.specs.Order.{session-order}
 use Rattle.order.specs.Conversation.{Limits, Positive, session-limits, conversation}
 use Rattle.order.specs.Point.{Point, ended, begin, next, reached, left-to-say}
 use Rattle.order.specs.Figure.{figure}
+use Rattle.exchange.specs.Exchange as Shared
 
 -- an opening that is not refused, over bytes
 pub record Opening (s : Settings) (first : ℕ) (image : List ℕ) : Type 0 where
@@ -76,7 +77,7 @@ Figure-starts = (s : Settings) (first : ℕ) (image : List ℕ) → Opening s fi
 pub record Reaching (l : Limits) (s : Settings) (first : ℕ) (image : List ℕ) : Type 0 where
   pub replies : List ℕ
   pub count : taken (exchange-of l s first image) replies ≡ figure l (begin (session-order s first image))
-  pub ends : fed (exchange-of l s first image) replies ≡ Exchange.ended (outcome done)
+  pub ends : fed (exchange-of l s first image) replies ≡ Shared.ended (outcome done)
 
 abbrev pub Figure-reached : Type 0
 Figure-reached = (l : Limits) (s : Settings) (first : ℕ) (image : List ℕ) → Positive l → Opening s first image → Reaching l s first image

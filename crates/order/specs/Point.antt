@@ -13,6 +13,7 @@ use Rattle.wire.specs.declared.Moved.{Moved}
 use Rattle.wire.specs.declared.Moved.the-variants.{Within, Stopped, WaitLimit}
 use Rattle.order.specs.Acts.{Act, send, poll, expect}
 use Rattle.order.specs.Conversation.{Limits, polling, conversation}
+use Rattle.exchange.specs.Exchange as Shared
 
 pub data Point : Type 0 where
   -- the acts still to be done, of which the first is begun, and the place in its frame; a poll counts its unsatisfied reads there
@@ -56,11 +57,11 @@ next l (running a acts p) (suc (suc r)) = ended (outcome bad-reply)
 unfoldable pub follow-up : Limits → Act → List Act → (reads byte : ℕ) → Exchange
 follow-up l (send ss) acts n x = conversation l acts
 follow-up l (poll ok) acts n x = cond (ok x) (conversation l acts) (polling (l .wait) (l .reads - suc n) ok (conversation l acts))
-follow-up l (expect y o) acts n x = cond (eqb x y) (conversation l acts) (Exchange.ended o)
+follow-up l (expect y o) acts n x = cond (eqb x y) (conversation l acts) (Shared.ended o)
 
 -- what is still to be said at a point
 unfoldable pub left-to-say : Limits → Point → Exchange
-left-to-say l (ended o) = Exchange.ended o
+left-to-say l (ended o) = Shared.ended o
 left-to-say l (running a acts p) = remaining (l .wait) (strobes-of a) p (follow-up l a acts (p .count))
 
 -- the point after replies in a row

@@ -6,7 +6,7 @@ use Prim.Native.Nat.{ℕ}
 use lib.Dec.{eqb, ltb}
 use Rattle.laws.proofs.Testing.{by-test}
 use Rattle.wire.specs.Step.{Step, released, driven, reset, pause, off, code, drives}
-use Rattle.wire.specs.Exchange.{Exchange, ended, strobe}
+use Rattle.wire.specs.Exchange.{Exchange, ended, strobe, ask, at}
 use Rattle.settings.specs.declared.Settings.{Settings}
 use Rattle.target.specs.declared.Command.{Command}
 use Rattle.target.specs.declared.Command.the-variants.{Ready, ErasePage, EraseConfirm, High, Low, LengthCode, Byte, PastEnd}
@@ -137,7 +137,7 @@ step-unmarked u t f reset h = h
 step-unmarked u t f pause h = h
 step-unmarked u t f off h = h
 
-answer-unmarked : (u : Setup) (t : Target) (f : List ℕ) (x : ℕ) → answer u t f x .target .collision ≡ false → t .collision ≡ false
+pub answer-unmarked : (u : Setup) (t : Target) (f : List ℕ) (x : ℕ) → answer u t f x .target .collision ≡ false → t .collision ≡ false
 unfolding answer
 answer-unmarked u t f x h = by-test (eqb (refusal u t f x) 0) (λ e. step-unmarked u t f (step-of x) (rw e at h)) (λ e. rw e at h)
 
@@ -145,6 +145,6 @@ answer-unmarked u t f x h = by-test (eqb (refusal u t f x) 0) (λ e. step-unmark
 pub play-unmarked : (u : Setup) (e : Exchange) (t : Target) (f : List ℕ) → play u e t f .target .collision ≡ false → t .collision ≡ false
 unfolding against whole-step
 play-unmarked u (ended o) t f h = h
-play-unmarked u (strobe g s k) t f h =
+play-unmarked u (ask (at g s) k) t f h =
     let x = answer u t f (code s) in
     answer-unmarked u t f (code s) (play-unmarked u (k (eqb (x .reply) 1)) (x .target) (flash-after u t f (code s)) h)

@@ -1,8 +1,15 @@
 pub mod Frames
+pub mod Onto
+pub mod Runs
 pub mod Serving
 pub mod Commands
 pub mod Pages
-pub mod Session
+pub mod Written
+pub mod Refusing
+pub mod Listed
+pub mod Lead
+pub mod Ending
+pub mod Rising
 pub mod Points
 pub mod Knowing
 pub mod Whole

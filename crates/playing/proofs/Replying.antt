@@ -11,7 +11,7 @@ use Rattle.laws.proofs.Testing.{by-test}
 use Rattle.wire.specs.Bits.{bit}
 use Rattle.wire.specs.Step.{Step, code}
 use Rattle.wire.specs.Field.{Field}
-use Rattle.wire.specs.Exchange.{Exchange, ended, strobe, Outcome, after, fed, asks, steps, taken, outcome-of}
+use Rattle.wire.specs.Exchange.{Exchange, ended, strobe, ask, at, Outcome, after, fed, asks, steps, taken, outcome-of}
 use Rattle.wire.proofs.Bits.{bit-small}
 use Rattle.wire.proofs.Exchanges.{fed-ended, taken-append, after-bit}
 use Rattle.target.specs.declared.Target.{Target}
@@ -42,7 +42,7 @@ pub own-play : (u : Setup) (e : Exchange) (t : Target) (f : List ℕ) (rs : List
 unfolding fed steps taken answered own-replies left-by against whole-step asks after
 own-play u e t f [] h = refl
 own-play u (ended o) t f (r ∷ rs) h = rw (fed-ended o rs)
-own-play u (strobe g s k) t f (r ∷ rs) h =
+own-play u (ask (at g s) k) t f (r ∷ rs) h =
     let x = answer u t f (code s) in
     let e = after (strobe g s k) r in
     let same : r ≡ x .reply = head-is r (x .reply) _ _ h in
@@ -64,7 +64,7 @@ running-takes : (e : Exchange) (rs : List ℕ) (g : Field) (s : Step) (k : Bool 
 unfolding taken steps fed
 running-takes e [] g s k q = refl
 running-takes (ended o) (r ∷ rs) g s k q = absurd (let z : _≡_ {A = ℕ} 0 1 = cc (fed-ended o (r ∷ rs)) in omega arith)
-running-takes (strobe h x j) (r ∷ rs) g s k q = ap suc (running-takes (after (strobe h x j) r) rs g s k q)
+running-takes (ask (at h x) j) (r ∷ rs) g s k q = ap suc (running-takes (after (strobe h x j) r) rs g s k q)
 
 pub enough-end : (e : Exchange) (n : ℕ) (rs : List ℕ) → ((qs : List ℕ) → taken e qs ≤ n) → n ≤ length rs → (o : Outcome) × (fed e rs ≡ ended o)
 unfolding taken steps
@@ -72,7 +72,7 @@ enough-end e n rs h m = go (fed e rs) refl
   where
     go : (x : Exchange) → fed e rs ≡ x → (o : Outcome) × (fed e rs ≡ ended o)
     go (ended o) q = (o, q)
-    go (strobe g s k) q =
+    go (ask (at g s) k) q =
         let one : taken (fed e rs) (0 ∷ []) ≡ 1 = ap (λ (x : Exchange). taken x (0 ∷ [])) q in
         absurd (omega (arith, h (rs ++ 0 ∷ []), taken-append e rs (0 ∷ []), running-takes e rs g s k q))
 
@@ -100,7 +100,7 @@ own-head u t f s xs ys h = rw (reply-again (answer u t f (code s) .reply) (reply
 pub played-replies : (u : Setup) (e : Exchange) (t : Target) (f : List ℕ) → Given u e t f (replies-of (whole-step u) e t f)
 unfolding replies-of taken steps answered own-replies fed against asks
 played-replies u (ended o) t f = record { all-taken = refl; own = refl; ends = refl }
-played-replies u (strobe g s k) t f =
+played-replies u (ask (at g s) k) t f =
     let w = whole-step u t f s in
     let x = played-replies u (k (w .reply)) (w .target) (w .flash) in
     record {
@@ -110,17 +110,17 @@ played-replies u (strobe g s k) t f =
     }
 
 -- The target gets the first step and every step written. The last is 6 where the exchange has ended, and changes nothing.
-all-steps : (e : Exchange) (rs : List ℕ) → asks e ∷ steps e rs ≡ answered e rs ++ asks (fed e rs) ∷ []
+pub all-steps : (e : Exchange) (rs : List ℕ) → asks e ∷ steps e rs ≡ answered e rs ++ asks (fed e rs) ∷ []
 unfolding answered taken steps fed after
 all-steps e [] = refl
 all-steps (ended o) (r ∷ rs) = rw (fed-ended o rs)
-all-steps (strobe g s k) (r ∷ rs) = ap (λ (xs : List ℕ). asks (strobe g s k) ∷ xs) (all-steps (after (strobe g s k) r) rs)
+all-steps (ask (at g s) k) (r ∷ rs) = ap (λ (xs : List ℕ). asks (strobe g s k) ∷ xs) (all-steps (after (strobe g s k) r) rs)
 
 off-keeps : (u : Setup) (t : Target) (f : List ℕ) → left-by u t f (6 ∷ []) ≡ record { target = t; flash = f }
 unfolding left-by answer flash-after stepped step-of
 off-keeps u t f = by-test (eqb (refusal u t f 6) 0) (λ e. rw e) (λ e. rw e)
 
-left-append : (u : Setup) (xs ys : List ℕ) (t : Target) (f : List ℕ)
+pub left-append : (u : Setup) (xs ys : List ℕ) (t : Target) (f : List ℕ)
     → left-by u t f (xs ++ ys) ≡ left-by u (left-by u t f xs .target) (left-by u t f xs .flash) ys
 unfolding left-by
 left-append u [] ys t f = refl

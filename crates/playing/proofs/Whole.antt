@@ -1,30 +1,31 @@
 -- The target's whole step: from a state that exists it is never refused for a step of the session, so a session is played as against the steps
 -- that are not refused.
-use mathlib.Core.Path.{_≡_, refl}
+use mathlib.Core.Path.{_≡_, refl, subst, subst⁻¹}
 use mathlib.Core.Bool.{Bool, true, false}
 use mathlib.Core.List.{List}
-use Prim.Native.Nat.{ℕ, zero, suc, _*_, _/_}
+use Prim.Native.Nat.{ℕ, _*_, _/_}
 use native.Mathlib.Omega.{arith}
 use borrow.Author.Tests.{eq-eqb}
-use lib.Dec.{eqb, eqb·suc-zero}
+use lib.Dec.{eqb}
 use lib.ListN.{length}
 use Rattle.wire.specs.Bits.{bit, Bytes}
 use Rattle.wire.specs.Step.{Step, released, driven, reset, pause, off, code}
-use Rattle.wire.specs.Exchange.{Exchange, ended, strobe}
+use Rattle.wire.specs.Exchange.{Exchange, ended, strobe, ask, at}
 use Rattle.settings.specs.Accepted.{settings-refusal}
-use Rattle.settings.specs.declared.Settings.{Settings}
-use Rattle.order.specs.Opening.{opening-refusal}
-use Rattle.order.specs.Order.{session-order}
+use Rattle.order.specs.Order.{Page, pages, rising, order, session-order}
 use Rattle.order.specs.Conversation.{conversation}
-use Rattle.order.proofs.Opened.{Opened, opened}
+use Rattle.order.proofs.Opened.{Opened, opened, settings-pass}
 use Rattle.target.specs.declared.Target.{Target}
 use Rattle.target.specs.Delays.{Setup}
 use Rattle.target.specs.Known.{known, known-point, known-command, known-output, known-link, is-byte}
 use Rattle.target.specs.Target.{stepped, is-step, step-of, refusal, answer, flash-after, fresh, cleared}
 use Rattle.playing.specs.Playing.{against, whole-step, play}
-use Rattle.playing.specs.Programmed.{laid-over, Programmed, Programs}
+use Rattle.playing.specs.Programmed.{Programmed, Programs}
 use Rattle.playing.proofs.Serving.{Fit}
-use Rattle.playing.proofs.Session.{session-programs}
+use Rattle.playing.specs.Pages.{with-pages, Programs-pages}
+use Rattle.playing.proofs.Ending.{order-programs}
+use Rattle.playing.proofs.Rising.{all-at, rising-named, laid-is}
+use Rattle.settings.proofs.Accepting.{Facts, facts}
 use Rattle.playing.proofs.Knowing.{Lent, Exists, known-says, known-is, stepped-known}
 
 -- a step's byte is the step
@@ -65,41 +66,42 @@ pub play-is-playing : (u : Setup) → Lent u → settings-refusal (u .settings) 
     → play u e t f ≡ against (stepped u) e t f
 unfolding against
 play-is-playing u lent a (ended o) t f hf k = refl
-play-is-playing u lent a (strobe g s k) t f hf x =
+play-is-playing u lent a (ask (at g s) k) t f hf x =
     let y = stepped-known u lent t f s hf x in
     rw (whole-is-stepped u t f s a (known-is u t f x))
     (play-is-playing u lent a (k (stepped u t f s .reply)) (stepped u t f s .target) (stepped u t f s .flash) (y .bytes) (y .exists))
 
--- settings are accepted where the opening is
-pub settings-accepted : (s : Settings) (first n : ℕ) → opening-refusal s first n ≡ 0 → settings-refusal s ≡ 0
-unfolding opening-refusal
-settings-accepted s first n e = go (settings-refusal s) refl
-  where
-    go : (m : ℕ) → settings-refusal s ≡ m → m ≡ 0
-    go zero h = refl
-    go (suc m) h = rw (h, eqb·suc-zero m) at e
+-- Demand 3 over any pages,
+pub programs-pages : Programs-pages
+programs-pages l u ps t f h =
+    let a = h .accepted in
+    let met = h .met in
+    let x : Facts (u .settings) = facts (u .settings) a in
+    let lent : Lent u = record { id = h .id; delays = met .delays; wait = met .some } in
+    let fit : Fit u (l .wait) (l .reads) =
+    record { low = x .fpdat; high = h .fpdat; id = h .id; delays = met .delays; some = met .some; wait = met .wait; reads = met .reads } in
+    let k : Exists u t f = known-says u t f (met .state) in
+    subst⁻¹ (Programmed (with-pages (u .settings .size) ps f)) (play-is-playing u lent a (conversation l (order (u .settings) ps)) t f (met .flash) k)
+    (order-programs u (l .wait) (l .reads) fit (x .blocks) (x .size) (omega (arith, x .some)) (x .bytes) ps t f (met .unmarked)
+    (all-at (u .settings) ps (h .named .fits)) (k .flash))
 
--- Demand 3 over the definitions.
+-- and over an image from a first page on.
 pub programmed : Programs
+unfolding session-order
 programmed l u first image t f o m =
-    rw (play-is-playing u lent (settings-accepted (u .settings) first (length image) (o .accepted)) _ t f (m .flash) (known-says u t f (m .state)))
-    (go (length image / u .settings .size) refl)
-  where
-    x : Opened (u .settings) first (length image)
-    x = opened (u .settings) first (length image) (o .accepted)
-
-    lent : Lent u
-    lent = record { id = o .id; delays = m .delays; wait = m .some }
-
-    fit : Fit u (l .wait) (l .reads)
-    fit = record { low = x .settings .fpdat; high = o .fpdat; id = o .id; delays = m .delays; some = m .some; wait = m .wait; reads = m .reads }
-
-    go : (n : ℕ) → length image / u .settings .size ≡ n
-        → Programmed (laid-over (first * u .settings .size) image f) (against (stepped u) (conversation l (session-order (u .settings) first image)) t f)
-    go zero e = let z : length image ≡ 0 * u .settings .size = rw e at (x .whole) in absurd (omega (arith, x .some))
-    go (suc n) e =
-        session-programs u (l .wait) (l .reads) fit (x .settings .blocks) first n image f t (x .settings .size) (omega (arith, x .settings .some))
-        (x .settings .bytes) (known-says u t f (m .state) .flash) e (rw e at (x .whole)) (rw e at (x .inside)) (o .bytes) (m .unmarked)
+    let s = u .settings in
+    let x : Opened s first (length image) = opened s first (length image) (o .accepted) in
+    let n : ℕ = length image / s .size in
+    let ps : List Page = pages (s .size) 0 (rising first n) image in
+    subst (λ (F : List ℕ). Programmed F (play u (conversation l (order s ps)) t f)) (laid-is s first image f x (known-says u t f (m .state) .flash))
+    (programs-pages l u ps t f
+    (record {
+      accepted = settings-pass s first (length image) (o .accepted);
+      id = o .id;
+      fpdat = o .fpdat;
+      named = rising-named s n first 0 image (omega (arith, x .whole)) (o .bytes) (x .inside);
+      met = m;
+    }))
 
 -- a fresh target is in a state that exists, with no mark
 pub fresh-known : (u : Setup) (f : List ℕ) → length f ≡ u .settings .size * u .settings .count → known u fresh f ≡ true

@@ -1,2 +1,4 @@
 pub mod Playing
 pub mod Programmed
+pub mod Covers
+pub mod Pages

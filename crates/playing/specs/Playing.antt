@@ -6,7 +6,7 @@ use lib.Dec.{eqb}
 use lib.ListN.{take}
 use Rattle.wire.specs.Bits.{bit}
 use Rattle.wire.specs.Step.{Step, code}
-use Rattle.wire.specs.Exchange.{Exchange, ended, strobe, Outcome, fed, asks, steps, taken, outcome-of}
+use Rattle.wire.specs.Exchange.{Exchange, ended, strobe, ask, at, Outcome, fed, asks, steps, taken, outcome-of}
 use Rattle.target.specs.declared.Target.{Target}
 use Rattle.target.specs.Delays.{Setup}
 use Rattle.target.specs.Strobes.{Turn, turn}
@@ -21,12 +21,12 @@ pub record Played : Type 0 where
 -- an exchange against whatever answers its steps
 unfoldable pub against : (Target → List ℕ → Step → Turn) → Exchange → Target → List ℕ → Played
 against step (ended o) t f = record { outcome = o; target = t; flash = f }
-against step (strobe g s k) t f = against step (k (step t f s .reply)) (step t f s .target) (step t f s .flash)
+against step (ask (at g s) k) t f = against step (k (step t f s .reply)) (step t f s .target) (step t f s .flash)
 
 -- the replies that it is given
 unfoldable pub replies-of : (Target → List ℕ → Step → Turn) → Exchange → Target → List ℕ → List ℕ
 replies-of step (ended o) t f = []
-replies-of step (strobe g s k) t f =
+replies-of step (ask (at g s) k) t f =
     bit (step t f s .reply) ∷ replies-of step (k (step t f s .reply)) (step t f s .target) (step t f s .flash)
 
 -- the target's whole step, refusals included, by the step's byte

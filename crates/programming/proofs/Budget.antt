@@ -6,7 +6,7 @@ use native.Mathlib.Omega.{arith}
 use borrow.Author.Tests.{eq-eqb}
 use lib.ListN.{length}
 use Rattle.wire.specs.Step.{code}
-use Rattle.wire.specs.Exchange.{Exchange, ended, strobe, Outcome, after, fed, steps, taken, outcome-of}
+use Rattle.wire.specs.Exchange.{Exchange, ended, strobe, ask, at, Outcome, after, fed, steps, taken, outcome-of}
 use Rattle.order.specs.Conversation.{Positive, session-limits}
 use Rattle.order.specs.Point.{reached}
 use Rattle.order.specs.Claims.{exchange-of}
@@ -30,12 +30,12 @@ pub record Ends (u : Setup) (e : Exchange) (y : Target) (f : List ℕ) (p : Left
 enough : (n : ℕ) (u : Setup) (e : Exchange) (y : Target) (f : List ℕ) → ((qs : List ℕ) → taken e qs ≤ n) → Ends u e y f (played n u e y f)
 unfolding played against whole-step taken steps
 enough zero u (ended o) y f h = record { exchange = refl; target = refl; flash = refl }
-enough zero u (strobe g x k) y f h = absurd (let z = h (0 ∷ []) in omega arith)
+enough zero u (ask (at g x) k) y f h = absurd (let z = h (0 ∷ []) in omega arith)
 enough (suc n) u (ended o) y f h = record { exchange = refl; target = refl; flash = refl }
-enough (suc n) u (strobe g x k) y f h =
+enough (suc n) u (ask (at g x) k) y f h =
     let a = answer u y f (code x) in
     let q = after-small g x k (a .reply) (reply-small u y f (code x)) in
-    let i = enough n u (after (strobe g x k) (a .reply)) (a .target) (flash-after u y f (code x)) (λ qs. let z = h (a .reply ∷ qs) in omega arith) in
+    let i = enough n u (after (ask (at g x) k) (a .reply)) (a .target) (flash-after u y f (code x)) (λ qs. let z = h (a .reply ∷ qs) in omega arith) in
     let j = rw q at i in
     rw q (record { exchange = j .exchange; target = j .target; flash = j .flash })
 

@@ -6,7 +6,7 @@ use lib.Dec.{eqb}
 use lib.ListN.{length}
 use Rattle.numbers.specs.Numbers.{no-point}
 use Rattle.wire.specs.Step.{code}
-use Rattle.wire.specs.Exchange.{Exchange, ended, strobe, after, outcome-of}
+use Rattle.wire.specs.Exchange.{Exchange, ended, strobe, ask, at, after, outcome-of}
 use Rattle.settings.specs.declared.Settings.{Settings}
 use Rattle.order.specs.Opening.{opening-refusal}
 use Rattle.order.specs.Conversation.{session-limits}
@@ -29,7 +29,7 @@ one-more x = record { exchange = x .exchange; target = x .target; flash = x .fla
 unfoldable pub played : (budget : ℕ) → Setup → Exchange → Target → (flash : List ℕ) → Left
 played zero u e y f = record { exchange = e; target = y; flash = f; replies = 0 }
 played (suc n) u (ended o) y f = record { exchange = ended o; target = y; flash = f; replies = 0 }
-played (suc n) u (strobe g x k) y f =
+played (suc n) u (ask (at g x) k) y f =
     one-more (played n u (after (strobe g x k) (answer u y f (code x) .reply)) (answer u y f (code x) .target) (flash-after u y f (code x)))
 
 -- the number by which it is refused: 1 to 5, then 17

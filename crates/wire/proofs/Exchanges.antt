@@ -1,14 +1,16 @@
 -- Laws of exchanges: replies in parts and in a row, what an ended exchange does, ways through an exchange.
 use mathlib.Core.Path.{_≡_, refl, sym, ap, _∙_}
 use mathlib.Core.Bool.{Bool, true, false, not, _||_}
-use mathlib.Core.List.{List, [], _∷_, _++_}
+use mathlib.Core.List.{List, [], _∷_, _++_, map}
 use Prim.Native.Nat.{ℕ, zero, suc, _+_}
 use native.Mathlib.Nat.{zero-add, suc-add}
 use lib.ListN.{length, length-append}
 use Rattle.wire.specs.Bits.{bit}
 use Rattle.wire.specs.Step.{Step, drives}
 use Rattle.wire.specs.Field.{Field, master}
-use Rattle.wire.specs.Exchange.{Exchange, ended, strobe, Outcome, after, fed, asks, steps, taken, own}
+use Rattle.wire.specs.Exchange.{Exchange, ended, strobe, Outcome, read, byte, after, fed, asks, steps, taken, own}
+use Rattle.exchange.specs.Exchange.{brought}
+use Rattle.exchange.proofs.Parts.{brought-append}
 
 -- a reply of 0 or 1 takes the branch of that bit
 pub after-bit : (f : Field) (s : Step) (k : Bool → Exchange) (b : Bool) → after (strobe f s k) (bit b) ≡ k b
@@ -32,12 +34,13 @@ unfolding fed
 fed-append e [] qs = refl
 fed-append e (r ∷ rs) qs = fed-append (after e r) rs qs
 
+map-append : {A B : Type 0} (f : A → B) (xs ys : List A) → map f (xs ++ ys) ≡ map f xs ++ map f ys
+map-append f [] ys = refl
+map-append f (x ∷ xs) ys = ap (λ (l : _). f x ∷ l) (map-append f xs ys)
+
 pub steps-append : (e : Exchange) (rs qs : List ℕ) → steps e (rs ++ qs) ≡ steps e rs ++ steps (fed e rs) qs
-unfolding steps fed after
-steps-append e [] qs = refl
-steps-append (ended o) (r ∷ rs) qs = sym (rw (fed-ended o rs) (steps-ended o qs))
-steps-append (strobe f s k) (r ∷ rs) qs =
-    ap (λ (l : List ℕ). asks (after (strobe f s k) r) ∷ l) (steps-append (after (strobe f s k) r) rs qs)
+unfolding steps fed
+steps-append e rs qs = ap (λ (l : _). map byte l) (brought-append read e rs qs) ∙ map-append byte (brought read e rs) (brought read (fed e rs) qs)
 
 pub taken-append : (e : Exchange) (rs qs : List ℕ) → taken e (rs ++ qs) ≡ taken e rs + taken (fed e rs) qs
 unfolding taken

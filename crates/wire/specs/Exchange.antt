@@ -1,10 +1,13 @@
--- An exchange: what is said on the wire, as a tree. A node is a step, in its field, and branches by the reply; a leaf is the outcome.
+-- The exchange of the C2 wire: a step in its field asks, a bit comes back.
 -- Steps written, outcome and replies taken for any list of replies are read off the tree.
 use mathlib.Core.Bool.{Bool, true, false, not, _||_}
-use mathlib.Core.List.{List, [], _∷_}
+use mathlib.Core.List.{List, [], _∷_, map}
 use Prim.Native.Nat.{ℕ, zero, suc}
 use lib.ListN.{length}
 use Rattle.numbers.specs.Numbers.{running, bad-reply}
+use Rattle.exchange.specs.Exchange.{Said, Heard, heard, stops, said, brought}
+use Rattle.exchange.specs.Exchange as Shared
+pub use Rattle.exchange.specs.Exchange.{ended, ask}
 use Rattle.wire.specs.Step.{Step, off, code, drives}
 use Rattle.wire.specs.Field.{Field, master}
 
@@ -16,32 +19,45 @@ pub record Outcome : Type 0 where
 abbrev pub outcome : ℕ → Outcome
 outcome n = record { number = n; offset = 0 }
 
-pub data Exchange : Type 0 where
-  ended : Outcome → Exchange
-  strobe : Field → Step → (Bool → Exchange) → Exchange
+-- a step, in its field
+pub data Ask : Type 0 where
+  at : Field → Step → Ask
 
--- the exchange after a reply; a reply that is neither 0 nor 1 ends it, and an ended exchange takes none
+abbrev pub Exchange : Type 0
+Exchange = Shared.Exchange Ask Bool Outcome
+
+abbrev pub strobe : Field → Step → (Bool → Exchange) → Exchange
+strobe f s k = ask (at f s) k
+
+-- 0 and 1 are replies; any other number ends the exchange
+unfoldable pub read : Ask → (reply : ℕ) → Heard Bool Outcome
+read a zero = heard false
+read a (suc zero) = heard true
+read a (suc (suc r)) = stops (outcome bad-reply)
+
+-- the exchange after a reply, and after replies in a row; an ended one takes none
 unfoldable pub after : Exchange → (reply : ℕ) → Exchange
-after (ended o) r = ended o
-after (strobe f s k) zero = k false
-after (strobe f s k) (suc zero) = k true
-after (strobe f s k) (suc (suc r)) = ended (outcome bad-reply)
+unfolding Shared.after read
+after e r = Shared.after read e r
 
--- the exchange after replies in a row
 unfoldable pub fed : Exchange → (replies : List ℕ) → Exchange
-fed e [] = e
-fed e (r ∷ rs) = fed (after e r) rs
+unfolding Shared.fed after
+fed e rs = Shared.fed read e rs
 
--- the step that an exchange asks for: 6 once it has ended
+-- the byte of what is said: a step, or 6 at the end
+abbrev pub byte : Said Ask Outcome → ℕ
+byte (Shared.asks (at f s)) = code s
+byte (Shared.ends o) = code off
+
+-- the step that an exchange asks for
 unfoldable pub asks : Exchange → ℕ
-asks (ended o) = code off
-asks (strobe f s k) = code s
+unfolding said
+asks e = byte (said e)
 
 -- the steps that replies in a row bring, one for each reply taken: the reply that ends the exchange brings 6, and none is taken after it
 unfoldable pub steps : Exchange → (replies : List ℕ) → List ℕ
-steps e [] = []
-steps (ended o) (r ∷ rs) = []
-steps (strobe f s k) (r ∷ rs) = asks (after (strobe f s k) r) ∷ steps (after (strobe f s k) r) rs
+unfolding brought asks after
+steps e rs = map byte (brought read e rs)
 
 -- how many of the replies are taken
 unfoldable pub taken : Exchange → (replies : List ℕ) → ℕ
@@ -50,9 +66,9 @@ taken e rs = length (steps e rs)
 -- running, or the outcome
 unfoldable pub outcome-of : Exchange → Outcome
 outcome-of (ended o) = o
-outcome-of (strobe f s k) = outcome running
+outcome-of (ask a k) = outcome running
 
 -- C2D is not driven, or the step stands in a field of the master's
 unfoldable pub own : Exchange → Bool
 own (ended o) = true
-own (strobe f s k) = not (drives s) || master f
+own (ask (at f s) k) = not (drives s) || master f

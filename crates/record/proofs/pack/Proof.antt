@@ -12,7 +12,7 @@ lay-requires c κs = search needs
 
 returns : tie.Need-returns
 unfolding packed
-returns c = cc
+returns c = rw (c .lay .ensures, c .before .fields-of .ensures)
 
 pub pack-spec : {M : Type 1} → statement M
 pack-spec = tie.close (tie.spec fields-of-requires lay-requires returns)

@@ -63,7 +63,7 @@ wide-requires-3 c κs = search needs
 
 returns : tie.Need-returns
 unfolding fields-read
-returns c = cc
+returns c = rw (c .wide3 .ensures, c .before .before .wide2 .ensures, c .before .before .before .before .wide .ensures, c .before .before .before .before .before .before .pair16 .ensures, c .before .before .before .before .before .before .before .before .before .wide322 .ensures, c .before .before .before .before .before .before .before .before .before .before .before .wide16 .ensures, c .before .before .before .before .before .before .before .before .before .before .before .before .before .before .pair32 .ensures, c .before .before .before .before .before .before .before .before .before .before .before .before .before .before .before .before .before .wide32 .ensures)
 
 pub read-fields-spec : {M : Type 1} → statement M
 read-fields-spec =

@@ -27,7 +27,7 @@ wide32-requires c κs = search needs
 
 returns : tie.Need-returns
 unfolding settings-read
-returns c = cc
+returns c = rw (c .wide32 .ensures, c .before .before .pair32 .ensures)
 
 pub read-settings-spec : {M : Type 1} → statement M
 read-settings-spec =

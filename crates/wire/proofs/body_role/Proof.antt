@@ -28,16 +28,16 @@ data-read-role-requires : tie.Need-data-read-role-requires
 data-read-role-requires c κs = search needs
 
 returns : tie.Need-returns
-returns c = cc
+returns c = rw (c .before .enum-told .given .1) (c .address-write-role .ensures)
 
 returns-2 : tie.Need-returns-2
-returns-2 c = cc
+returns-2 c = rw (c .before .enum-told2 .given .1) (c .address-read-role .ensures)
 
 returns-3 : tie.Need-returns-3
-returns-3 c = cc
+returns-3 c = rw (c .before .enum-told3 .given .1) (c .data-write-role .ensures)
 
 returns-4 : tie.Need-returns-4
-returns-4 c = cc
+returns-4 c = rw (c .before .enum-told4 .given .1) (c .data-read-role .ensures)
 
 pub body-role-spec : {M : Type 1} → statement M
 body-role-spec =

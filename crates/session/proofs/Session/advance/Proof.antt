@@ -9,7 +9,7 @@ point-advanced-requires c κs = search needs
 
 returns : tie.Need-returns
 unfolding advanced
-returns c = cc
+returns c = rw (c .point-advanced .ensures)
 
 pub advance-spec : {M : Type 1} → statement M
 advance-spec = tie.close (tie.spec point-advanced-requires returns)

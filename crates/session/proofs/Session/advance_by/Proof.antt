@@ -9,7 +9,7 @@ point-advanced-by-requires c κs = search needs
 
 returns : tie.Need-returns
 unfolding advanced-by
-returns c = cc
+returns c = rw (c .point-advanced-by .ensures)
 
 pub advance-by-spec : {M : Type 1} → statement M
 advance-by-spec = tie.close (tie.spec point-advanced-by-requires returns)

@@ -12,7 +12,7 @@ cast-t5 c = search needs
 
 returns : tie.Need-returns
 unfolding differs
-returns c = cc
+returns c = rw (c .compared-offset .ensures)
 
 pub differs-spec : {M : Type 1} → statement M
 differs-spec = tie.close (tie.spec compared-offset-requires cast-t5 returns)

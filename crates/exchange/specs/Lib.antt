@@ -1,0 +1,5 @@
+pub mod Exchange
+pub mod Calls
+pub mod Machine
+pub mod Served
+pub mod Countdown
