@@ -3,7 +3,8 @@
 CARGO := cargo run --quiet --offline --manifest-path compare/Cargo.toml --target-dir target/compare --
 BENCH := cargo run --quiet --release --offline --manifest-path bench/Cargo.toml --target-dir target/bench --
 
-LIBRARIES := target/staticlib/libprobe.a target/staticlib/libc2.a
+# The libraries that the comparison and the benchmark link; proved/build.rs has the same list.
+LIBRARIES := $(patsubst %,target/staticlib/lib%.a,c2 probe programming)
 
 PROGRAM := target/bin/flash
 
@@ -69,7 +70,7 @@ $(WAVES): target/examples/waves
 	@target/examples/waves >$@ || { rm -f $@; false; }
 
 # Never part of the tests: its figures are the machine's as much as the code's.
-bench: target/staticlib/libc2.a target/staticlib/libprogramming.a
+bench: $(LIBRARIES)
 	@$(BENCH) $(ARGS)
 
 # As C11, and as C++ too, since drivers are written in both.

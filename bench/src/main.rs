@@ -3,35 +3,25 @@
 //!     bench [--quick] [--repeat N]
 //!     bench --only SIDE:ROW [--delays none|255] [--repeat N]
 //!
-//! The second form runs one row of one side, untimed and unchecked, for a profiler: SIDE is plain, ours or kept (the plain structs
-//! without the face), ROW many, one, target, loop or program.
+//! The second form runs one row of one side, untimed and unchecked, for a profiler: SIDE is plain, ours or
+//! kept (the plain structs without the face), ROW many, one, target, loop or program.
 
-mod check;
-mod clock;
-mod damage;
-mod face;
-mod frames;
-mod job;
-mod measure;
-mod options;
-mod ours;
+mod checks;
+mod harness;
 mod plain;
 mod rows;
-mod session;
-mod sides;
-mod target;
-mod wire;
 
 use std::hint::black_box;
 use std::process::ExitCode;
 
-use job::{Job, Recording, Wired};
-use measure::{Comparison, Work, PIECE};
-use options::{Options, Side, LISTS};
-use ours::Library;
+use checks::{frames, sessions};
+use harness::job::{Job, Recording, Wired};
+use harness::measure::{self, Comparison, Work, PIECE};
+use harness::options::{Options, Side, LISTS};
+use harness::ours::Library;
+use harness::sides::Kept;
 use plain::Plain;
 use rows::Row;
-use sides::Kept;
 
 fn work<'a>(side: Side, row: Row, job: &'a Job, recording: &'a Recording) -> Box<dyn Work + 'a> {
     match side {
@@ -54,7 +44,7 @@ fn profile(side: Side, row: Row, options: &Options) {
 fn table(name: &str, delays: &[u8], repeat: usize) -> Result<(), String> {
     // The compiler is not to know what the job is.
     let job = black_box(Job::new(delays));
-    let recording = check::recorded(&job)?;
+    let recording = sessions::recorded(&job)?;
     let steps = recording.replies.len();
     println!("\n16 KiB image, delays {name}: {steps} steps to a session, {repeat} repetitions\n");
     println!("| ns a step | plain | ours | plain, steps/s | ours, steps/s | ours/plain | pair by pair |");
@@ -94,7 +84,7 @@ fn run() -> Result<(), String> {
         profile(side, row, &options);
         return Ok(());
     }
-    check::troubled_sessions_agree()?;
+    sessions::troubled_sessions_agree()?;
     frames::targets_agree()?;
     LISTS.into_iter().try_for_each(|(name, delays)| table(name, delays, options.repeat))
 }

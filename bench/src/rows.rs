@@ -4,9 +4,9 @@ use std::hint::black_box;
 use std::marker::PhantomData;
 use std::ops::Range;
 
-use crate::job::{Job, Recording, Wired, OFF};
-use crate::measure::Work;
-use crate::sides::{Session, Side, Target};
+use crate::harness::job::{Job, Recording, Wired, OFF};
+use crate::harness::measure::Work;
+use crate::harness::sides::{Session, Side, Target};
 
 /// Replies to a call in the row of many.
 const MANY: usize = 4096;
@@ -163,7 +163,8 @@ impl<S: Side> Work for Whole<'_, S> {
     }
 }
 
-/// A session and a target together in one call, which starts anew at every piece: it has no place to go on from.
+/// A session and a target together in one call, which starts anew at every piece: it has no place to go on
+/// from.
 struct Program<'a, S> {
     job: &'a Job,
     flash: Vec<u8>,

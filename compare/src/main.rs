@@ -1,34 +1,14 @@
-//! Compares the proved C2 programmer with a second one, written independently from the maker's
-//! note and document 01.
+//! Compares the proved code with a second implementation, written independently from the papers: `second` has
+//! it, `checks` what is compared, `harness` what checks stand on. The proved code's declarations are the
+//! crate `proved`, beside this one. A new family has a file in each, and a line where they are listed.
 //!
 //! `compare` runs for a few seconds, `compare --long` for longer; `--seed N` sets the seed of the
 //! random inputs, `--only TEXT` keeps to the checks with that text in their names, `--program PATH` adds
 //! runs of document 01's program. The first difference is printed with its inputs, and the exit code is 1.
 
-mod c2;
 mod checks;
-mod device;
-mod driven;
-mod driver;
-mod frames;
-mod interface;
-mod job;
-mod lent;
-mod master;
-mod model;
-mod numbers;
-mod pair;
-mod random;
-mod record;
-mod report;
-mod session;
-mod settings;
-mod slowest;
-mod state;
-mod steps;
-mod target;
-mod trouble;
-mod wire;
+mod harness;
+mod second;
 
 use std::num::NonZero;
 use std::path::PathBuf;
@@ -36,9 +16,9 @@ use std::process::ExitCode;
 use std::sync::atomic::{AtomicUsize, Ordering};
 use std::{env, iter, thread};
 
-use checks::{Check, Run};
-use random::Random;
-use report::{Checked, Failure};
+use harness::check::{Check, Run};
+use harness::random::Random;
+use harness::report::{Checked, Failure};
 
 const DEFAULT_SEED: u64 = 20_127;
 const USAGE: &str = "usage: compare [--long] [--seed N] [--only TEXT] [--program PATH]";
@@ -75,7 +55,8 @@ fn print_failure(check: &Check, options: &Options, failure: &Failure) {
     println!("came      {}", failure.came);
 }
 
-/// Each check begins with the seed afresh, so that it sees the same numbers whatever runs before it or beside it.
+/// Each check begins with the seed afresh, so that it sees the same numbers whatever runs before it or beside
+/// it.
 fn run_one(check: &Check, options: &Options) -> Checked {
     let Options { long, seed, ref program, .. } = *options;
     (check.run)(&mut Run { long, random: Random::new(seed), program: program.clone() })

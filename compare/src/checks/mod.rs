@@ -1,57 +1,23 @@
-//! The checks: what is compared, over which inputs.
+//! The checks: what is compared, over which inputs. A family has a file or a folder here.
 
-pub mod calls;
-pub mod closed;
-pub mod model;
-pub mod program;
-pub mod programming;
-pub mod records;
-pub mod states;
-pub mod target;
-pub mod wire;
+mod c2;
 
-use std::path::PathBuf;
+use crate::harness::check::Check;
 
-use crate::random::Random;
-use crate::report::Checked;
-
-/// What a check is given: how much to do, and where its random numbers come from.
-pub struct Run {
-    pub long: bool,
-    pub random: Random,
-    /// document 01's program, if it is to be run
-    pub program: Option<PathBuf>,
-}
-
-impl Run {
-    /// How many random cases this run asks for.
-    pub fn cases(&self, short: u64, long: u64) -> u64 {
-        if self.long {
-            long
-        } else {
-            short
-        }
-    }
-}
-
-pub struct Check {
-    pub name: &'static str,
-    pub run: fn(&mut Run) -> Checked,
-}
+/// A line for each file of checks.
+const ALL: &[&[Check]] = &[
+    c2::wire::CHECKS,
+    c2::target::CHECKS,
+    c2::model::CHECKS,
+    c2::states::CHECKS,
+    c2::programming::CHECKS,
+    c2::calls::CHECKS,
+    c2::records::CHECKS,
+    c2::closed::CHECKS,
+];
 
 /// Every check; those of the program only if there is one.
 pub fn all(with_program: bool) -> impl Iterator<Item = &'static Check> {
-    [
-        wire::CHECKS,
-        target::CHECKS,
-        model::CHECKS,
-        states::CHECKS,
-        programming::CHECKS,
-        calls::CHECKS,
-        records::CHECKS,
-        closed::CHECKS,
-        if with_program { program::CHECKS } else { &[] },
-    ]
-    .into_iter()
-    .flatten()
+    let program = if with_program { c2::program::CHECKS } else { &[] };
+    ALL.iter().copied().flatten().chain(program)
 }

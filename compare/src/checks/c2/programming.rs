@@ -1,0 +1,383 @@
+//! Our own session, alone and against our own target.
+
+use crate::harness::c2::device::Device;
+use crate::harness::c2::job::{open, Job};
+use crate::harness::c2::slowest::Slowest;
+use crate::harness::check::{Check, Run};
+use crate::harness::random::Random;
+use crate::harness::report::{expect, expect_that, Checked, Failure};
+use crate::second::c2::session::{Advanced, Outcome, Session, FIRST_STEP};
+use crate::second::c2::steps::OFF;
+use crate::second::c2::target::Modelled;
+use crate::second::numbers;
+use crate::second::settings::Settings;
+
+pub const CHECKS: &[Check] = &[
+    Check { name: "our session: refused openings", run: refused_openings },
+    Check { name: "our session: the most steps to come at the start", run: starting_figures },
+    Check { name: "our session: the replies of the program's fresh target", run: fresh_target },
+    Check { name: "our session: refused calls", run: refused_calls },
+    Check { name: "our session: limits of WAIT and poll", run: limits },
+    Check { name: "our session: replies that end it", run: endings },
+    Check { name: "our session: some replies reach the starting figure", run: slowest_replies },
+    Check { name: "our session: random images, flash and delays", run: random_programming },
+    Check { name: "our session: replies in any cutting", run: cuttings },
+];
+
+/// The program's settings in document 01.
+const SETTINGS: Settings = Settings { device_id: 0x04, fpdat: 0xB4, page_size: 512, page_count: 32 };
+
+/// How many runs go wrong at a random place, for each way to go wrong.
+const WRONG_RUNS: u64 = 20;
+
+fn running() -> Outcome {
+    Outcome { number: numbers::RUNNING, offset: 0 }
+}
+
+fn ended(number: u32) -> Outcome {
+    Outcome { number, offset: 0 }
+}
+
+fn refused_openings(_: &mut Run) -> Checked {
+    let bad = Settings { device_id: 0, fpdat: 2, page_size: 500, page_count: 0 };
+    let rows = [
+        (bad, 0, 0, Some(numbers::FPDAT_ADDRESS)),
+        (Settings { fpdat: 3, ..bad }, 0, 0, Some(numbers::PAGE_SIZE)),
+        (Settings { page_count: 0, ..SETTINGS }, 0, 0, Some(numbers::PAGE_COUNT)),
+        (Settings { page_count: 129, ..SETTINGS }, 0, 512, Some(numbers::PAGE_COUNT)),
+        (Settings { page_count: u32::MAX, ..SETTINGS }, 0, 512, Some(numbers::PAGE_COUNT)),
+        (SETTINGS, 40, 0, Some(numbers::IMAGE_PAGES)),
+        (SETTINGS, 40, 511, Some(numbers::IMAGE_PAGES)),
+        (SETTINGS, 32, 512, Some(numbers::FIRST_PAGE)),
+        (SETTINGS, u32::MAX, 512, Some(numbers::FIRST_PAGE)),
+        (SETTINGS, 31, 1024, Some(numbers::FIRST_PAGE)),
+        (SETTINGS, 0, 16_896, Some(numbers::FIRST_PAGE)),
+        (SETTINGS, 31, 512, None),
+        (SETTINGS, 0, 16_384, None),
+        (Settings { page_count: 128, ..SETTINGS }, 0, 65_536, None),
+        (Settings { page_size: 1024, page_count: 64, ..SETTINGS }, 63, 1024, None),
+    ];
+    for (settings, first_page, image_len, refusal) in rows {
+        let came = Session::open(&settings, first_page, &vec![0; image_len]).err();
+        expect(refusal, came, || format!("{settings:?}, first page {first_page}, image of {image_len}"))?;
+    }
+    Ok(rows.len() as u64)
+}
+
+/// P11 and P12, and document 01's formula for every number of pages.
+fn starting_figures(_: &mut Run) -> Checked {
+    let mut cases = 0;
+    for (page_size, page_count) in [(512, 128), (1024, 64)] {
+        let settings = Settings { page_size, page_count, ..SETTINGS };
+        for pages in 1..=page_count {
+            let image = vec![0; (pages * page_size) as usize];
+            let figure = open(&settings, 0, &image)?.most_steps_left();
+            let blocks = u64::from(page_size / 256);
+            let formula = 152 + u64::from(pages) * (18_648 + 2 * blocks * 813_784);
+            expect(formula, figure, || format!("{pages} pages of {page_size}"))?;
+            let literal = match (page_size, pages) {
+                (512, 1) => 3_273_936,
+                (512, 128) => 419_044_504,
+                _ => formula,
+            };
+            expect(literal, figure, || format!("{pages} pages of {page_size}"))?;
+            cases += 1;
+        }
+    }
+    Ok(cases)
+}
+
+fn fresh_target(run: &mut Run) -> Checked {
+    for (len, replies) in [(512, 28_594), (1024, 57_112)] {
+        let image = run.random.bytes(len);
+        let mut device = Device::fresh(SETTINGS, vec![0; 16_384], Vec::new());
+        let mut session = open(&SETTINGS, 0, &image)?;
+        let taken = device.run(&mut session, &image, |_, _| ());
+        let came = (taken, session.outcome());
+        expect((replies, ended(numbers::DONE)), came, || format!("image of {len} bytes"))?;
+    }
+    Ok(2)
+}
+
+/// Calls tested by 7, then 8, of a running session and of one that a compare has ended; a refused
+/// call takes no reply and writes nothing, and an accepted one repeats the outcome of an ended session.
+fn refused_calls(_: &mut Run) -> Checked {
+    let image = [0x55; 512];
+    let mut stopped = open(&SETTINGS, 0, &image)?;
+    let mut replies = Slowest::session(SETTINGS.device_id, 512, &[0x55, 0x54].repeat(256));
+    let mut steps = vec![0; replies.len()];
+    let at_compare = Outcome { number: numbers::COMPARE, offset: 1 };
+    let came = stopped.advance(&image, &replies, &mut steps, 0);
+    expect(at_compare, came.outcome, || "the second byte read differs".to_string())?;
+    replies.truncate(4);
+
+    let rows = [
+        (511, 4, usize::MAX, ended(numbers::IMAGE_LENGTH)),
+        (0, 0, 0, ended(numbers::IMAGE_LENGTH)),
+        (512, 4, 5, ended(numbers::STEP_BUFFER)),
+        (512, 0, 9, ended(numbers::STEP_BUFFER)),
+        (512, 4, usize::MAX - 3, ended(numbers::STEP_BUFFER)),
+        (512, 4, usize::MAX, ended(numbers::STEP_BUFFER)),
+        (512, 0, 8, running()),
+    ];
+    for (image_len, count, place, outcome) in rows {
+        for (mut session, accepted) in
+            [(open(&SETTINGS, 0, &image)?, running()), (stopped.clone(), at_compare)]
+        {
+            let mut steps = [0xEE; 8];
+            let came = session.advance(&image[..image_len], &replies[..count], &mut steps, place);
+            let outcome = if outcome == running() { accepted } else { outcome };
+            let inputs =
+                || format!("image of {image_len}, {count} replies, place {place} of 8, {accepted:?}");
+            expect((Advanced { outcome, taken: 0 }, [0xEE; 8]), (came, steps), inputs)?;
+            expect(accepted, session.outcome(), inputs)?;
+        }
+    }
+    Ok(2 * rows.len() as u64)
+}
+
+/// Takes the replies and tells the outcome with the number of replies taken.
+fn take(settings: &Settings, replies: &[u8]) -> Result<(Outcome, usize), Failure> {
+    let image = [0; 512];
+    let mut session = open(settings, 0, &image)?;
+    let mut steps = vec![0xEE; replies.len()];
+    let Advanced { outcome, taken } = session.advance(&image, replies, &mut steps, 0);
+    Ok((outcome, taken))
+}
+
+/// P7 to P10, by hand: a line that is always 0 never ends the first WAIT, and one that is always 1
+/// gives device ID 0xFF and never ends the first poll.
+fn limits(_: &mut Run) -> Checked {
+    const RESET_TO_WAIT: usize = 1 + 5;
+    const WHOLE_DATA_FRAME: usize = 15;
+    const ADDRESS_FRAME: usize = 12;
+    // reset, device ID, reset, FPCTL, three keys, pause, FPDAT, the erase command
+    const BEFORE_POLL: usize = 1
+        + WHOLE_DATA_FRAME
+        + 1
+        + ADDRESS_FRAME
+        + 3 * WHOLE_DATA_FRAME
+        + 1
+        + ADDRESS_FRAME
+        + WHOLE_DATA_FRAME;
+
+    let zeros = [0; RESET_TO_WAIT + 30];
+    let refused = (ended(numbers::WAIT_LIMIT), RESET_TO_WAIT + 20);
+    expect(refused, take(&SETTINGS, &zeros)?, || "P8: all replies 0".to_string())?;
+    let mut passes = [0; RESET_TO_WAIT + 20];
+    passes[RESET_TO_WAIT + 19] = 1;
+    let taken = (running(), passes.len());
+    expect(taken, take(&SETTINGS, &passes)?, || "P7: 19 zeros and a 1".to_string())?;
+
+    let all_ones = Settings { device_id: 0xFF, ..SETTINGS };
+    let last_stop = BEFORE_POLL + 256 * ADDRESS_FRAME;
+    let ones = vec![1; last_stop + 5];
+    let refused = (ended(numbers::POLL_LIMIT), last_stop);
+    expect(refused, take(&all_ones, &ones)?, || "P10: all replies 1".to_string())?;
+    let mut passes = ones;
+    // InBusy of the 256th read: START, INS, bit 0, then this one
+    passes[last_stop - ADDRESS_FRAME + 4] = 0;
+    let taken = (running(), passes.len());
+    expect(taken, take(&all_ones, &passes)?, || "P9: the 256th read".to_string())?;
+    Ok(4)
+}
+
+/// Each of the numbers 9 and 12 to 15, brought about by something wrong that is known.
+fn endings(run: &mut Run) -> Checked {
+    let ones = [1; 40];
+    let inputs = || "device ID 0x04, all replies 1".to_string();
+    expect((ended(numbers::DEVICE_ID), 16), take(&SETTINGS, &ones)?, inputs)?;
+    let random = &mut run.random;
+    Ok(1 + bad_replies(random)? + missing_page()? + stuck_bytes(random)? + short_image()?)
+}
+
+/// A reply above 1 ends the session where it stands, and counts as taken.
+fn bad_replies(random: &mut Random) -> Checked {
+    let image = random.bytes(512);
+    for _ in 0..WRONG_RUNS {
+        let (good, bad) = (random.below(28_594) as u64, random.pick(&[2, 3, 255]));
+        let mut device = Device::fresh(SETTINGS, vec![0; 16_384], Vec::new());
+        let mut session = open(&SETTINGS, 0, &image)?;
+        let mut step = FIRST_STEP;
+        for _ in 0..good {
+            let reply = device.step(step);
+            step = session.reply(reply, &image);
+        }
+        let last = session.reply(bad, &image);
+        let came = (session.outcome(), last, session.most_steps_left());
+        let inputs = || format!("{good} replies of the target, then {bad}");
+        expect((ended(numbers::BAD_REPLY), OFF, 0), came, inputs)?;
+    }
+    Ok(WRONG_RUNS)
+}
+
+/// A device with fewer pages than the settings say refuses the erase of a page it lacks.
+fn missing_page() -> Checked {
+    let image = [0; 512];
+    let smaller = Settings { page_count: 20, ..SETTINGS };
+    let mut device = Device::fresh(smaller, vec![0; 10_240], Vec::new());
+    let mut session = open(&SETTINGS, 20, &image)?;
+    // the lead, then FPDAT, the command, its status, the page number, its status
+    let taken = device.run(&mut session, &image, |_, _| ());
+    let inputs = || "page 20 of a device with 20 pages".to_string();
+    expect((ended(numbers::STATUS), 75 + 12 + 4 * 27), (session.outcome(), taken), inputs)?;
+    Ok(1)
+}
+
+/// A flash byte that stays wrong is found by the compare, with its offset in the image.
+fn stuck_bytes(random: &mut Random) -> Checked {
+    for _ in 0..WRONG_RUNS {
+        let image = random.bytes(1024);
+        let (first_page, offset) = (random.below(31), random.below(1024));
+        let stuck = first_page * 512 + offset;
+        let mut device = Device::fresh(SETTINGS, vec![0; 16_384], Vec::new());
+        let mut session = open(&SETTINGS, first_page as u32, &image)?;
+        let mut step = FIRST_STEP;
+        while session.running() {
+            device.flash[stuck] = !image[offset];
+            let reply = device.step(step);
+            step = session.reply(reply, &image);
+        }
+        let inputs = || format!("first page {first_page}, flash byte {stuck} stuck");
+        expect(Outcome { number: numbers::COMPARE, offset }, session.outcome(), inputs)?;
+    }
+    Ok(WRONG_RUNS)
+}
+
+/// Where the image lent has no such byte, the session ends at the reply before each bit of a byte to
+/// be written, and at the STOP of a byte to be compared.
+fn short_image() -> Checked {
+    let image = [0x55; 512];
+    // the lead, the erase, FPDAT, the command, its status and the block's place, then START, INS, LENGTH
+    let first_bit = 75 + (12 + 6 * 27) + 12 + 5 * 27 + 5;
+    // the lead, the erase, two block writes, FPDAT, the command and its statuses, then a whole get
+    let first_compare = 75 + (12 + 6 * 27) + 2 * (12 + 262 * 27) + 12 + 6 * 27 + 27;
+    let rows = [
+        (0, first_bit),
+        (first_bit + 2, first_bit + 3),
+        (first_bit + 6, first_bit + 7),
+        // the last bit is driven already: the next byte is missed
+        (first_bit + 7, first_bit + 27),
+        (first_compare - 1, first_compare),
+    ];
+    for (lent_until, wanted) in rows {
+        let mut device = Device::fresh(SETTINGS, vec![0; 16_384], Vec::new());
+        let mut session = open(&SETTINGS, 0, &image)?;
+        let (mut step, mut taken) = (FIRST_STEP, 0);
+        while session.running() {
+            let lent = if taken < lent_until { &image[..] } else { &[] };
+            let reply = device.step(step);
+            step = session.reply(reply, lent);
+            taken += 1;
+        }
+        let inputs = || format!("image of no bytes after {lent_until} replies");
+        expect((ended(numbers::IMAGE_OFFSET), wanted), (session.outcome(), taken), inputs)?;
+    }
+    Ok(rows.len() as u64)
+}
+
+/// Runs a job's session and looks at the figure after each reply: it falls, is 0 exactly at the end,
+/// and no more replies are taken than it was at the start.
+fn run_watched(job: &mut Job, session: &mut Session) -> Result<(), Failure> {
+    let start = session.most_steps_left();
+    let (mut before, mut taken, mut wrong) = (start, 0u64, None);
+    job.device.run(session, &job.image, |session, _| {
+        taken += 1;
+        let figure = session.most_steps_left();
+        if wrong.is_none() && (figure >= before || (figure == 0) == session.running()) {
+            wrong = Some((taken, before, figure));
+        }
+        before = figure;
+    });
+    let rule = "each reply lowers the figure, to 0 exactly at the end (reply, before, after)";
+    expect_that(wrong.is_none(), rule, wrong, || job.describe())?;
+    expect_that(taken <= start, &format!("at most {start} replies"), taken, || job.describe())
+}
+
+/// These replies are as many as the figure said at the start, and each lowers it by exactly 1.
+fn slowest_replies(run: &mut Run) -> Checked {
+    let pages = run.cases(1, 4) as usize;
+    let image = run.random.bytes(512 * pages);
+    let replies = Slowest::session(SETTINGS.device_id, 512, &image);
+    let inputs = || format!("{pages} pages of 512, the slowest replies");
+    let mut session = open(&SETTINGS, 3, &image)?;
+    expect(session.most_steps_left(), replies.len() as u64, inputs)?;
+    for (taken, &reply) in replies.iter().enumerate() {
+        let left = (replies.len() - taken) as u64;
+        expect(left, session.most_steps_left(), || format!("{}, {taken} taken", inputs()))?;
+        session.reply(reply, &image);
+    }
+    let came = (session.outcome(), session.most_steps_left());
+    expect((ended(numbers::DONE), 0), came, inputs)?;
+    Ok(replies.len() as u64)
+}
+
+fn random_programming(run: &mut Run) -> Checked {
+    let cases = run.cases(15, 300);
+    for _ in 0..cases {
+        let pages = run.random.between(1, 3);
+        let mut job = Job::random(&mut run.random, pages);
+        let inputs = job.describe();
+        let flash = job.programmed_flash();
+        let mut session = job.session()?;
+        run_watched(&mut job, &mut session)?;
+        expect(ended(numbers::DONE), session.outcome(), || inputs.clone())?;
+        let differing = first_difference(&flash, &job.device.flash);
+        expect_that(differing.is_none(), "the image on its pages, all else as before", differing, || {
+            format!("{inputs}: offset, expected and found byte")
+        })?;
+        expect(false, job.device.target.collision(), || format!("{inputs}: collision"))?;
+    }
+    Ok(cases)
+}
+
+fn first_difference(expected: &[u8], came: &[u8]) -> Option<(usize, u8, u8)> {
+    let offset = expected.iter().zip(came).position(|(a, b)| a != b)?;
+    Some((offset, expected[offset], came[offset]))
+}
+
+/// The same replies in calls of any length, lent afresh, write the same steps, and nothing beside
+/// their place in the buffer.
+fn cuttings(run: &mut Run) -> Checked {
+    let cases = run.cases(10, 200);
+    for _ in 0..cases {
+        let random = &mut run.random;
+        let mut job = Job::random(random, 1);
+        job.device.delays.truncate(random.below(2));
+        let inputs = job.describe();
+        let mut replies = Vec::new();
+        let mut session = job.session()?;
+        job.device.run(&mut session, &job.image, |_, reply| replies.push(reply));
+        // some replies too many: an ended session takes none of them
+        let count = replies.len();
+        replies.extend(random.bytes(20));
+
+        let mut whole = vec![0xEE; replies.len()];
+        let came = job.session()?.advance(&job.image, &replies, &mut whole, 0);
+        let expected = Advanced { outcome: ended(numbers::DONE), taken: count };
+        expect(expected, came, || format!("{inputs}: one call"))?;
+        let cut = cut_calls(random, &job, &replies)?;
+        expect_that(cut == whole[..count], "the same steps in any cutting", cut.len(), || inputs)?;
+    }
+    Ok(cases)
+}
+
+/// Takes the replies in calls of random length; gives the steps joined.
+fn cut_calls(random: &mut Random, job: &Job, replies: &[u8]) -> Result<Vec<u8>, Failure> {
+    let mut session = job.session()?;
+    let mut joined = Vec::new();
+    let mut rest = replies;
+    while !rest.is_empty() {
+        let (now, later) = rest.split_at(random.between(0, rest.len().min(5_000)));
+        let (before, after) = (random.below(10), random.below(10));
+        let mut steps = vec![0xEE; before + now.len() + after];
+        let came = session.advance(&job.image, now, &mut steps, before);
+        let (untouched, written) = (&steps[..before], &steps[before..][..came.taken]);
+        let beyond = &steps[before + came.taken..];
+        let clean = untouched.iter().chain(beyond).all(|&byte| byte == 0xEE);
+        expect_that(clean, "bytes beside the steps stay", &steps, || job.describe())?;
+        joined.extend_from_slice(written);
+        rest = later;
+    }
+    Ok(joined)
+}

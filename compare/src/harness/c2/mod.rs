@@ -1,0 +1,14 @@
+//! C2: calls and steps on lent memory, both sides side by side, and work for them.
+
+pub mod calls;
+pub mod device;
+pub mod driven;
+pub mod driver;
+pub mod job;
+pub mod master;
+pub mod model;
+pub mod pair;
+pub mod slowest;
+pub mod state;
+pub mod trouble;
+pub mod wire;

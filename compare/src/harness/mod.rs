@@ -1,0 +1,8 @@
+//! What the checks stand on: what a check is, how it tells a difference, random inputs, lent memory; and in
+//! a folder a family, both implementations side by side.
+
+pub mod c2;
+pub mod check;
+pub mod lent;
+pub mod random;
+pub mod report;

@@ -1,0 +1,6 @@
+//! The second implementation: each family in a file or folder of its own, written from the papers and asking
+//! nothing of the proved code.
+
+pub mod c2;
+pub mod numbers;
+pub mod settings;
