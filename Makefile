@@ -11,9 +11,10 @@ PROGRAM := target/bin/flash
 EXAMPLES := target/examples/first target/examples/driver target/examples/waves
 WAVES := target/waves/page.vcd
 SHORT := 200
-STRICT := -Wall -Wextra -Werror -Iinclude
+STRICT := -Wall -Wextra -Wpedantic -Werror -Iinclude
+HEADERS := $(wildcard include/*.h)
 
-.PHONY: help library flash test below compare compare-long examples waves bench prove clean
+.PHONY: help library flash test below compare compare-long examples headers waves bench prove clean
 
 help:
 	@echo "make library       build the driver's library, target/staticlib/libc2.a; its header is include/c2.h"
@@ -50,9 +51,9 @@ compare: below $(PROGRAM) $(LIBRARIES)
 compare-long: below $(PROGRAM) $(LIBRARIES)
 	@$(CARGO) --long --program $(PROGRAM)
 
-# The first one is the program of README.md, word for word below its first line. The waveform has a header and, in so many steps, a
-# falling edge of C2CK for each but 5 and 6.
-examples: $(EXAMPLES)
+# The first one is the program of README.md, word for word below its first line. The waveform has a header and,
+# in so many steps, a falling edge of C2CK for each but 5 and 6.
+examples: headers $(EXAMPLES)
 	@sed -n '/^```c$$/,/^```$$/{/^```/!p;}' README.md >target/examples/readme.c
 	@sed 1d examples/first.c | diff - target/examples/readme.c
 	@target/examples/first
@@ -61,6 +62,16 @@ examples: $(EXAMPLES)
 	@sed '/^#/,$$d' target/examples/short.vcd | tr '\n' ' ' | grep -q '^$$version .*$$timescale 1 ns $$end .*$$enddefinitions $$end $$'
 	@test $$(grep -c '^0k' target/examples/short.vcd) -eq $$(($(SHORT) - $$(grep -cE '^s[56] s$$' target/examples/short.vcd)))
 	@echo "ok     waves: $(SHORT) steps, one low pulse on C2CK for each but pauses and the end"
+
+# As C11 and C++20: each header alone, and all of them in one file, in either order and twice.
+headers:
+	@mkdir -p target/examples
+	@for header in $(HEADERS) $(HEADERS); do echo "#include \"$$header\""; done >target/examples/all.h
+	@tac target/examples/all.h >target/examples/reversed.h
+	@for file in $(HEADERS) target/examples/all.h target/examples/reversed.h; do \
+	    echo "#include \"$$file\"" | $(CC) -std=c11 $(STRICT) -I. -fsyntax-only -x c - && \
+	    echo "#include \"$$file\"" | $(CXX) -std=c++20 $(STRICT) -I. -fsyntax-only -x c++ - || exit 1; done
+	@echo "ok     headers: $(words $(HEADERS)), each alone and all together, as C11 and C++20"
 
 waves: $(WAVES)
 	@echo "$(WAVES): the session of one page; gtkwave and PulseView can open it"
@@ -74,7 +85,7 @@ bench: $(LIBRARIES)
 	@$(BENCH) $(ARGS)
 
 # As C11, and as C++ too, since drivers are written in both.
-target/examples/%: examples/%.c examples/c2_text.h include/c2.h target/staticlib/libc2.a
+target/examples/%: examples/%.c $(HEADERS) target/staticlib/libc2.a
 	@mkdir -p target/examples
 	@$(CXX) -x c++ -std=c++20 $(STRICT) -fsyntax-only $<
 	@$(CC) -std=c11 -O2 $(STRICT) $< target/staticlib/libc2.a -o $@

@@ -10,7 +10,7 @@
 #include <string.h>
 #include <unistd.h>
 
-#include "c2.h"
+#include "c2_target.h"
 #include "c2_text.h"
 
 /* ---- Part 1: the driver ---- */

@@ -1,6 +1,6 @@
 /* The program of README.md, "A first program": a page into the modelled target. Build and run: make examples. */
 #include <stdio.h>
-#include "c2.h"
+#include "c2_target.h"
 
 int main(void) {
     static uint8_t image[512] = "gain knobs, third try", flash[16384];
@@ -12,9 +12,8 @@ int main(void) {
     uint8_t step = (uint8_t)opened.step;
     while (number == C2_RUNNING) {
         c2_replied replied = c2_target_step(device, target, flash, sizeof flash, NULL, 0, step);
-        uint8_t reply = (uint8_t)replied.reply;
         target = replied.target;
-        number = c2_advance(record, sizeof record, image, sizeof image, &reply, 1, &step, 1, 0).number;
+        number = c2_next(record, image, sizeof image, (uint8_t)replied.reply, &step).number;
     }
     printf("outcome %u, flash: %s\n", (unsigned)number, (const char *)flash);
     return number == C2_DONE ? 0 : 1;

@@ -12,7 +12,7 @@
 #include <stdlib.h>
 #include <string.h>
 
-#include "c2.h"
+#include "c2_target.h"
 
 /* ---- Part 1: the frames ---- */
 
@@ -165,7 +165,7 @@ static uint32_t run(uint64_t limit) {
         if (step == C2_STEP_OFF)
             break;
         follow(&f, field_of(&f, step), reply);
-        number = c2_advance(record, sizeof record, image, sizeof image, &reply, 1, &step, 1, 0).number;
+        number = c2_next(record, image, sizeof image, reply, &step).number;
     }
     stamp(&out); /* the end of the last step */
     return number;

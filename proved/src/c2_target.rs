@@ -1,4 +1,4 @@
-//! The modelled target of include/c2.h.
+//! include/c2_target.h: the modelled target.
 
 use crate::c2::Settings;
 
