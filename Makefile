@@ -14,7 +14,7 @@ SHORT := 200
 STRICT := -Wall -Wextra -Wpedantic -Werror -Iinclude
 HEADERS := $(wildcard include/*.h)
 
-.PHONY: help library flash test below compare compare-long examples headers waves bench prove clean
+.PHONY: help library flash test below compare compare-long numbers examples headers waves bench prove clean
 
 help:
 	@echo "make library       build the driver's library, target/staticlib/libc2.a; its header is include/c2.h"
@@ -24,6 +24,7 @@ help:
 	@echo "make test          compare with the second implementation in Rust, run the examples, then prove everything from nothing"
 	@echo "make compare       the comparison alone, some seconds"
 	@echo "make compare-long  the comparison over many more cases"
+	@echo "make numbers       compare every list of the numbers that come back with docs/NUMBERS.md"
 	@echo "make bench         time the library beside plain Rust, some minutes; ARGS=--quick for less"
 	@echo "make prove         prove what has changed since the last time"
 	@echo "make clean         remove everything that was built"
@@ -38,7 +39,7 @@ flash: $(PROGRAM)
 test:
 	@{ rt ci; echo $$?; } | { n=0; while IFS= read -r line; do [ $$n -lt 2 ] || printf '%s\n' "$$a"; a=$$b b=$$line n=$$((n + 1)); done; \
 	    if [ "$$b" = 0 ]; then echo "$$a" >target/count; else echo "$$a"; exit 1; fi; }
-	@$(MAKE) --no-print-directory compare examples
+	@$(MAKE) --no-print-directory compare numbers examples
 	@cat target/count
 
 # Everything below the program and the libraries is proved in one go, level by level.
@@ -50,6 +51,10 @@ compare: below $(PROGRAM) $(LIBRARIES)
 
 compare-long: below $(PROGRAM) $(LIBRARIES)
 	@$(CARGO) --long --program $(PROGRAM)
+
+# The numbers that come back stand once, in docs/NUMBERS.md.
+numbers:
+	@sh compare/numbers.sh
 
 # The first one is the program of README.md, word for word below its first line. The waveform has a header and,
 # in so many steps, a falling edge of C2CK for each but 5 and 6.

@@ -1,5 +1,5 @@
 /*
- * The numbers of c2.h in words, each with what to do about it. Header only; C99 and C++.
+ * The numbers of c2.h in words, each with what to do about it: the words of docs/NUMBERS.md. Header only.
  */
 #ifndef C2_TEXT_H
 #define C2_TEXT_H
@@ -23,29 +23,29 @@ static inline const char *c2_text(uint32_t number) {
     case C2_PAST_LAST_PAGE:
         return "image reaches past the last page: take a lower first page or a shorter image";
     case C2_BAD_RECORD:
-        return "record not 32 bytes, or no session in it: open again, which starts at the first page";
+        return "record not 32 bytes, or no session in it: lend 32 bytes; if it was damaged, open again";
     case C2_OTHER_IMAGE:
         return "image of another length than at the opening: lend that one";
     case C2_NO_ROOM:
         return "no room for the steps: lend a longer step buffer, a lower place or fewer replies";
     case C2_BAD_REPLY:
-        return "reply neither 0 nor 1: look for the fault in the driver; reset the device and open again";
+        return "reply neither 0 nor 1: look for the fault in the driver";
     case C2_WAIT_LIMIT_REACHED:
-        return "20 zeros in a WAIT: no device, or it does not answer; look at the wiring, then open again";
+        return "20 zeros in a WAIT: no device, or it does not answer; look at wiring and power";
     case C2_POLL_LIMIT_REACHED:
-        return "256 reads of the status in vain: the device hangs, or FPDAT is wrong; reset it, check FPDAT, open again";
+        return "256 reads of the status in vain: the device hangs, or FPDAT is wrong";
     case C2_OTHER_DEVICE:
         return "another device ID than in the settings: nothing was erased; check the device and the settings";
     case C2_BAD_STATUS:
-        return "device refused a command: it may lack the page, or be locked; check the settings and the lock";
+        return "device refused a command: it may lack the page, be locked, or want registers written first";
     case C2_COMPARE_DIFFERS:
         return "byte read back differs from the image, see the offset: open again; if it stays, suspect the flash";
     case C2_NO_IMAGE_BYTE:
-        return "image byte missing: no session of these calls ends so; the record was made elsewhere, open again";
+        return "image byte missing: no session of these calls ends so; the record was made elsewhere";
     case C2_NO_STEP:
-        return "modelled target: no such step; give 0 or 2 to 6";
+        return "no such step of the modelled target: give 0 or 2 to 6";
     case C2_NO_POINT:
-        return "modelled target: flash length not page size times page count, or no target's state: start with a fresh one";
+        return "flash length not page size times page count, or no target's state: start with a fresh target";
     default:
         return "no number of c2.h: header and library don't belong together, or the number was overwritten";
     }

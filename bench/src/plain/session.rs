@@ -13,11 +13,11 @@ use crate::plain::wire::{command, ins, status, Ranges, Refusal, Step, BLOCK, COM
 pub enum Outcome {
     Done,
     BadReply,
-    WaitLimit,
-    PollLimit,
+    WaitLimitReached,
+    PollLimitReached,
     OtherDevice,
     BadStatus,
-    Differs { offset: usize },
+    CompareDiffers { offset: usize },
     NoImageByte,
 }
 
@@ -27,11 +27,11 @@ impl Outcome {
         match self {
             Outcome::Done => (32, 0),
             Outcome::BadReply => (9, 0),
-            Outcome::WaitLimit => (10, 0),
-            Outcome::PollLimit => (11, 0),
+            Outcome::WaitLimitReached => (10, 0),
+            Outcome::PollLimitReached => (11, 0),
             Outcome::OtherDevice => (12, 0),
             Outcome::BadStatus => (13, 0),
-            Outcome::Differs { offset } => (14, offset),
+            Outcome::CompareDiffers { offset } => (14, offset),
             Outcome::NoImageByte => (15, 0),
         }
     }
@@ -269,7 +269,7 @@ impl Session {
         match frame.advance(reply == 1) {
             Progress::Next(step) => step,
             Progress::Complete(value) => self.after_frame(value, image),
-            Progress::NoAnswer => self.end(Outcome::WaitLimit),
+            Progress::NoAnswer => self.end(Outcome::WaitLimitReached),
         }
     }
 
@@ -330,7 +330,7 @@ impl Session {
     fn poll_again(&mut self) -> Step {
         self.reads += 1;
         if self.reads == Session::POLL_LIMIT {
-            return self.end(Outcome::PollLimit);
+            return self.end(Outcome::PollLimitReached);
         }
         self.begin(self.task, Frame::address_read())
     }
@@ -389,7 +389,7 @@ impl Session {
         };
         match image.get(offset) {
             None => self.end(Outcome::NoImageByte),
-            Some(&byte) if byte != value => self.end(Outcome::Differs { offset }),
+            Some(&byte) if byte != value => self.end(Outcome::CompareDiffers { offset }),
             Some(_) => self.next_entry(image),
         }
     }

@@ -21,11 +21,11 @@ impl Settings {
     /// The lowest of the refusals 1 to 3, in the order of their numbers.
     pub fn refusal(&self) -> Option<u32> {
         if self.fpdat < 3 {
-            Some(numbers::FPDAT_ADDRESS)
+            Some(numbers::BAD_FPDAT)
         } else if self.page_size != 512 && self.page_size != 1024 {
-            Some(numbers::PAGE_SIZE)
+            Some(numbers::BAD_PAGE_SIZE)
         } else if self.page_count == 0 || self.flash_len() > FLASH_LIMIT {
-            Some(numbers::PAGE_COUNT)
+            Some(numbers::BAD_PAGE_COUNT)
         } else {
             None
         }

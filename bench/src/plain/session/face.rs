@@ -244,11 +244,11 @@ impl Outcome {
         match (number, offset) {
             (32, 0) => Some(Outcome::Done),
             (9, 0) => Some(Outcome::BadReply),
-            (10, 0) => Some(Outcome::WaitLimit),
-            (11, 0) => Some(Outcome::PollLimit),
+            (10, 0) => Some(Outcome::WaitLimitReached),
+            (11, 0) => Some(Outcome::PollLimitReached),
             (12, 0) => Some(Outcome::OtherDevice),
             (13, 0) => Some(Outcome::BadStatus),
-            (14, _) if offset < image_len => Some(Outcome::Differs { offset }),
+            (14, _) if offset < image_len => Some(Outcome::CompareDiffers { offset }),
             (15, 0) => Some(Outcome::NoImageByte),
             _ => None,
         }

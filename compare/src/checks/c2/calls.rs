@@ -200,14 +200,14 @@ fn every_place(driven: &Driven, count: usize, steps_len: usize, random: &mut Ran
 fn nulls(run: &mut Run) -> Checked {
     let refused = |number| Opened { number, step: u32::from(OFF) };
     let inputs = || "null pointers with length 0".to_string();
-    let bad_record = Advanced { number: numbers::RECORD, offset: 0, taken: 0 };
-    let no_session = Remaining { number: numbers::RECORD, steps: 0 };
-    let nothing = (refused(numbers::RECORD), bad_record, no_session);
+    let bad_record = Advanced { number: numbers::BAD_RECORD, offset: 0, taken: 0 };
+    let no_session = Remaining { number: numbers::BAD_RECORD, steps: 0 };
+    let nothing = (refused(numbers::BAD_RECORD), bad_record, no_session);
     expect(nothing, calls::lent_nothing(&SETTINGS), inputs)?;
 
     let driven = Driven::open(&SETTINGS, 0, &[0x55; 512], &mut run.random)?;
-    let other_image = Advanced { number: numbers::IMAGE_LENGTH, offset: 0, taken: 0 };
-    let record_only = (refused(numbers::IMAGE_PAGES), other_image);
+    let other_image = Advanced { number: numbers::OTHER_IMAGE, offset: 0, taken: 0 };
+    let record_only = (refused(numbers::BAD_IMAGE), other_image);
     expect(record_only, calls::lent_a_record_only(&driven.record, &SETTINGS), inputs)?;
     let running = Advanced { number: numbers::RUNNING, offset: 0, taken: 0 };
     expect(running, calls::lent_no_replies(&driven.record, &driven.image), inputs)?;

@@ -166,7 +166,7 @@ fn nulls(run: &mut Run) -> Checked {
     let mut state = c2_target::fresh();
     let inputs = || "null pointers with length 0".to_string();
     for step in 0..8 {
-        let refused = Replied { number: numbers::FLASH_LENGTH, reply: 1, target: state };
+        let refused = Replied { number: numbers::NO_POINT, reply: 1, target: state };
         expect(refused, model::step_on_nothing(&settings, &state, step), inputs)?;
     }
     // a whole Data Read of the ID, whose WAIT takes a delay

@@ -54,7 +54,7 @@ fn lines(image: &[u8]) -> String {
 /// Input longer than the flash counts as 5, whole pages or not.
 fn open(image: &[u8]) -> Result<Session, u32> {
     if image.len() > FLASH_LEN {
-        return Err(numbers::FIRST_PAGE);
+        return Err(numbers::PAST_LAST_PAGE);
     }
     Session::open(&SETTINGS, 0, image)
 }

@@ -41,17 +41,17 @@ fn ended(number: u32) -> Outcome {
 fn refused_openings(_: &mut Run) -> Checked {
     let bad = Settings { device_id: 0, fpdat: 2, page_size: 500, page_count: 0 };
     let rows = [
-        (bad, 0, 0, Some(numbers::FPDAT_ADDRESS)),
-        (Settings { fpdat: 3, ..bad }, 0, 0, Some(numbers::PAGE_SIZE)),
-        (Settings { page_count: 0, ..SETTINGS }, 0, 0, Some(numbers::PAGE_COUNT)),
-        (Settings { page_count: 129, ..SETTINGS }, 0, 512, Some(numbers::PAGE_COUNT)),
-        (Settings { page_count: u32::MAX, ..SETTINGS }, 0, 512, Some(numbers::PAGE_COUNT)),
-        (SETTINGS, 40, 0, Some(numbers::IMAGE_PAGES)),
-        (SETTINGS, 40, 511, Some(numbers::IMAGE_PAGES)),
-        (SETTINGS, 32, 512, Some(numbers::FIRST_PAGE)),
-        (SETTINGS, u32::MAX, 512, Some(numbers::FIRST_PAGE)),
-        (SETTINGS, 31, 1024, Some(numbers::FIRST_PAGE)),
-        (SETTINGS, 0, 16_896, Some(numbers::FIRST_PAGE)),
+        (bad, 0, 0, Some(numbers::BAD_FPDAT)),
+        (Settings { fpdat: 3, ..bad }, 0, 0, Some(numbers::BAD_PAGE_SIZE)),
+        (Settings { page_count: 0, ..SETTINGS }, 0, 0, Some(numbers::BAD_PAGE_COUNT)),
+        (Settings { page_count: 129, ..SETTINGS }, 0, 512, Some(numbers::BAD_PAGE_COUNT)),
+        (Settings { page_count: u32::MAX, ..SETTINGS }, 0, 512, Some(numbers::BAD_PAGE_COUNT)),
+        (SETTINGS, 40, 0, Some(numbers::BAD_IMAGE)),
+        (SETTINGS, 40, 511, Some(numbers::BAD_IMAGE)),
+        (SETTINGS, 32, 512, Some(numbers::PAST_LAST_PAGE)),
+        (SETTINGS, u32::MAX, 512, Some(numbers::PAST_LAST_PAGE)),
+        (SETTINGS, 31, 1024, Some(numbers::PAST_LAST_PAGE)),
+        (SETTINGS, 0, 16_896, Some(numbers::PAST_LAST_PAGE)),
         (SETTINGS, 31, 512, None),
         (SETTINGS, 0, 16_384, None),
         (Settings { page_count: 128, ..SETTINGS }, 0, 65_536, None),
@@ -106,18 +106,18 @@ fn refused_calls(_: &mut Run) -> Checked {
     let mut stopped = open(&SETTINGS, 0, &image)?;
     let mut replies = Slowest::session(SETTINGS.device_id, 512, &[0x55, 0x54].repeat(256));
     let mut steps = vec![0; replies.len()];
-    let at_compare = Outcome { number: numbers::COMPARE, offset: 1 };
+    let at_compare = Outcome { number: numbers::COMPARE_DIFFERS, offset: 1 };
     let came = stopped.advance(&image, &replies, &mut steps, 0);
     expect(at_compare, came.outcome, || "the second byte read differs".to_string())?;
     replies.truncate(4);
 
     let rows = [
-        (511, 4, usize::MAX, ended(numbers::IMAGE_LENGTH)),
-        (0, 0, 0, ended(numbers::IMAGE_LENGTH)),
-        (512, 4, 5, ended(numbers::STEP_BUFFER)),
-        (512, 0, 9, ended(numbers::STEP_BUFFER)),
-        (512, 4, usize::MAX - 3, ended(numbers::STEP_BUFFER)),
-        (512, 4, usize::MAX, ended(numbers::STEP_BUFFER)),
+        (511, 4, usize::MAX, ended(numbers::OTHER_IMAGE)),
+        (0, 0, 0, ended(numbers::OTHER_IMAGE)),
+        (512, 4, 5, ended(numbers::NO_ROOM)),
+        (512, 0, 9, ended(numbers::NO_ROOM)),
+        (512, 4, usize::MAX - 3, ended(numbers::NO_ROOM)),
+        (512, 4, usize::MAX, ended(numbers::NO_ROOM)),
         (512, 0, 8, running()),
     ];
     for (image_len, count, place, outcome) in rows {
@@ -162,7 +162,7 @@ fn limits(_: &mut Run) -> Checked {
         + WHOLE_DATA_FRAME;
 
     let zeros = [0; RESET_TO_WAIT + 30];
-    let refused = (ended(numbers::WAIT_LIMIT), RESET_TO_WAIT + 20);
+    let refused = (ended(numbers::WAIT_LIMIT_REACHED), RESET_TO_WAIT + 20);
     expect(refused, take(&SETTINGS, &zeros)?, || "P8: all replies 0".to_string())?;
     let mut passes = [0; RESET_TO_WAIT + 20];
     passes[RESET_TO_WAIT + 19] = 1;
@@ -172,7 +172,7 @@ fn limits(_: &mut Run) -> Checked {
     let all_ones = Settings { device_id: 0xFF, ..SETTINGS };
     let last_stop = BEFORE_POLL + 256 * ADDRESS_FRAME;
     let ones = vec![1; last_stop + 5];
-    let refused = (ended(numbers::POLL_LIMIT), last_stop);
+    let refused = (ended(numbers::POLL_LIMIT_REACHED), last_stop);
     expect(refused, take(&all_ones, &ones)?, || "P10: all replies 1".to_string())?;
     let mut passes = ones;
     // InBusy of the 256th read: START, INS, bit 0, then this one
@@ -186,7 +186,7 @@ fn limits(_: &mut Run) -> Checked {
 fn endings(run: &mut Run) -> Checked {
     let ones = [1; 40];
     let inputs = || "device ID 0x04, all replies 1".to_string();
-    expect((ended(numbers::DEVICE_ID), 16), take(&SETTINGS, &ones)?, inputs)?;
+    expect((ended(numbers::OTHER_DEVICE), 16), take(&SETTINGS, &ones)?, inputs)?;
     let random = &mut run.random;
     Ok(1 + bad_replies(random)? + missing_page()? + stuck_bytes(random)? + short_image()?)
 }
@@ -220,7 +220,7 @@ fn missing_page() -> Checked {
     // the lead, then FPDAT, the command, its status, the page number, its status
     let taken = device.run(&mut session, &image, |_, _| ());
     let inputs = || "page 20 of a device with 20 pages".to_string();
-    expect((ended(numbers::STATUS), 75 + 12 + 4 * 27), (session.outcome(), taken), inputs)?;
+    expect((ended(numbers::BAD_STATUS), 75 + 12 + 4 * 27), (session.outcome(), taken), inputs)?;
     Ok(1)
 }
 
@@ -239,7 +239,7 @@ fn stuck_bytes(random: &mut Random) -> Checked {
             step = session.reply(reply, &image);
         }
         let inputs = || format!("first page {first_page}, flash byte {stuck} stuck");
-        expect(Outcome { number: numbers::COMPARE, offset }, session.outcome(), inputs)?;
+        expect(Outcome { number: numbers::COMPARE_DIFFERS, offset }, session.outcome(), inputs)?;
     }
     Ok(WRONG_RUNS)
 }
@@ -271,7 +271,7 @@ fn short_image() -> Checked {
             taken += 1;
         }
         let inputs = || format!("image of no bytes after {lent_until} replies");
-        expect((ended(numbers::IMAGE_OFFSET), wanted), (session.outcome(), taken), inputs)?;
+        expect((ended(numbers::NO_IMAGE_BYTE), wanted), (session.outcome(), taken), inputs)?;
     }
     Ok(rows.len() as u64)
 }

@@ -104,17 +104,17 @@ impl Tally {
 fn refusals<T: Modelled>(_: &mut Run) -> Checked {
     let bad = Settings { device_id: 0, fpdat: 2, page_size: 500, page_count: 0 };
     let rows = [
-        (bad, 1024, 1, numbers::FPDAT_ADDRESS),
-        (Settings { fpdat: 3, ..bad }, 1024, 1, numbers::PAGE_SIZE),
-        (Settings { page_size: 512, page_count: 0, ..SETTINGS }, 0, 1, numbers::PAGE_COUNT),
-        (Settings { page_count: 129, ..SETTINGS }, 66_048, 1, numbers::PAGE_COUNT),
-        (Settings { page_size: 1024, page_count: 65, ..SETTINGS }, 66_560, 1, numbers::PAGE_COUNT),
-        (Settings { page_count: u32::MAX, ..SETTINGS }, 1024, 1, numbers::PAGE_COUNT),
-        (SETTINGS, 1023, 1, numbers::FLASH_LENGTH),
-        (SETTINGS, 1025, 0, numbers::FLASH_LENGTH),
-        (SETTINGS, 1024, 1, numbers::UNKNOWN_STEP),
-        (SETTINGS, 1024, 7, numbers::UNKNOWN_STEP),
-        (SETTINGS, 1024, 255, numbers::UNKNOWN_STEP),
+        (bad, 1024, 1, numbers::BAD_FPDAT),
+        (Settings { fpdat: 3, ..bad }, 1024, 1, numbers::BAD_PAGE_SIZE),
+        (Settings { page_size: 512, page_count: 0, ..SETTINGS }, 0, 1, numbers::BAD_PAGE_COUNT),
+        (Settings { page_count: 129, ..SETTINGS }, 66_048, 1, numbers::BAD_PAGE_COUNT),
+        (Settings { page_size: 1024, page_count: 65, ..SETTINGS }, 66_560, 1, numbers::BAD_PAGE_COUNT),
+        (Settings { page_count: u32::MAX, ..SETTINGS }, 1024, 1, numbers::BAD_PAGE_COUNT),
+        (SETTINGS, 1023, 1, numbers::NO_POINT),
+        (SETTINGS, 1025, 0, numbers::NO_POINT),
+        (SETTINGS, 1024, 1, numbers::NO_STEP),
+        (SETTINGS, 1024, 7, numbers::NO_STEP),
+        (SETTINGS, 1024, 255, numbers::NO_STEP),
     ];
     let mut tally = Tally::default();
     for (settings, flash_len, step, number) in rows {

@@ -46,7 +46,7 @@ impl Opening<'_> {
     /// Our own session, or the number of the refusal.
     fn own(&self) -> Result<Session, u32> {
         if self.record.len() != RECORD_LEN {
-            return Err(numbers::RECORD);
+            return Err(numbers::BAD_RECORD);
         }
         Session::open(&self.settings, self.first_page, self.image)
     }
@@ -95,7 +95,7 @@ pub fn open(call: &Opening) -> Result<Option<(Session, Vec<u8>)>, Failure> {
 pub fn take(mut session: Option<&mut Session>, call: &Taking) -> Result<Called<Advanced>, Failure> {
     let mut steps = call.steps.to_vec();
     let (answer, record) = match &mut session {
-        None => (Advanced { number: numbers::RECORD, offset: 0, taken: 0 }, call.record.to_vec()),
+        None => (Advanced { number: numbers::BAD_RECORD, offset: 0, taken: 0 }, call.record.to_vec()),
         Some(session) => {
             let own = session.advance(call.image, call.replies, &mut steps, call.place);
             let (number, offset) = (own.outcome.number, own.outcome.offset as u32);
@@ -115,7 +115,7 @@ pub fn take(mut session: Option<&mut Session>, call: &Taking) -> Result<Called<A
 /// Asks both sides how much is left. `session` is as above; the record must stay as it is.
 pub fn ask(session: Option<&Session>, record: &[u8]) -> Result<(), Failure> {
     let answer = match session {
-        None => Remaining { number: numbers::RECORD, steps: 0 },
+        None => Remaining { number: numbers::BAD_RECORD, steps: 0 },
         Some(session) => Remaining { number: session.outcome().number, steps: session.most_steps_left() },
     };
     let inputs = || format!("asking how much is left: record {}", hex(record));

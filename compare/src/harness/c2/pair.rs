@@ -160,7 +160,7 @@ pub fn refused_state(
     delays: &[u8],
     step: u8,
 ) -> Result<(), Failure> {
-    let number = settings.refusal().unwrap_or(numbers::FLASH_LENGTH);
+    let number = settings.refusal().unwrap_or(numbers::NO_POINT);
     let len = flash.len();
     let inputs = || format!("{state:?}, {settings:?}, flash of {len}, delays {delays:?}, step {step}");
     let came = model::step_lent(settings, state, flash, delays, step);

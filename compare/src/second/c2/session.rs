@@ -134,12 +134,12 @@ impl Order {
     }
 
     fn status(&mut self) {
-        self.get(Byte::Fixed(OKAY), numbers::STATUS);
+        self.get(Byte::Fixed(OKAY), numbers::BAD_STATUS);
     }
 
     fn identify(&mut self, device_id: u8) {
         self.add(Operation::Reset);
-        self.add(Operation::Expect(Byte::Fixed(device_id), numbers::DEVICE_ID));
+        self.add(Operation::Expect(Byte::Fixed(device_id), numbers::OTHER_DEVICE));
         self.add(Operation::Reset);
     }
 
@@ -200,7 +200,7 @@ impl Order {
         self.put_block_place(address);
         self.status();
         for byte in 0..BLOCK_SIZE {
-            self.get(Byte::Image(offset + byte), numbers::COMPARE);
+            self.get(Byte::Image(offset + byte), numbers::COMPARE_DIFFERS);
         }
     }
 }
@@ -277,10 +277,10 @@ pub fn refusal(settings: &Settings, first_page: u32, image_len: usize) -> Option
     }
     let page_size = settings.page_size as usize;
     if image_len == 0 || !image_len.is_multiple_of(page_size) {
-        return Some(numbers::IMAGE_PAGES);
+        return Some(numbers::BAD_IMAGE);
     }
     let last_page = u64::from(first_page) + (image_len / page_size) as u64;
-    (last_page > u64::from(settings.page_count)).then_some(numbers::FIRST_PAGE)
+    (last_page > u64::from(settings.page_count)).then_some(numbers::PAST_LAST_PAGE)
 }
 
 impl Session {
@@ -394,10 +394,10 @@ impl Session {
 
     fn call_refusal(&self, image_len: usize, replies: usize, steps_len: usize, place: usize) -> Option<u32> {
         if image_len != self.image_len() {
-            return Some(numbers::IMAGE_LENGTH);
+            return Some(numbers::OTHER_IMAGE);
         }
         let fits = place.checked_add(replies).is_some_and(|end| end <= steps_len);
-        (!fits).then_some(numbers::STEP_BUFFER)
+        (!fits).then_some(numbers::NO_ROOM)
     }
 
     /// Takes one reply and gives the step that follows it; an ended session takes none.
@@ -423,7 +423,7 @@ impl Session {
             None => self.next_operation()?,
             Some(frame) => match frame.reply(reply == 1, WAIT_LIMIT) {
                 None => {}
-                Some(End::WaitLimit) => return Err(Outcome::of(numbers::WAIT_LIMIT)),
+                Some(End::WaitLimit) => return Err(Outcome::of(numbers::WAIT_LIMIT_REACHED)),
                 Some(End::Passed(byte)) => self.judge(byte, image)?,
             },
         }
@@ -465,7 +465,7 @@ impl Session {
         }
         self.reads += 1;
         if self.reads == POLL_LIMIT {
-            return Err(Outcome::of(numbers::POLL_LIMIT));
+            return Err(Outcome::of(numbers::POLL_LIMIT_REACHED));
         }
         self.frame = Some(Frame::begin(Kind::AddressRead));
         Ok(())
@@ -490,6 +490,6 @@ impl Session {
 fn value(byte: Byte, image: &[u8]) -> Result<u8, Outcome> {
     match byte {
         Byte::Fixed(byte) => Ok(byte),
-        Byte::Image(offset) => image.get(offset).copied().ok_or(Outcome::of(numbers::IMAGE_OFFSET)),
+        Byte::Image(offset) => image.get(offset).copied().ok_or(Outcome::of(numbers::NO_IMAGE_BYTE)),
     }
 }

@@ -113,9 +113,9 @@ fn refusal(settings: &Settings, flash_len: usize, step: u8) -> Option<u32> {
         return Some(number);
     }
     if flash_len as u64 != settings.flash_len() {
-        return Some(numbers::FLASH_LENGTH);
+        return Some(numbers::NO_POINT);
     }
-    (step == 1 || step > OFF).then_some(numbers::UNKNOWN_STEP)
+    (step == 1 || step > OFF).then_some(numbers::NO_STEP)
 }
 
 impl Modelled for Target {
