@@ -4,7 +4,7 @@ CARGO := cargo run --quiet --offline --manifest-path compare/Cargo.toml --target
 BENCH := cargo run --quiet --release --offline --manifest-path bench/Cargo.toml --target-dir target/bench --
 
 # The libraries that the comparison and the benchmark link; proved/build.rs has the same list.
-LIBRARIES := $(patsubst %,target/staticlib/lib%.a,c2 probe programming)
+LIBRARIES := $(patsubst %,target/staticlib/lib%.a,c2 c2_wire_probe c2_run)
 
 PROGRAM := target/bin/flash
 
@@ -44,7 +44,7 @@ test:
 
 # Everything below the program and the libraries is proved in one go, level by level.
 below:
-	@rt check flash record figure model </dev/null >&2
+	@rt check flash c2_record c2_figure c2_target_state </dev/null >&2
 
 compare: below $(PROGRAM) $(LIBRARIES)
 	@$(CARGO) --program $(PROGRAM)

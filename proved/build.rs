@@ -3,7 +3,7 @@
 use std::env;
 use std::path::{Path, PathBuf};
 
-const LIBRARIES: [&str; 3] = ["c2", "probe", "programming"];
+const LIBRARIES: [&str; 3] = ["c2", "c2_wire_probe", "c2_run"];
 const DEFAULT_DIR: &str = "../target/staticlib";
 
 fn library_dir() -> PathBuf {

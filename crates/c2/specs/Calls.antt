@@ -5,22 +5,22 @@ use Prim.Native.Nat.{ℕ, _+_}
 use lib.Dec.{eqb, leb}
 use lib.ListN.{length, take, drop, replicate}
 use Rattle.numbers.specs.Numbers.{bad-record, other-image, no-room}
-use Rattle.wire.specs.Step.{reset, off, code}
-use Rattle.wire.specs.Exchange.{Exchange, fed, steps, outcome-of}
+use Rattle.c2_wire.specs.Step.{reset, off, code}
+use Rattle.c2_wire.specs.Exchange.{Exchange, fed, steps, outcome-of}
 use Rattle.settings.specs.declared.Settings.{Settings}
-use Rattle.order.specs.Opening.{opening-refusal}
-use Rattle.order.specs.Conversation.{session-limits}
-use Rattle.order.specs.Figure.{figure}
-use Rattle.session.specs.declared.Session.{Session}
-use Rattle.position.specs.Position.{position}
-use Rattle.following.specs.Following.{image-length, exchange-at, after-replies}
-use Rattle.record.specs.declared.Unpacked.{Unpacked}
-use Rattle.record.specs.declared.Unpacked.the-variants.{Held, Refused}
-use Rattle.record.specs.Record.{packed}
+use Rattle.settings.specs.Opening.{opening-refusal}
+use Rattle.c2_order.specs.Conversation.{session-limits}
+use Rattle.c2_order.specs.Figure.{figure}
+use Rattle.c2_session.specs.declared.Session.{Session}
+use Rattle.c2_position.specs.Position.{position}
+use Rattle.c2_opening.specs.Opened.{image-length, exchange-at, after-replies}
+use Rattle.c2_record.specs.declared.Unpacked.{Unpacked}
+use Rattle.c2_record.specs.declared.Unpacked.the-variants.{Held, Refused}
+use Rattle.c2_record.specs.Record.{packed}
 use Rattle.c2.specs.declared.Opened.{Opened}
 use Rattle.c2.specs.declared.Advanced.{Advanced}
 use Rattle.c2.specs.declared.Remaining.{Remaining}
-use Rattle.wire.specs.Exchange
+use Rattle.c2_wire.specs.Exchange
 
 -- Opening. The number by which it is refused: a record that is not 32 bytes, then 1 to 5.
 unfoldable pub opening-number : (bytes : ℕ) → Settings → (first length : ℕ) → ℕ

@@ -5,19 +5,19 @@ use mathlib.Core.Bool.{true}
 use mathlib.Core.List.{List, _++_}
 use Prim.Native.Nat.{ℕ, _/_, _<_}
 use lib.ListN.{length}
-use Rattle.wire.specs.Bits.{Bytes}
-use Rattle.wire.specs.Exchange.{fed}
+use Rattle.c2_wire.specs.Bits.{Bytes}
+use Rattle.c2_wire.specs.Exchange.{fed}
 use Rattle.settings.specs.declared.Settings.{Settings}
-use Rattle.order.specs.Opening.{opening-refusal}
-use Rattle.order.specs.Conversation.{session-limits}
-use Rattle.order.specs.Figure.{figure}
-use Rattle.order.specs.Claims.{exchange-of, point-after}
-use Rattle.session.specs.declared.Session.{Session}
-use Rattle.session.specs.Range.{in-range}
-use Rattle.position.specs.Position.{position}
-use Rattle.record.specs.declared.Unpacked.the-variants.{Held}
-use Rattle.record.specs.Record.{packed, unpacked}
-use Rattle.following.specs.Following.{opened-session, image-length, exchange-at, after-replies}
+use Rattle.settings.specs.Opening.{opening-refusal}
+use Rattle.c2_order.specs.Conversation.{session-limits}
+use Rattle.c2_order.specs.Figure.{figure}
+use Rattle.c2_order.specs.Claims.{exchange-of, point-after}
+use Rattle.c2_session.specs.declared.Session.{Session}
+use Rattle.c2_range.specs.Range.{in-range}
+use Rattle.c2_position.specs.Position.{position}
+use Rattle.c2_record.specs.declared.Unpacked.the-variants.{Held}
+use Rattle.c2_record.specs.Record.{packed, unpacked}
+use Rattle.c2_opening.specs.Opened.{opened-session, image-length, exchange-at, after-replies}
 use Rattle.c2.specs.Calls.{blank}
 
 -- the session that was opened, after replies

@@ -1,3 +1,3 @@
 pub mod Calls
-pub mod Loop
+pub mod Code
 pub mod Claims

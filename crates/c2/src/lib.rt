@@ -4,27 +4,27 @@ ghost use mathlib.Core.Path.{_≡_};
 ghost use mathlib.Core.List.{_++_};
 ghost use Prim.Native.Nat.{_≤_};
 ghost use lib.ListN.{length, drop};
-ghost use Rattle.record.specs.Record.{unpacked};
-ghost use Rattle.outcome.specs.Standing.{number-of, offset-of};
-ghost use Rattle.target.specs.Target.{fresh};
-ghost use Rattle.model.specs.State.{state-of};
-ghost use Rattle.model.specs.Model.{model-answer, model-flash};
-ghost use Rattle.following.specs.Following.{opened-session};
+ghost use Rattle.c2_record.specs.Record.{unpacked};
+ghost use Rattle.c2_outcome.specs.Outcome.{number-of, offset-of};
+ghost use Rattle.c2_target.specs.Target.{fresh};
+ghost use Rattle.c2_target_state.specs.State.{state-of};
+ghost use Rattle.c2_target_state.specs.Model.{model-answer, model-flash};
+ghost use Rattle.c2_opening.specs.Opened.{opened-session};
 ghost use Rattle.c2.specs.Calls.{opening-number, opening-answer, record-opened, refused-answer, advance-answer, advance-steps, advance-record, remaining-answer};
-ghost use Rattle.c2.specs.Loop.{ran, wrote};
-use model::ModelReplied;
-use model::State;
+ghost use Rattle.c2.specs.Code.Loop.{ran, wrote};
+use c2_target_state::ModelReplied;
+use c2_target_state::State;
 use numbers::BAD_RECORD;
 use numbers::NO_ROOM;
 use numbers::OTHER_IMAGE;
 use numbers::RUNNING;
-use outcome::is_running;
-use outcome::outcome_of;
-use outcome::same_session;
-use outcome::task_at;
-use outcome::task_next;
-use record::Unpacked;
-use session::Session;
+use c2_outcome::is_running;
+use c2_outcome::outcome_of;
+use c2_outcome::same_session;
+use c2_outcome::task_at;
+use c2_outcome::task_next;
+use c2_record::Unpacked;
+use c2_session::Session;
 use settings::Settings;
 
 // The number of an opening, and its first step: 4, or 6 when refused.
@@ -120,14 +120,14 @@ pub extern "C" fn c2_open(held: &mut [u8], image: &[u8], t: Settings, first: u32
             step: 6,
         };
     }
-    let number = opening::opening_refusal(t, first, image.len());
+    let number = settings::opening_refusal(t, first, image.len());
     if number != RUNNING {
         return Opened {
             number: number,
             step: 6,
         };
     }
-    let fresh = record::pack(following::start(t, first, image.len()));
+    let fresh = c2_record::pack(c2_opening::start(t, first, image.len()));
     bytes::copy(&fresh, held);
     Opened {
         number: RUNNING,
@@ -149,11 +149,11 @@ pub extern "C" fn c2_advance(
     ensures { λ _. ⌜ now (steps .exit) ≡ advance-steps (unpacked 20 256 (now (held .entry))) (now (image .entry)) (now (replies .entry)) (now (steps .entry)) place ⌝ }
     ensures { λ _. ⌜ now (held .exit) ≡ advance-record (unpacked 20 256 (now (held .entry))) (now (image .entry)) (now (replies .entry)) (now (steps .entry)) place (now (held .entry)) ⌝ }
 {
-    let Unpacked::Held(s) = record::unpack(held) else {
+    let Unpacked::Held(s) = c2_record::unpack(held) else {
         return refused(BAD_RECORD);
     };
     let t = s.settings;
-    if image.len() != opening::image_bytes(t.size, s.pages) {
+    if image.len() != settings::image_bytes(t.size, s.pages) {
         return refused(OTHER_IMAGE);
     }
     if steps.len() < place {
@@ -164,7 +164,7 @@ pub extern "C" fn c2_advance(
     }
     let ran = run(s, image, replies, &mut steps[place..]);
     let after = ran.session;
-    let again = record::pack(after);
+    let again = c2_record::pack(after);
     bytes::copy(&again, held);
     answer(after, ran.taken)
 }
@@ -174,7 +174,7 @@ pub extern "C" fn c2_advance(
 pub extern "C" fn c2_steps_left(held: &[u8]) -> Remaining
     ensures { λ r. ⌜ r ≡ remaining-answer (unpacked 20 256 (now (held .entry))) ⌝ }
 {
-    let Unpacked::Held(s) = record::unpack(held) else {
+    let Unpacked::Held(s) = c2_record::unpack(held) else {
         return Remaining {
             number: BAD_RECORD,
             steps: 0,
@@ -184,7 +184,7 @@ pub extern "C" fn c2_steps_left(held: &[u8]) -> Remaining
     let outcome = outcome_of(point);
     Remaining {
         number: outcome.number,
-        steps: figure::steps_left(s) as u64,
+        steps: c2_figure::steps_left(s) as u64,
     }
 }
 
@@ -233,5 +233,5 @@ pub extern "C" fn c2_target_step(
     ensures { λ r. ⌜ r ≡ model-answer t state (now (flash .entry)) (now (delays .entry)) step ⌝ }
     ensures { λ _. ⌜ now (flash .exit) ≡ model-flash t state (now (flash .entry)) (now (delays .entry)) step ⌝ }
 {
-    model::step(t, state, flash, delays, step)
+    c2_target_state::step(t, state, flash, delays, step)
 }

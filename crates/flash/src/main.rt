@@ -3,7 +3,7 @@
 use libc::STDIN_FILENO;
 use libc::STDOUT_FILENO;
 use numbers::PAST_LAST_PAGE;
-use programming::Run;
+use c2_run::Run;
 use settings::Settings;
 
 const PAGE: usize = 512;
@@ -30,7 +30,7 @@ fn run(image: &[u8]) -> Run {
         };
     }
     let mut flash = [0u8; 16384];
-    programming::c2_program(device(), 0, image, &mut flash, &[], usize::MAX)
+    c2_run::c2_program(device(), 0, image, &mut flash, &[], usize::MAX)
 }
 
 // A refused image is none of its pages.

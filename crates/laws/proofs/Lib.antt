@@ -1,4 +1,4 @@
 pub mod Pick
-pub mod Testing
+pub mod Tests
 pub mod Products
 pub mod Below

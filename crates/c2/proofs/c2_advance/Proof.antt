@@ -2,10 +2,10 @@
 use mathlib.Core.Path.{refl, sym, _∙_}
 use native.Mathlib.Omega.{arith}
 use borrow.Author.Needs.{needs}
-use Rattle.c2.specs.Loop.{wrote}
-use Rattle.c2.proofs.Looping.{put-back}
-use Rattle.following.proofs.Meeting.{bytes-all}
-use Rattle.c2.proofs.Calling.{refuses-record, refuses-image, refuses-room, accepts, lent-held, record-fits, record-replaced}
+use Rattle.c2.specs.Code.Loop.{wrote}
+use Rattle.c2.proofs.Laws.Loop.{put-back}
+use Rattle.c2_opening.proofs.Laws.Follows.{bytes-all}
+use Rattle.c2.proofs.Laws.Advance.{refuses-record, refuses-image, refuses-room, accepts, lent-held, record-fits, record-replaced}
 use Rattle.c2.proofs.c2_advance.Statement.{statement}
 use Rattle.c2.proofs.c2_advance.Tie as tie
 

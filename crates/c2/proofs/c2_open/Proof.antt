@@ -1,9 +1,9 @@
 -- `c2::c2_open` meets its contract: each return by the laws of Starting.
 use mathlib.Core.Path.{sym, ap, _∙_}
 use borrow.Author.Needs.{needs}
-use Rattle.following.proofs.Beginning.{started-is}
-use Rattle.record.specs.Record.{packed}
-use Rattle.c2.proofs.Starting.{refuses-size, refuses-opening, opens}
+use Rattle.c2_opening.proofs.Laws.Opened.{started-is}
+use Rattle.c2_record.specs.Record.{packed}
+use Rattle.c2.proofs.Laws.Open.{refuses-size, refuses-opening, opens}
 use Rattle.c2.proofs.c2_open.Statement.{statement}
 use Rattle.c2.proofs.c2_open.Tie as tie
 

@@ -1,8 +1,8 @@
 -- `c2::c2_steps_left` meets its contract: each return by the laws of Asking.
 use mathlib.Core.Path.{refl, sym, ap, _∙_}
 use borrow.Author.Needs.{needs}
-use Rattle.outcome.specs.declared.Outcome.{Outcome}
-use Rattle.c2.proofs.Asking.{asks-refused, asks-held}
+use Rattle.c2_outcome.specs.declared.Outcome.{Outcome}
+use Rattle.c2.proofs.Laws.StepsLeft.{asks-refused, asks-held}
 use Rattle.c2.proofs.c2_steps_left.Statement.{statement}
 use Rattle.c2.proofs.c2_steps_left.Tie as tie
 

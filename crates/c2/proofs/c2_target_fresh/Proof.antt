@@ -1,8 +1,8 @@
 -- `c2::c2_target_fresh` meets its contract: the numbers of a fresh target, by computing.
 use mathlib.Core.Path.{refl}
-use Rattle.wire.specs.Bits.{bit}
-use Rattle.target.specs.Target.{cleared, fresh}
-use Rattle.model.specs.State.{effect-code, effect-byte, point-fields, command-fields, output-fields, state-of}
+use Rattle.c2_wire.specs.Bits.{bit}
+use Rattle.c2_target.specs.Target.{cleared, fresh}
+use Rattle.c2_target_state.specs.State.{effect-code, effect-byte, point-fields, command-fields, output-fields, state-of}
 use Rattle.c2.proofs.c2_target_fresh.Statement.{statement}
 use Rattle.c2.proofs.c2_target_fresh.Tie as tie
 

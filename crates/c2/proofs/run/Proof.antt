@@ -5,8 +5,8 @@ use native.Mathlib.Omega.{arith}
 use borrow.Author.Needs.{needs}
 use borrow.Author.Tests.{not-true, not-false}
 use lib.ListN.{length}
-use Rattle.outcome.proofs.Knowing.{Knows, known-at}
-use Rattle.c2.proofs.Looping.{Sofar, starts, goes-known, done, stops}
+use Rattle.c2_outcome.proofs.Laws.Task.{Knows, known-at}
+use Rattle.c2.proofs.Laws.Loop.{Sofar, starts, goes-known, done, stops}
 use Rattle.c2.proofs.run.Statement.{statement}
 use Rattle.c2.proofs.run.Tie as tie
 

@@ -1,0 +1,83 @@
+-- What a call that takes replies answers and leaves, at each of its returns.
+use mathlib.Core.Path.{_≡_, refl, sym, ap, _∙_}
+use mathlib.Core.List.{List, _++_, append-nil}
+use Prim.Native.Nat.{ℕ, _+_, _<_, _≤_}
+use native.Mathlib.Omega.{arith}
+use borrow.Author.Tests.{le-leb, lt-leb, eq-eqb, ne-eqb}
+use lib.ListN.{length, take, drop, drop-of-length-le}
+use lib.Seq.{take-all}
+use Rattle.numbers.specs.Numbers.{bad-record, other-image, no-room}
+use Rattle.c2_wire.specs.Bits.{Bytes}
+use Rattle.c2_wire.specs.Exchange.{Exchange, Outcome, fed, steps, outcome-of}
+use Rattle.c2_session.specs.declared.Session.{Session}
+use Rattle.c2_record.specs.declared.Unpacked.{Unpacked}
+use Rattle.c2_record.specs.declared.Unpacked.the-variants.{Held, Refused}
+use Rattle.c2_record.specs.Record.{packed, unpacked}
+use Rattle.c2_record.proofs.Laws.Claims.{small, packed-whole, unpack-pack, unpacked-exactly}
+use Rattle.c2.specs.declared.Advanced.{Advanced}
+use Rattle.c2_opening.specs.Opened.{image-length, exchange-at, after-replies}
+use Rattle.c2.specs.Calls.{taken-answer, refused-answer, steps-written, advance-answer, advance-steps, advance-record}
+use Rattle.c2_outcome.specs.Outcome.{number-of, offset-of}
+use Rattle.c2.specs.Code.Loop.{ran, wrote}
+use Rattle.c2_opening.proofs.Laws.Follows.{Lent, outcome-is}
+use Rattle.c2.proofs.Laws.Loop.Exchange.{ran-is, wrote-is}
+use Rattle.c2_wire.specs.Exchange
+
+-- answer, step buffer and record afterwards
+abbrev pub Leaves : Unpacked → (image replies buffer : List ℕ) → (place : ℕ) → (record₀ : List ℕ) → Advanced → (buffer₁ record₁ : List ℕ) → Type 0
+Leaves u image rs buffer place r₀ a b r₁ =
+    (a ≡ advance-answer u image rs buffer place) × ((b ≡ advance-steps u image rs buffer place) × (r₁ ≡ advance-record u image rs buffer place r₀))
+
+module _ (u : Unpacked) (image rs buffer : List ℕ) (place : ℕ) (r : List ℕ) (a : Advanced) where
+  pub refuses-record : u ≡ Refused → a ≡ refused-answer bad-record → Leaves u image rs buffer place r a buffer r
+  refuses-record e f = rw e (f, (refl, refl))
+
+  module _ (s : Session) (e : u ≡ Held s) where
+    pub refuses-image : (length image ≡ image-length s → ⊥) → a ≡ refused-answer other-image → Leaves u image rs buffer place r a buffer r
+    refuses-image g f = rw (e, ne-eqb (length image) (image-length s) g) (f, (refl, refl))
+
+    pub refuses-room : length image ≡ image-length s → length buffer < place + length rs → a ≡ refused-answer no-room → Leaves u image rs buffer place r a buffer r
+    refuses-room g h f = rw (e, eq-eqb (length image) (image-length s) g, lt-leb (place + length rs) (length buffer) h) (f, (refl, refl))
+
+    -- an accepted call: what the loop ran and wrote is what the exchange says
+    pub accepts : Lent s image → place + length rs ≤ length buffer → (x : Session) (n : ℕ) (b r₁ : List ℕ)
+        → x ≡ ran image s rs → n ≡ length (wrote image s rs)
+        → (a .number ≡ number-of (x .point)) × (a .offset ≡ offset-of (x .point)) × (a .taken ≡ n)
+        → b ≡ take place buffer ++ (wrote image s rs ++ drop (length (wrote image s rs)) (drop place buffer))
+        → r₁ ≡ packed x → Leaves u image rs buffer place r a b r₁
+    unfolding taken-answer steps-written Exchange.taken
+    accepts l h x n b r₁ p q f g k =
+        let w : wrote image s rs ≡ steps (exchange-at s image) rs = wrote-is s image rs l in
+        let y : x ≡ after-replies s image rs = p ∙ ran-is image s rs in
+        rw (e, eq-eqb (length image) (image-length s) (l .whole), le-leb (place + length rs) (length buffer) h) (
+          (λ t. record { number = number-same t; offset = offset-same t; taken = taken-same t }),
+          (g ∙ ap (λ (z : List ℕ). take place buffer ++ (z ++ drop (length z) (drop place buffer))) w, k ∙ ap packed y),
+        )
+      where
+        number-same : a .number ≡ outcome-of (fed (exchange-at s image) rs) .number
+        number-same = f .0 ∙ ap (λ (z : Session). number-of (z .point)) (p ∙ ran-is image s rs) ∙ sym (ap (λ (z : Outcome). z .number) (outcome-is s image rs l))
+
+        offset-same : a .offset ≡ outcome-of (fed (exchange-at s image) rs) .offset
+        offset-same = f .1 ∙ ap (λ (z : Session). offset-of (z .point)) (p ∙ ran-is image s rs) ∙ sym (ap (λ (z : Outcome). z .offset) (outcome-is s image rs l))
+
+        taken-same : a .taken ≡ length (steps (exchange-at s image) rs)
+        taken-same = f .2 ∙ q ∙ ap length (wrote-is s image rs l)
+
+-- the session that a record holds, lent an image of its length
+pub lent-held : (r image : List ℕ) (s : Session) → unpacked 20 256 r ≡ Held s → Bytes image → length image ≡ image-length s → Lent s image
+lent-held r image s e b l =
+    let h = unpacked-exactly 20 256 small s r .0 e in
+    record { id = h .id; bytes = b; range = h .ranges; whole = l }
+
+-- a record takes the place of the one that was held: both are 32 bytes
+module _ (r p : List ℕ) (s x : Session) (e : unpacked 20 256 r ≡ Held s) (f : p ≡ packed x) where
+  same-size : length p ≡ length r
+  same-size = ap length f ∙ packed-whole x .size ∙ sym (packed-whole s .size) ∙ ap length (unpack-pack 20 256 s r e)
+
+  pub record-fits : length p ≤ length r
+  record-fits = omega (arith, same-size)
+
+  pub record-replaced : (n : ℕ) → n ≡ length p → take n p ++ drop n r ≡ packed x
+  record-replaced n h =
+      let short : length r ≤ length p = omega (arith, same-size) in
+      rw (h, take-all (length p) p (omega arith), drop-of-length-le r short, append-nil) f

@@ -1,0 +1,44 @@
+-- The loop's steps and session are those of the exchange: what the calls' definitions say of them.
+use mathlib.Core.Path.{_≡_, refl, sym, ap, _∙_}
+use mathlib.Core.Bool.{Bool, true, false, cond}
+use mathlib.Core.List.{List, [], _∷_}
+use Prim.Native.Nat.{ℕ}
+use native.Mathlib.Omega.{arith}
+use Rattle.c2_wire.specs.Exchange.{steps}
+use Rattle.c2_wire.proofs.Laws.Exchange.{steps-taken}
+use Rattle.c2_session.specs.declared.Session.{Session}
+use Rattle.c2_session.specs.Code.Machine.{advanced, step-of}
+use Rattle.c2_position.proofs.Laws.Step.{asks-step}
+use Rattle.c2_position.proofs.Laws.Exchange.{exchange-advances}
+use Rattle.c2_opening.specs.Opened.{exchange-at, after-replies}
+use Rattle.c2_opening.proofs.Laws.Follows.{Lent, advanced-ended, after-ended, lent-advances, still-asks, ended-over}
+use Rattle.c2_outcome.specs.Outcome.{is-running}
+use Rattle.c2.specs.Code.Loop.{ran, wrote}
+use Rattle.c2_wire.specs.Exchange
+use Rattle.c2_order.specs.Point
+
+pub ran-is : (image : List ℕ) (s : Session) (rs : List ℕ) → ran image s rs ≡ after-replies s image rs
+unfolding after-replies
+ran-is image s [] = refl
+ran-is image s (r ∷ rs) = go (is-running (s .point)) refl (ran-is image (advanced 20 256 s r image) rs)
+  where
+    go : (t : Bool) → is-running (s .point) ≡ t → ran image (advanced 20 256 s r image) rs ≡ after-replies (advanced 20 256 s r image) image rs
+        → cond t (ran image (advanced 20 256 s r image) rs) s ≡ after-replies (advanced 20 256 s r image) image rs
+    go true p h = h
+    go false p h = sym (ap (λ (x : Session). after-replies x image rs) (advanced-ended s r image p) ∙ after-ended s image rs p)
+
+-- the steps that the loop writes are those of the exchange
+pub wrote-is : (s : Session) (image rs : List ℕ) → Lent s image → wrote image s rs ≡ steps (exchange-at s image) rs
+unfolding steps
+wrote-is s image [] h = refl
+wrote-is s image (r ∷ rs) h = go (is-running (s .point)) refl (wrote-is (advanced 20 256 s r image) image rs (lent-advances s image r h))
+  where
+    go : (t : Bool) → is-running (s .point) ≡ t → wrote image (advanced 20 256 s r image) rs ≡ steps (exchange-at (advanced 20 256 s r image) image) rs
+        → cond t (step-of (advanced 20 256 s r image) image ∷ wrote image (advanced 20 256 s r image) rs) [] ≡ steps (exchange-at s image) (r ∷ rs)
+    go true p ih =
+        let n = still-asks s image h p in
+        let a = exchange-advances 20 256 (omega arith) (omega arith) s image (h .id) (h .bytes) (h .range) (h .whole) r in
+        let l = lent-advances s image r h in
+        let x = asks-step 20 256 (advanced 20 256 s r image) image (l .range) (l .whole) in
+        rw (steps-taken (exchange-at s image) r rs (n .3), x, ih, a)
+    go false p ih = rw (ended-over s image p)

@@ -1,0 +1,164 @@
+-- What a cut leaves of each page.
+use mathlib.Core.Path.{_≡_, sym, ap, _∙_}
+use mathlib.Core.Bool.{false}
+use mathlib.Core.List.{List, [], _∷_}
+use Prim.Native.Nat.{ℕ, zero, suc, _-_, _*_, _<_, _≤_}
+use native.Mathlib.Omega.{arith}
+use borrow.Author.Tests.{ltb-true, ltb-false, leb-true, leb-false}
+use lib.Dec.{ltb, leb}
+use lib.ListN.{length, take, length-append, length-drop, length-replicate}
+use lib.Seq.{take-all, length-take-le}
+use Rattle.laws.proofs.Tests.{by-test}
+use Rattle.settings.specs.declared.Settings.{Settings}
+use Rattle.c2_order.specs.Order.{Page, order}
+use Rattle.c2_order.specs.Conversation.{Limits, limits, conversation}
+use Rattle.c2_target.specs.declared.Target.{Target}
+use Rattle.c2_target.specs.Delays.{Setup}
+use Rattle.c2_target.specs.Target.{stepped}
+use Rattle.c2_play.specs.Playing.{replies-of}
+use Rattle.c2_play.proofs.Laws.Interface.{Fit}
+use Rattle.c2_cut.specs.Walk.{walked}
+use Rattle.c2_play.specs.Pages.{page-of, with-pages, At, Fits, Named}
+use Rattle.c2_cut.specs.Cut.{Over, Cut}
+use Rattle.c2_play.proofs.Laws.Rise.{all-at, nothing-at}
+use Rattle.c2_play.proofs.Laws.Page.{Mid, untouched, written, part}
+use Rattle.c2_play.proofs.Laws.Run.{All-fit}
+use Rattle.c2_cut.proofs.Laws.Pages.{Standing, leading, between, underway}
+use Rattle.c2_cut.proofs.Laws.Order.{full-reach, order-stands}
+use Rattle.c2_cut.proofs.Laws.PageOf.{page-other, inside, pages-length, pages-other, pages-held}
+use Rattle.c2_cut.proofs.Laws.Over.{over-to, over-from, reach-mono, reach-rises}
+
+-- a place of the list is below its length
+pub at-below : (ps : List Page) (i : ℕ) (p : Page) → At ps i p → i < length ps
+at-below [] i p a = absurd (nothing-at i p a)
+at-below (q ∷ ps) zero p a = omega arith
+at-below (q ∷ ps) (suc i) p a =
+    let h = at-below ps i p (record { later = a .later; is = a .is }) in
+    omega (arith, h)
+
+part-length : (size : ℕ) (p : Page) (k : ℕ) → length (p .bytes) ≡ size → length (part size p k) ≡ size
+part-length size p k e =
+    by-test (leb k size)
+    (λ b.
+    let h : k ≤ size = leb-true k size b in
+    let w : length (take k (p .bytes)) ≡ k = length-take-le k (p .bytes) (omega arith) in
+    rw (length-append, length-drop, length-replicate, w) (omega arith))
+    (λ b.
+    let h : size < k = leb-false k size b in
+    let w : take k (p .bytes) ≡ p .bytes = take-all k (p .bytes) (omega arith) in
+    rw (length-append, length-drop, length-replicate, w) (omega arith))
+
+-- a page under way leaves the others
+mid-other : (s : Settings) (p : Page) (q : ℕ) (g F : List ℕ) → Fits s p → length g ≡ s .size * s .count → (p .number ≡ q → ⊥) → Mid (s .size) p g F
+    → page-of (s .size) q F ≡ page-of (s .size) q g
+mid-other s p q g F fits eg ne (untouched e) = ap (page-of (s .size) q) e
+mid-other s p q g F fits eg ne (written k e) =
+    ap (page-of (s .size) q) e ∙ page-other (s .size) (p .number) q (part (s .size) p k) g (inside s p g fits eg) (part-length (s .size) p k (fits .whole)) ne
+
+-- Where the steps fall, page by page.
+module _ (s : Settings) (ps : List Page) (named : Named s ps) (f F : List ℕ) (R : ℕ → ℕ) (n : ℕ) (ef : length f ≡ s .size * s .count)
+    (mono : (i j : ℕ) → i ≤ j → R i ≤ R j) (rises : (i : ℕ) (p : Page) → At ps i p → R i < R (suc i)) where
+  abbrev size : ℕ
+  size = s .size
+
+  fits : All-fit s ps
+  fits = all-at s ps (named .fits)
+
+  stands-unnamed : Standing size ps f R n F → (q : ℕ) → ((i : ℕ) (p : Page) → At ps i p → p .number ≡ q → ⊥) → page-of size q F ≡ page-of size q f
+  stands-unnamed (leading h e) q other = ap (page-of size q) e
+  stands-unnamed (between j hj hr hn e) q other = ap (page-of size q) e ∙ pages-other s ps j q f fits ef (λ i p hi a. other i p a)
+  stands-unnamed (underway j p after hd h1 h2 mid) q other =
+      let a : At ps j p = record { later = after; is = hd } in
+      mid-other s p q (with-pages size (take j ps) f) F (named .fits j p a) (pages-length s ps j f fits ef) (other j p a) mid
+      ∙ pages-other s ps j q f fits ef (λ i p hi a. other i p a)
+
+  stands-over : Standing size ps f R n F → (i : ℕ) (p : Page) → At ps i p → R (suc i) ≤ n → page-of size (p .number) F ≡ p .bytes
+  stands-over (leading h e) i p a hr = absurd (let z = mono 0 (suc i) (omega arith) in omega (arith, z))
+  stands-over (between j hj hr hn e) i p a ho =
+      ap (page-of size (p .number)) e
+      ∙ pages-held s ps i j p f fits ef
+      (by-test (ltb i j) (λ b. ltb-true i j b)
+      (λ b.
+      let le : j ≤ i = ltb-false i j b in
+      let below = at-below ps i p a in
+      let x = hn (omega (arith, below)) in
+      let z = mono (suc j) (suc i) (omega arith) in
+      absurd (omega (arith, x .1, z))))
+      a (λ k q hk c eq. absurd (let z : i ≡ k = named .once i k p q a c (sym eq) in omega arith))
+  stands-over (underway j r after hd h1 h2 mid) i p a ho =
+      let b : At ps j r = record { later = after; is = hd } in
+      let below : i < j = by-test (ltb i j) (λ t. ltb-true i j t)
+      (λ t.
+      let le : j ≤ i = ltb-false i j t in
+      let z = mono (suc j) (suc i) (omega arith) in
+      absurd (omega (arith, z))) in
+      mid-other s r (p .number) (with-pages size (take j ps) f) F (named .fits j r b) (pages-length s ps j f fits ef)
+      (λ eq. absurd (let z : j ≡ i = named .once j i r p b a eq in omega arith)) mid
+      ∙ pages-held s ps i j p f fits ef below a (λ k q hk c eq. absurd (let z : i ≡ k = named .once i k p q a c (sym eq) in omega arith))
+
+  stands-waiting : Standing size ps f R n F → (i : ℕ) (p : Page) → At ps i p → n ≤ R i → page-of size (p .number) F ≡ page-of size (p .number) f
+  stands-waiting (leading h e) i p a hw = ap (page-of size (p .number)) e
+  stands-waiting (between j hj hr hn e) i p a hw =
+      let le : j ≤ i = by-test (leb j i) (λ t. leb-true j i t)
+      (λ t.
+      let lt : i < j = leb-false j i t in
+      let z = mono (suc i) j (omega arith) in
+      let y = rises i p a in
+      absurd (omega (arith, z, y))) in
+      ap (page-of size (p .number)) e
+      ∙ pages-other s ps j (p .number) f fits ef (λ k q hk c eq. absurd (let z : k ≡ i = named .once k i q p c a eq in omega arith))
+  stands-waiting (underway j r after hd h1 h2 mid) i p a hw =
+      let b : At ps j r = record { later = after; is = hd } in
+      let lt : j < i = by-test (ltb j i) (λ t. ltb-true j i t)
+      (λ t.
+      let le : i ≤ j = ltb-false j i t in
+      let z = mono i j le in
+      absurd (omega (arith, z))) in
+      mid-other s r (p .number) (with-pages size (take j ps) f) F (named .fits j r b) (pages-length s ps j f fits ef)
+      (λ eq. absurd (let z : j ≡ i = named .once j i r p b a eq in omega arith)) mid
+      ∙ pages-other s ps j (p .number) f fits ef (λ k q hk c eq. absurd (let z : k ≡ i = named .once k i q p c a eq in omega arith))
+
+  -- at most one is begun and not over
+  only-one : (i j : ℕ) → R i ≤ n - 1 → n - 1 < R (suc i) → R j ≤ n - 1 → n - 1 < R (suc j) → i ≡ j
+  only-one i j hi gi hj gj =
+      by-test (ltb i j)
+      (λ t. let z = mono (suc i) j (ltb-true i j t) in absurd (omega (arith, z)))
+      (λ t. by-test (ltb j i)
+      (λ v. let z = mono (suc j) i (ltb-true j i v) in absurd (omega (arith, z)))
+      (λ v. omega (arith, ltb-false i j t, ltb-false j i v)))
+
+  -- The claim, for replies that tell as much: those before the last step, and all, exactly or one fewer.
+  pub cut-by : (l : Limits) (rs : List ℕ) → Standing size ps f R n F
+      → ((i : ℕ) → Over l s (take i ps) (take (n - 1) rs) → R i ≤ n - 1) → ((i : ℕ) → R i ≤ n - 1 → Over l s (take i ps) (take (n - 1) rs))
+      → ((i : ℕ) → Over l s (take i ps) (take n rs) → R i ≤ n) → ((i : ℕ) → R i ≤ n - 1 → Over l s (take i ps) (take n rs))
+      → Cut l s ps rs n f F
+  cut-by l rs x before-says before-is all-says all-is =
+      record {
+        unnamed = λ q hq other. stands-unnamed x q other;
+        read-back = λ i p a h. stands-over x i p a (all-says (suc i) h);
+        waiting = λ i p a h. stands-waiting x i p a
+            (by-test (leb (R i) (n - 1)) (λ b. absurd (h (before-is i (leb-true (R i) (n - 1) b)))) (λ b. omega (arith, leb-false (R i) (n - 1) b)));
+        one = λ i j p q a c hi gi hj gj.
+            only-one i j
+            (before-says i hi) (by-test (leb (R (suc i)) (n - 1)) (λ b. absurd (gi (all-is (suc i) (leb-true (R (suc i)) (n - 1) b)))) (λ b. leb-false (R (suc i)) (n - 1) b))
+            (before-says j hj) (by-test (leb (R (suc j)) (n - 1)) (λ b. absurd (gj (all-is (suc j) (leb-true (R (suc j)) (n - 1) b)))) (λ b. leb-false (R (suc j)) (n - 1) b));
+      }
+
+module _ (u : Setup) (l r : ℕ) (fit : Fit u l r) (B : ℕ) (whole : u .settings .size ≡ 256 * B) (some : 1 ≤ B)
+    (few : u .settings .size * u .settings .count ≤ 65536) where
+  -- request h against the steps that are not refused
+  pub cut-stepped : (ps : List Page) (t : Target) (f : List ℕ) → Named (u .settings) ps → t .collision ≡ false
+      → length f ≡ u .settings .size * u .settings .count → (n : ℕ)
+      → Cut (limits l r) (u .settings) ps (replies-of (stepped u) (conversation (limits l r) (order (u .settings) ps)) t f) n f
+      (walked (stepped u) n (conversation (limits l r) (order (u .settings) ps)) t f .flash)
+  cut-stepped ps t f named hm ef n =
+      let s = u .settings in
+      let fits = all-at s ps (named .fits) in
+      let R = full-reach u l r fit B whole some few ps t f in
+      let mono = reach-mono u l r fit B whole some few ps t f hm fits ef in
+      let rises = reach-rises u l r fit B whole some few ps t f hm fits ef in
+      let to = over-to u l r fit B whole some few ps t f hm fits ef in
+      let from = over-from u l r fit B whole some few ps t f hm fits ef in
+      let x = order-stands u l r fit B whole some few ps t f hm fits ef n in
+      cut-by s ps named f _ R n ef mono rises (limits l r) (replies-of (stepped u) (conversation (limits l r) (order s ps)) t f) x
+      (λ i h. from (n - 1) i h) (λ i h. to (n - 1) i h) (λ i h. from n i h) (λ i h. to n i (omega arith))

@@ -1,0 +1,50 @@
+-- A session over one page, computed: where the page is begun, where its erase and its read-back fall.
+use mathlib.Core.Path.{_≡_, refl}
+use mathlib.Core.List.{List, [], _∷_}
+use Prim.Native.Nat.{ℕ}
+use lib.ListN.{take, replicate}
+use Rattle.numbers.specs.Numbers.{done, running}
+use Rattle.c2_wire.specs.Bits.{bits, bit, odd}
+use Rattle.c2_wire.specs.Step.{drives}
+use Rattle.c2_wire.specs.Exchange.{Exchange, after, fed, outcome-of}
+use Rattle.c2_wire.specs.Frames.{sends, ins-code, frame, waiting, strobes}
+use Rattle.settings.specs.declared.Settings.{Settings}
+use Rattle.c2_order.specs.Acts.{coded-length, length-code, input-taken, output-ready, put, get, status, puts, compares, erase, block-command, block-write, block-read}
+use Rattle.c2_order.specs.Order.{Page, pages, rising, blocks, joined, lead, page-acts, order, session-order}
+use Rattle.c2_order.specs.Conversation.{session-limits, polling, conversation}
+use Rattle.c2_target.specs.Delays.{Setup, within, delay, onward}
+use Rattle.c2_target.specs.Commands.{erased, stored, in-flash, opens, takes, some-output, first-byte, other-bytes}
+use Rattle.c2_target.specs.Interface.{in-busy, out-ready, status-bits, linked, shown, given, late-of, place-after, put-byte, get-byte, counted, next-keys, begun, does}
+use Rattle.c2_target.specs.Strobes.{line, marked, sending, begins, after-ins, after-write-length, after-read-length, after-address, after-data, after-long-data, value-sent, after-wait, strobed-at}
+use Rattle.c2_target.specs.Target.{cleared, fresh, after-reset, between-frames, keyed, after-pause, stepped}
+use Rattle.c2_play.specs.Playing.{replies-of}
+use Rattle.c2_play.specs.Pages.{up-to}
+use Rattle.c2_cut.specs.Walk.{walked}
+
+abbrev settings : Settings
+settings = record { id = 0x04; fpdat = 0xb4; size = 512; count = 1 }
+
+abbrev setup : Setup
+setup = record { settings = settings; wait = 20; delays = [] }
+
+abbrev blank : List ℕ
+blank = replicate 512 0
+
+abbrev page : Page
+page = record { number = 0; offset = 0; bytes = replicate 512 0x5a }
+
+abbrev whole : Exchange
+whole = conversation session-limits (order settings (page ∷ []))
+
+-- the number of the order up to some pages, after n of the target's replies
+abbrev number-after : List Page → ℕ → ℕ
+number-after ps n = outcome-of (fed (conversation session-limits (up-to settings ps)) (take n (replies-of (stepped setup) whole fresh blank))) .number
+
+abbrev flash-at : ℕ → List ℕ
+flash-at n = walked (stepped setup) n whole fresh blank .flash
+
+-- The lead takes 75 steps. The page is erased at its 135th step, the 210th of all; its read-back ends with the 28,593rd.
+pub one-page : ((number-after [] 74 ≡ running) × (number-after [] 75 ≡ done) × (flash-at 209 ≡ blank) × (flash-at 210 ≡ replicate 512 0xff)
+    × (number-after (page ∷ []) 28592 ≡ running) × (number-after (page ∷ []) 28593 ≡ done))
+unfolding bits bit odd drives sends ins-code frame waiting strobes coded-length length-code input-taken output-ready put get status puts compares erase block-command block-write block-read pages rising blocks joined lead page-acts order session-order polling conversation within delay onward erased stored in-flash opens takes some-output first-byte other-bytes in-busy out-ready status-bits linked shown given late-of place-after put-byte get-byte counted next-keys begun does line marked sending begins after-ins after-write-length after-read-length after-address after-data after-long-data value-sent after-wait strobed-at cleared fresh after-reset between-frames keyed after-pause stepped replies-of walked fed after outcome-of
+one-page = (refl, refl, refl, refl, refl, refl)

@@ -1,0 +1,57 @@
+// What acts, commands and pages cost at the most.
+ghost use mathlib.Core.Path.{_≡_};
+ghost use Prim.Native.Nat.{_+_, _-_, _*_, _/_, _<_, _≤_};
+ghost use Rattle.c2_figure.specs.Code.Left.{task-cost, page-cost, page-blocks};
+use c2_acts::Task;
+use c2_session::Session;
+use crate::BLOCK;
+use crate::ERASE;
+
+pub(crate) fn less(a: usize, b: usize) -> usize
+    ensures { λ r. ⌜ r ≡ a - b ⌝ }
+{
+    if a < b {
+        return 0;
+    }
+    a - b
+}
+
+pub(crate) fn task_cost(task: Task) -> usize
+    ensures { λ r. ⌜ r ≡ task-cost 20 256 task ⌝ }
+    ensures { λ r. ⌜ r ≤ 3072 ⌝ }
+{
+    match task {
+        Task::Reset => 1,
+        Task::Pause => 1,
+        Task::Address => 12,
+        Task::Send => 14 + Session::WAIT_LIMIT,
+        Task::Input => Session::POLL_LIMIT * 12,
+        Task::Output => Session::POLL_LIMIT * 12,
+        Task::Ident => 14 + Session::WAIT_LIMIT,
+        Task::Status => 14 + Session::WAIT_LIMIT,
+        Task::Compare => 14 + Session::WAIT_LIMIT,
+    }
+}
+
+// The blocks of a page, written or read.
+pub(crate) fn page_blocks(size: u32) -> usize
+    ensures { λ r. ⌜ r ≡ page-blocks 20 256 size ⌝ }
+    ensures { λ r. ⌜ r < 17592186044416 ⌝ }
+{
+    ((size / 256) as usize) * BLOCK
+}
+
+fn page_cost(size: u32) -> usize
+    ensures { λ r. ⌜ r ≡ page-cost 20 256 (size / 256) ⌝ }
+    ensures { λ r. ⌜ r < 35184372088832 ⌝ }
+{
+    ERASE + 2 * page_blocks(size)
+}
+
+// So many pages, and the last reset.
+pub(crate) fn pages_cost(size: u32, pages: u16) -> usize
+    ensures { λ r. ⌜ r ≡ pages * page-cost 20 256 (size / 256) + 1 ⌝ }
+    ensures { λ r. ⌜ r ≤ 2305843009213693952 ⌝ }
+{
+    (pages as usize) * page_cost(size) + 1
+}

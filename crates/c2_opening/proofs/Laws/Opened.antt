@@ -1,0 +1,63 @@
+-- The session of an accepted opening: in range, at the first act of its order, with the whole exchange to come.
+use mathlib.Core.Path.{_≡_, refl, sym, ap, _∙_}
+use mathlib.Core.List.{List}
+use Prim.Native.Nat.{ℕ, _*_, _/_, _%_, _<_, _≤_}
+use native.Mathlib.Nat.{mul-comm, mod-eq-of-lt, mul-le-mul-left}
+use native.Mathlib.Omega.{arith}
+use borrow.Author.Tests.{ne-eqb}
+use lib.ListN.{length}
+use Rattle.c2_wire.specs.Bits.{Bytes}
+use Rattle.c2_wire.specs.Place.{count-limit, samples}
+use Rattle.settings.specs.declared.Settings.{Settings}
+use Rattle.settings.specs.Opening.{opening-refusal}
+use Rattle.c2_order.specs.Order.{lead, order, session-order}
+use Rattle.c2_order.specs.Conversation.{session-limits}
+use Rattle.c2_order.specs.Claims.{exchange-of}
+use Rattle.c2_order.specs.Point.{begin}
+use Rattle.settings.proofs.Laws.Opening.{opened}
+use Rattle.c2_order.proofs.Laws.Point.{begin-says}
+use Rattle.c2_position.specs.Position.{position, point-position, page-list, pages-from}
+use Rattle.c2_range.proofs.Laws.Range.{opening-passes, ranges-are}
+use Rattle.c2_opening.specs.Opened.{opened-session, started, exchange-at}
+use Rattle.c2_opening.proofs.Laws.Follows.{Lent}
+
+-- the numbers of an accepted opening fit into 16 bits
+pub started-is : (t : Settings) (first n : ℕ) → opening-refusal t first n ≡ 0 → started t first n ≡ opened-session t first n
+unfolding started opened-session
+started-is t first n e =
+    let o = opened t first n e in
+    let f = o .settings in
+    let twice : t .count * 2 ≤ t .count * t .size = mul-le-mul-left {m = 2} {n = t .size} (t .count) (omega (arith, f .size, f .some)) in
+    let few : t .count ≤ 32768 = omega (arith, twice, mul-comm (t .count) (t .size), f .bytes) in
+    let a : first % 65536 ≡ first = mod-eq-of-lt (omega (arith, few, o .inside)) in
+    let b : n / t .size % 65536 ≡ n / t .size = mod-eq-of-lt (omega (arith, few, o .inside)) in
+    rw (a, ne-eqb (t .size) 0 (λ z. omega (arith, f .size, f .some)), b)
+
+module _ (t : Settings) (first : ℕ) (image : List ℕ) (e : opening-refusal t first (length image) ≡ 0) where
+  whole-pages : length image ≡ t .size * (length image / t .size)
+  whole-pages = opened t first (length image) e .whole ∙ mul-comm (length image / t .size) (t .size)
+
+  -- a session begins in range,
+  pub begins-lent : t .id < 256 → Bytes image → Lent (opened-session t first (length image)) image
+  unfolding opened-session count-limit samples
+  begins-lent i b =
+      record {
+        id = i;
+        bytes = b;
+        range = ranges-are 20 256 (opened-session t first (length image)) .1
+            (record {
+              opening = opening-passes t first (length image / t .size) (ap (λ (z : ℕ). opening-refusal t first z) (sym whole-pages) ∙ e);
+              point =
+                  record { page = omega arith; block = omega arith; act = omega arith; strobe = omega arith; count = omega arith; bits = omega arith };
+            });
+        whole = whole-pages;
+      }
+
+  -- at the first act of its order
+  pub begins-at : position (opened-session t first (length image)) image ≡ begin (session-order t first image)
+  unfolding opened-session point-position pages-from page-list session-order order begin lead
+  begins-at = refl
+
+  pub begins-so : exchange-at (opened-session t first (length image)) image ≡ exchange-of session-limits t first image
+  unfolding opened-session point-position pages-from page-list session-order order begin lead
+  begins-so = begin-says session-limits (record { wait = omega arith; reads = omega arith }) (session-order t first image)

@@ -1,0 +1,124 @@
+-- Laws of the figure of the most steps to come: it is 0 exactly at an end, each reply taken lowers it, and no replies take more.
+pub mod Start
+pub mod Reached
+use mathlib.Core.Path.{_≡_, refl, sym, ap}
+use mathlib.Core.Bool.{Bool, true, false, cond}
+use mathlib.Core.List.{List, [], _∷_}
+use Prim.Native.Nat.{ℕ, zero, suc, _+_, _-_, _*_, _<_, _≤_}
+use native.Mathlib.Omega.{arith}
+use native.Mathlib.Decide.{decLt}
+use borrow.Author.Tests.{lt-ltb, le-ltb}
+use lib.Dec.{ltb, eqb}
+use Rattle.numbers.specs.Numbers.{poll-limit-reached}
+use Rattle.c2_wire.specs.Bits.{bits}
+use Rattle.c2_wire.specs.Exchange.{after, steps, taken, Outcome, outcome}
+use Rattle.c2_wire.specs.Frames.{sends, ins-code, frame}
+use Rattle.c2_wire.specs.Place.{place, followed, longest, longest-rest, strobes-left}
+use Rattle.c2_wire.specs.declared.Frame.the-variants.{AddressRead, DataRead}
+use Rattle.c2_wire.specs.declared.Place.{Place}
+use Rattle.c2_wire.specs.declared.Moved.{Moved}
+use Rattle.c2_wire.specs.declared.Moved.the-variants.{Within, Stopped, WaitLimit}
+use Rattle.c2_wire.proofs.Laws.Exchange.{steps-taken}
+use Rattle.c2_wire.proofs.Laws.Place.{first-left, followed-falls, followed-count, left-after, remaining-asks, waits-in}
+use Rattle.c2_wire.proofs.Laws.Frames.{longest-address-read}
+use Rattle.c2_order.specs.Acts.{Act, send, poll, expect}
+use Rattle.c2_order.specs.Conversation.{Limits, Positive}
+use Rattle.c2_order.specs.Point.{Point, running, ended, strobes-of, begin, again, judged, settled, next, follow-up, left-to-say}
+use Rattle.c2_order.specs.Figure.{reads-left, cost, costs, figure}
+use Rattle.c2_order.proofs.Laws.Valid.{reads-of, whole-of, reads-positive, Valid, Polled, polled}
+use Rattle.c2_order.proofs.Laws.Point.{next-says, next-valid}
+
+-- at the first strobe of an act the figure is its cost and that of the acts after it
+pub begin-figure : (l : Limits) → Positive l → (acts : List Act) → figure l (begin acts) ≡ costs l acts
+unfolding begin figure costs cost reads-left strobes-of
+begin-figure l h [] = refl
+begin-figure l h (send ss ∷ acts) = omega (arith, first-left (l .wait) ss)
+begin-figure l h (poll ok ∷ acts) =
+    rw (first-left (l .wait) (frame AddressRead 0), longest-address-read (l .wait) 0) (omega (arith, h .reads))
+begin-figure l h (expect x o ∷ acts) = omega (arith, first-left (l .wait) (frame DataRead 0))
+
+reads-left-poll : (l : Limits) (ok : ℕ → Bool) (n : ℕ) → reads-left l (poll ok) n ≡ (l .reads - suc n) * 12
+unfolding reads-left
+reads-left-poll l ok n = rw (longest-address-read (l .wait) 0)
+
+-- the first strobe of a poll's later read
+read-left : (l : Limits) (n : ℕ) → strobes-left (l .wait) (frame AddressRead 0) (place 0 n 0) ≡ 12
+unfolding strobes-left longest-rest longest frame sends ins-code bits
+read-left l n = refl
+
+read-figure : (l : Limits) (ok : ℕ → Bool) (acts : List Act) (n : ℕ) → figure l (running (poll ok) acts (place 0 n 0)) ≡ 12 + (l .reads - suc n) * 12 + costs l acts
+unfolding figure strobes-of
+read-figure l ok acts n = rw (reads-left-poll, read-left l n)
+
+-- the figure once a frame of the act has ended
+judged-figure : (l : Limits) → Positive l → (a : Act) (acts : List Act) (n x : ℕ) → Polled l a n
+    → figure l (judged l a acts n x) ≤ reads-left l a n + costs l acts
+unfolding judged again figure reads-left
+judged-figure l h (send ss) acts n x c = omega (arith, begin-figure l h acts)
+judged-figure l h (poll ok) acts n x c = rw (longest-address-read (l .wait) 0) (go (ok x) (decLt (n + 1) (l .reads)))
+  where
+    go : (t : Bool) → Dec (n + 1 < l .reads)
+        → figure l (cond t (begin acts) (cond (ltb (n + 1) (l .reads)) (running (poll ok) acts (place 0 (n + 1) 0)) (ended (outcome poll-limit-reached))))
+        ≤ (l .reads - suc n) * 12 + costs l acts
+    go true d = omega (arith, begin-figure l h acts)
+    go false (yes y) = rw (lt-ltb (n + 1) (l .reads) y) (omega (arith, read-figure l ok acts (n + 1)))
+    go false (no y) = rw (le-ltb (n + 1) (l .reads) (omega arith)) (omega arith)
+judged-figure l h (expect y o) acts n x c = go (eqb x y)
+  where
+    go : (t : Bool) → figure l (cond t (begin acts) (ended o)) ≤ 0 + costs l acts
+    go true = omega (arith, begin-figure l h acts)
+    go false = omega arith
+
+module _ (l : Limits) (h : Positive l) (a : Act) (acts : List Act) (p : Place) (v : Valid l (running a acts p)) where
+  -- the reads that may follow do not change within a read
+  reads-left-kept : (b : Bool) (q : Place) → followed (l .wait) (strobes-of a) p b ≡ Within q → reads-left l a (q .count) ≡ reads-left l a (p .count)
+  unfolding reads-left strobes-of frame sends ins-code bits waits-in
+  reads-left-kept b q e = go a e
+    where
+      go : (a : Act) → followed (l .wait) (strobes-of a) p b ≡ Within q → reads-left l a (q .count) ≡ reads-left l a (p .count)
+      go (send ss) e = refl
+      go (poll ok) e = ap (λ (n : ℕ). reads-left l (poll ok) n) (rw e at (followed-count (l .wait) (frame AddressRead 0) p b refl))
+      go (expect x o) e = refl
+
+  settled-falls : (b : Bool) (m : Moved) → followed (l .wait) (strobes-of a) p b ≡ m
+      → figure l (settled l a acts (p .count) m) ≤ left-after (l .wait) (strobes-of a) m + reads-left l a (p .count) + costs l acts
+  unfolding settled figure
+  settled-falls b (Within q) e = omega (arith, reads-left-kept b q e)
+  settled-falls b (Stopped x) e = omega (arith, judged-figure l h a acts (p .count) x (polled l a p (v .2)))
+  settled-falls b WaitLimit e = omega arith
+
+  bit-falls : (b : Bool) → figure l (settled l a acts (p .count) (followed (l .wait) (strobes-of a) p b)) < figure l (running a acts p)
+  unfolding figure
+  bit-falls b =
+      omega (
+        arith,
+        settled-falls b (followed (l .wait) (strobes-of a) p b) refl,
+        followed-falls (l .wait) (reads-of l a) (strobes-of a) (whole-of l a (v .0)) (h .wait) (reads-positive l a h) p b (v .2),
+      )
+
+-- each reply taken lowers the figure by at least 1
+pub next-falls : (l : Limits) → Positive l → (a : Act) (acts : List Act) (p : Place) → Valid l (running a acts p) → (r : ℕ)
+    → figure l (next l (running a acts p) r) < figure l (running a acts p)
+unfolding next figure
+next-falls l h a acts p v zero = bit-falls l h a acts p v false
+next-falls l h a acts p v (suc zero) = bit-falls l h a acts p v true
+next-falls l h a acts p v (suc (suc r)) = omega (arith, bit-falls l h a acts p v true)
+
+-- the figure is 0 exactly at an end
+pub figure-ended : (l : Limits) (o : Outcome) → figure l (ended o) ≡ 0
+unfolding figure
+figure-ended l o = refl
+
+pub figure-running : (l : Limits) → Positive l → (a : Act) (acts : List Act) (p : Place) → Valid l (running a acts p) → 0 < figure l (running a acts p)
+figure-running l h a acts p v = omega (arith, next-falls l h a acts p v 0)
+
+-- no replies take more steps than the figure
+pub never-exceeded : (l : Limits) → Positive l → (x : Point) → Valid l x → (rs : List ℕ) → taken (left-to-say l x) rs ≤ figure l x
+unfolding taken steps left-to-say figure
+never-exceeded l h x v [] = omega arith
+never-exceeded l h (ended o) v (r ∷ rs) = omega arith
+never-exceeded l h (running a acts p) v (r ∷ rs) =
+    let x : Point = running a acts p in
+    let node = remaining-asks (l .wait) (reads-of l a) (strobes-of a) p (follow-up l a acts (p .count)) (v .2) in
+    rw (steps-taken (left-to-say l x) r rs (node .2), sym (next-says l h x v r))
+    (omega (arith, never-exceeded l h (next l x r) (next-valid l h x v r) rs, next-falls l h a acts p v r))

@@ -1,0 +1,38 @@
+-- The exchange of a list of acts: what is said on the wire, whatever the replies (document 01, "Settings and session"), and the session's limits.
+use mathlib.Core.Bool.{Bool, cond}
+use mathlib.Core.List.{List, [], _∷_}
+use Prim.Native.Nat.{ℕ, zero, suc, _<_}
+use lib.Dec.{eqb}
+use Rattle.numbers.specs.Numbers.{done, poll-limit-reached}
+use Rattle.c2_wire.specs.Exchange.{Exchange, ended, outcome}
+use Rattle.c2_wire.specs.Frames.{frame, framed}
+use Rattle.c2_wire.specs.declared.Frame.the-variants.{AddressRead, DataRead}
+use Rattle.c2_order.specs.Acts.{Act, send, poll, expect}
+
+-- the most strobes of a WAIT and the most reads of a poll
+pub record Limits : Type 0 where
+  pub wait : ℕ
+  pub reads : ℕ
+
+abbrev pub limits : (wait reads : ℕ) → Limits
+limits w r = record { wait = w; reads = r }
+
+-- limits that leave at least one strobe and one read
+pub record Positive (l : Limits) : Type 0 where
+  pub wait : 0 < l .wait
+  pub reads : 0 < l .reads
+
+-- 20 WAIT strobes and 256 poll reads
+abbrev pub session-limits : Limits
+session-limits = limits 20 256
+
+-- a poll of which this many reads are left, and what follows it
+unfoldable pub polling : (wait-limit left : ℕ) → (ℕ → Bool) → Exchange → Exchange
+polling w zero ok k = ended (outcome poll-limit-reached)
+polling w (suc n) ok k = framed w (frame AddressRead 0) (λ s. cond (ok s) k (polling w n ok k))
+
+unfoldable pub conversation : Limits → List Act → Exchange
+conversation l [] = ended (outcome done)
+conversation l (send ss ∷ acts) = framed (l .wait) ss (λ _. conversation l acts)
+conversation l (poll ok ∷ acts) = polling (l .wait) (l .reads) ok (conversation l acts)
+conversation l (expect x o ∷ acts) = framed (l .wait) (frame DataRead 0) (λ y. cond (eqb y x) (conversation l acts) (ended o))

@@ -1,0 +1,21 @@
+-- The laws of the definitions, each in the module of the definition that it is about.
+pub mod Frames
+pub mod Onto
+pub mod Leads
+pub mod Interface
+pub mod Commands
+pub mod Pages
+pub mod Overwrite
+pub mod Refuses
+pub mod Page
+pub mod Lead
+pub mod Run
+pub mod Rise
+pub mod KnownPoint
+pub mod Known
+pub mod WholeStep
+pub mod OwnReplies
+pub mod Keeps
+pub mod LeftBy
+pub mod Fresh
+pub mod Examples

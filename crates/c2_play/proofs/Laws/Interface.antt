@@ -1,0 +1,207 @@
+-- The Programming Interface against its bytes: a put and a get, with every delay, and the flash in J all the while.
+use mathlib.Core.Path.{_≡_, refl}
+use mathlib.Core.Bool.{Bool, true, false, not, cond, _&&_}
+use mathlib.Core.List.{List, [], _∷_, _++_}
+use Prim.Native.Nat.{ℕ, zero, suc, _+_, _-_, _*_, _/_, _<_, _≤_}
+use native.Mathlib.Nat.{not-suc-le-zero}
+use native.Mathlib.Omega.{arith}
+use borrow.Author.Tests.{lt-ltb, eq-eqb, ne-eqb}
+use lib.Dec.{eqb, eqb·suc-zero}
+use lib.ListN.{getD}
+use Rattle.numbers.specs.Numbers.{bad-status}
+use Rattle.c2_wire.specs.Bits.{bit, odd, Bytes}
+use Rattle.c2_wire.specs.Exchange.{Exchange, Outcome, outcome}
+use Rattle.c2_wire.specs.Frames.{frame, framed}
+use Rattle.c2_wire.specs.declared.Frame.the-variants.{AddressWrite, AddressRead, DataWrite, DataRead}
+use Rattle.c2_order.specs.Acts.{Act, address-write, input-taken, output-ready, put, get, status}
+use Rattle.c2_order.specs.Conversation.{limits, polling, conversation}
+use Rattle.c2_target.specs.declared.Command.{Command}
+use Rattle.c2_target.specs.declared.Output.{Output}
+use Rattle.c2_target.specs.declared.Output.the-variants.{Empty, Status}
+use Rattle.c2_target.specs.declared.Link.{Link}
+use Rattle.c2_target.specs.declared.Device.{Device}
+use Rattle.c2_target.specs.declared.Target.{Target}
+use Rattle.c2_target.specs.Delays.{Setup, within, delay, onward}
+use Rattle.c2_target.specs.Commands.{takes, some-output, first-byte, other-bytes}
+use Rattle.c2_target.specs.Interface.{link, device, in-busy, out-ready, status-bits, linked, shown, given, late-of, place-after, put-byte, get-byte, counted, next-keys, begun, does}
+use Rattle.c2_target.specs.Target.{stepped}
+use Rattle.c2_play.proofs.Laws.Frames.{idle, leads, address-write-leads, address-read-leads, data-write-leads, data-read-leads}
+use Rattle.c2_play.proofs.Laws.Leads.{leads-now}
+
+-- What settings, delays and limits have to be. Delays are bytes, so 256 reads are enough for any poll.
+pub record Fit (u : Setup) (l r : ℕ) : Type 0 where
+  pub low : 3 ≤ u .settings .fpdat
+  pub high : u .settings .fpdat < 256
+  pub id : u .settings .id < 256
+  pub delays : Bytes (u .delays)
+  pub some : 1 ≤ u .wait
+  pub wait : u .wait ≤ l
+  pub reads : 256 ≤ r
+
+getD-byte : (ds : List ℕ) (i : ℕ) → Bytes ds → getD ds i 0 < 256
+getD-byte [] i h = omega arith
+getD-byte (d ∷ ds) zero h = h .0
+getD-byte (d ∷ ds) (suc i) h = getD-byte ds i (h .1)
+
+pub delay-byte : (ds : List ℕ) (p : ℕ) → Bytes ds → delay ds p < 256
+unfolding delay
+delay-byte ds p h = getD-byte ds (within ds p) h
+
+pub late-byte : (ds : List ℕ) (o : Output) (p : ℕ) → Bytes ds → late-of ds o p < 256
+unfolding late-of
+late-byte ds o p h = go (some-output o)
+  where
+    go : (b : Bool) → cond b (delay ds p) 0 < 256
+    go true = delay-byte ds p h
+    go false = omega arith
+
+-- the interface on, at the FPDAT address
+abbrev pub at-fpdat : Setup → Link → Device
+at-fpdat u l = device (u .settings .fpdat) true 0 l
+
+pub linked-at-fpdat : (u : Setup) (l : Link) → linked (u .settings) (at-fpdat u l) ≡ true
+unfolding linked
+linked-at-fpdat u l = eq-eqb (u .settings .fpdat) (u .settings .fpdat) refl
+
+pub status-small : (l : Link) → status-bits l < 256
+unfolding status-bits bit
+status-small l = go (out-ready l) (in-busy l)
+  where
+    go : (a b : Bool) → bit a + 2 * bit b < 256
+    go true true = omega arith
+    go true false = omega arith
+    go false true = omega arith
+    go false false = omega arith
+
+-- not busy: InBusy reads 0, and the next read is one of the e reads
+idle-status : (c : Command) (o : Output) (t : ℕ) → input-taken (status-bits (link c o 0 t)) ≡ true
+unfolding input-taken status-bits out-ready in-busy bit odd
+idle-status c o t = go (eqb t 0 && some-output o)
+  where
+    go : (b : Bool) → not (odd ((bit b + 2 * 0) / 2)) ≡ true
+    go true = refl
+    go false = refl
+
+counted-idle : (c : Command) (o : Output) (t : ℕ) → counted (link c o 0 t) ≡ link c o 0 (t - 1)
+unfolding counted in-busy
+counted-idle c o t = refl
+
+busy-status : (c : Command) (o : Output) (b t : ℕ) → input-taken (status-bits (link c o (suc b) t)) ≡ false
+unfolding input-taken status-bits out-ready in-busy bit odd
+busy-status c o b t = rw (lt-ltb 0 (suc b) (omega arith))
+
+counted-busy : (c : Command) (o : Output) (b t : ℕ) → counted (link c o (suc b) t) ≡ link c o b t
+unfolding counted in-busy
+counted-busy c o b t =
+    let one : suc b - 1 ≡ b = omega arith in
+    rw (lt-ltb 0 (suc b) (omega arith), one)
+
+-- OutReady reads 1 once the e reads are over, and until then 0
+is-ready : (c : Command) (o : Output) → some-output o ≡ true → out-ready (link c o 0 0) ≡ true
+unfolding out-ready in-busy
+is-ready c o h = h
+
+ready-status : (c : Command) (o : Output) → some-output o ≡ true → output-ready (status-bits (link c o 0 0)) ≡ true
+unfolding output-ready status-bits in-busy bit odd
+ready-status c o h = rw (is-ready c o h)
+
+late-status : (c : Command) (o : Output) (t : ℕ) → output-ready (status-bits (link c o 0 (suc t))) ≡ false
+unfolding output-ready status-bits out-ready in-busy bit odd
+late-status c o t = rw (eqb·suc-zero t)
+
+-- What the run is to keep: the flash is in J until it ends, and then the target and the flash are in Z, which J has.
+pub record Kept (J : List ℕ → Type 0) (Z : Target → List ℕ → Type 0) : Type 0 where
+  pub last : (t : Target) (f : List ℕ) → Z t f → J f
+
+module _ (u : Setup) (l r : ℕ) (fit : Fit u l r) (J : List ℕ → Type 0) (Z : Target → List ℕ → Type 0) (kept : Kept J Z) where
+  pub now : (e : Exchange) (t : Target) (f : List ℕ) → leads u J Z e t f → J f
+  now e t f g = leads-now (stepped u) J Z (kept .last) e t f g
+
+  -- the four frames at FPDAT
+  pub fpdat-address : (x : Link) (k : ℕ → Exchange) (p : ℕ) (f : List ℕ) → leads u J Z (k 0) (idle p false (at-fpdat u x)) f
+      → leads u J Z (framed l (frame AddressWrite (u .settings .fpdat)) k) (idle p false (at-fpdat u x)) f
+  unfolding does begun
+  fpdat-address x k p f g = address-write-leads u J Z l (u .settings .fpdat) k p false (at-fpdat u x) f (fit .high) (now _ _ _ g) g
+
+  pub fpdat-write : (x : Link) (b : ℕ) (k : ℕ → Exchange) (p : ℕ) (f : List ℕ) → b < 256 → J f
+      → leads u J Z (k 0) (idle (put-byte u x b (onward (u .delays) p) f .place) false (at-fpdat u (put-byte u x b (onward (u .delays) p) f .link)))
+      (put-byte u x b (onward (u .delays) p) f .flash)
+      → leads u J Z (framed l (frame DataWrite b) k) (idle p false (at-fpdat u x)) f
+  unfolding does begun next-keys
+  fpdat-write x b k p f h j g =
+      data-write-leads u J Z l b k p false (at-fpdat u x) f (fit .some) (fit .wait) h j
+      (rw (linked-at-fpdat u x, ne-eqb (u .settings .fpdat) 2 (λ e. omega (arith, fit .low))) g)
+
+  pub fpdat-status : (x : Link) (k : ℕ → Exchange) (p : ℕ) (f : List ℕ) → leads u J Z (k (status-bits x)) (idle p false (at-fpdat u (counted x))) f
+      → leads u J Z (framed l (frame AddressRead 0) k) (idle p false (at-fpdat u x)) f
+  unfolding does begun shown
+  fpdat-status x k p f g =
+      address-read-leads u J Z l k p false (at-fpdat u x) f (rw (linked-at-fpdat u x) (status-small x)) (now _ _ _ g) (rw (linked-at-fpdat u x) g)
+
+  pub fpdat-read : (x : Link) (k : ℕ → Exchange) (p : ℕ) (f : List ℕ) → out-ready x ≡ true → first-byte (x .output) f < 256 → J f
+      → leads u J Z (k (first-byte (x .output) f)) (idle (get-byte u x (onward (u .delays) p) f .place) false (at-fpdat u (get-byte u x (onward (u .delays) p) f .link)))
+      (get-byte u x (onward (u .delays) p) f .flash)
+      → leads u J Z (framed l (frame DataRead 0) k) (idle p false (at-fpdat u x)) f
+  unfolding does begun given
+  fpdat-read x k p f o h j g =
+      data-read-leads u J Z l k p false (at-fpdat u x) f (fit .some) (fit .wait) (rw (linked-at-fpdat u x, o) h) j (rw (linked-at-fpdat u x, o) g)
+
+  -- these acts run well from this command, output and flash, between two frames at FPDAT with no put running
+  unfoldable pub Good : List Act → Command → Output → List ℕ → Type 0
+  Good acts c o f = (t p : ℕ) → t < 256 → leads u J Z (conversation (limits l r) acts) (idle p false (at-fpdat u (link c o 0 t))) f
+
+  pub good-now : (acts : List Act) (c : Command) (o : Output) (f : List ℕ) → Good acts c o f → J f
+  unfolding Good
+  good-now acts c o f g = now _ _ _ (g 0 0 (omega arith))
+
+  -- the reads of d, and one that shows InBusy 0
+  polls-busy : (n b : ℕ) (k : Exchange) (c : Command) (o : Output) (t p : ℕ) (f : List ℕ) → b < n → t < 256
+      → ((t : ℕ) → t < 256 → leads u J Z k (idle p false (at-fpdat u (link c o 0 t))) f)
+      → leads u J Z (polling l n input-taken k) (idle p false (at-fpdat u (link c o b t))) f
+  unfolding polling
+  polls-busy zero b k c o t p f hb ht g = absurd (not-suc-le-zero hb)
+  polls-busy (suc n) zero k c o t p f hb ht g = fpdat-status _ _ _ _ (rw (idle-status c o t, counted-idle c o t) (g (t - 1) (omega arith)))
+  polls-busy (suc n) (suc b) k c o t p f hb ht g =
+      fpdat-status _ _ _ _ (rw (busy-status c o b t, counted-busy c o b t) (polls-busy n b k c o t p f (omega arith) ht g))
+
+  -- the reads of e, and one that shows OutReady 1
+  polls-late : (n t : ℕ) (k : Exchange) (c : Command) (o : Output) (p : ℕ) (f : List ℕ) → t < n → some-output o ≡ true
+      → leads u J Z k (idle p false (at-fpdat u (link c o 0 0))) f
+      → leads u J Z (polling l n output-ready k) (idle p false (at-fpdat u (link c o 0 t))) f
+  unfolding polling
+  polls-late zero t k c o p f h w g = absurd (not-suc-le-zero h)
+  polls-late (suc n) zero k c o p f h w g = fpdat-status _ _ _ _ (rw (ready-status c o w, counted-idle c o 0) g)
+  polls-late (suc n) (suc t) k c o p f h w g =
+      let one : suc t - 1 ≡ t = omega arith in
+      fpdat-status _ _ _ _ (rw (late-status c o t, counted-idle c o (suc t), one) (polls-late n t k c o p f (omega arith) w g))
+
+  -- a byte put: the command takes it
+  pub put-good : (b : ℕ) (acts : List Act) (c : Command) (o : Output) (f : List ℕ) → b < 256 → J f
+      → Good acts (takes (u .settings) c b f .command) (takes (u .settings) c b f .output) (takes (u .settings) c b f .flash)
+      → Good (put b ++ acts) c o f
+  unfolding Good put put-byte conversation
+  put-good b acts c o f h j g t p ht =
+      let q = onward (u .delays) p in
+      let x = takes (u .settings) c b f in
+      fpdat-write _ b _ p f h j
+      (polls-busy r (delay (u .delays) q) (conversation (limits l r) acts) (x .command) (x .output)
+      (late-of (u .delays) (x .output) (onward (u .delays) q)) (place-after (u .delays) (x .output) (onward (u .delays) q)) (x .flash)
+      (omega (arith, delay-byte (u .delays) q (fit .delays), fit .reads)) (late-byte (u .delays) (x .output) _ (fit .delays)) (λ t ht. g t _ ht))
+
+  -- a byte got: the first of the output
+  pub get-good : (b : ℕ) (bad : Outcome) (acts : List Act) (c : Command) (o : Output) (f : List ℕ) → b < 256 → some-output o ≡ true → first-byte o f ≡ b
+      → Good acts c (other-bytes o) f → Good (get b bad ++ acts) c o f
+  unfolding Good get get-byte conversation
+  get-good b bad acts c o f h w e g t p ht =
+      polls-late r t _ c o p f (omega (arith, fit .reads)) w
+      (fpdat-read (link c o 0 0) _ p f (is-ready c o w) (rw e h) (now _ _ _ (g 0 0 (omega arith)))
+      (rw (e, eq-eqb b b refl, is-ready c o w) (g _ _ (late-byte (u .delays) (other-bytes o) _ (fit .delays)))))
+
+  -- a status of 0x0D
+  pub status-good : (acts : List Act) (c : Command) (f : List ℕ) → Good acts c Empty f → Good (status ++ acts) c (Status true) f
+  unfolding status some-output first-byte other-bytes
+  status-good acts c f g = get-good 0x0d (outcome bad-status) acts c (Status true) f (omega arith) refl refl g
+
+  pub address-good : (acts : List Act) (c : Command) (o : Output) (f : List ℕ) → Good acts c o f → Good (address-write (u .settings .fpdat) ∷ acts) c o f
+  unfolding Good conversation
+  address-good acts c o f g t p ht = fpdat-address _ _ _ _ (g t p ht)

@@ -1,0 +1,115 @@
+-- Pages in rising order from a first one on, as a session has them until request g.
+use mathlib.Core.Path.{_≡_, refl, sym, ap, _∙_, subst}
+use mathlib.Core.List.{List, [], _∷_, _++_, append-assoc}
+use Prim.Native.Nat.{ℕ, zero, suc, _+_, _*_, _/_, _≤_}
+use native.Mathlib.Nat.{mul-le-mul-right}
+use native.Mathlib.Omega.{arith}
+use lib.ListN.{length, take, drop, length-append, length-drop, take-append-drop}
+use lib.Seq.{take-all, drop-drop, length-take-le, take-add, take-at, drop-at}
+use Rattle.c2_wire.specs.Bits.{Bytes}
+use Rattle.c2_wire.proofs.Laws.Bits.{bytes-take, bytes-drop}
+use Rattle.settings.specs.declared.Settings.{Settings}
+use Rattle.c2_order.specs.Order.{Page, pages, rising}
+use Rattle.settings.proofs.Laws.Opening.{Opened}
+use Rattle.c2_play.specs.Programmed.{laid-over}
+use Rattle.c2_play.proofs.Laws.Run.{All-fit}
+use Rattle.c2_play.specs.Pages.{with-page, with-pages, At, Fits, Named, Rise}
+
+pub nothing-at : (i : ℕ) (p : Page) → At [] i p → ⊥
+nothing-at zero p a = none (a .is)
+  where
+    none : [] ≡ p ∷ a .later → ⊥
+    none e = let z : _≡_ {A = ℕ} 0 1 = cc in omega arith
+nothing-at (suc i) p a = none (a .is)
+  where
+    none : [] ≡ p ∷ a .later → ⊥
+    none e = let z : _≡_ {A = ℕ} 0 1 = cc in omega arith
+
+-- the pages that are at some place all fit
+pub all-at : (s : Settings) (ps : List Page) → ((i : ℕ) (p : Page) → At ps i p → Fits s p) → All-fit s ps
+unfolding All-fit
+all-at s [] h = tt
+all-at s (p ∷ ps) h = (h 0 p (record { later = ps; is = refl }), all-at s ps (λ i q a. h (suc i) q (record { later = a .later; is = a .is })))
+
+-- Pages whose numbers rise: each is at least the bound, fits, and no number stands twice.
+module _ (s : Settings) where
+  above : (ns : List ℕ) (b o : ℕ) (bs : List ℕ) → Rise b (s .count) ns → (i : ℕ) (p : Page) → At (pages (s .size) o ns bs) i p → b ≤ p .number
+  unfolding pages Rise
+  above [] b o bs h i p a = absurd (nothing-at i p a)
+  above (n ∷ ns) b o bs h zero p a =
+      let e : record { number = n; offset = o; bytes = take (s .size) bs } ≡ p = cc (a .is) in
+      subst (λ (x : Page). b ≤ x .number) e (h .0)
+  above (n ∷ ns) b o bs h (suc i) p a =
+      let x = above ns (suc n) (o + s .size) (drop (s .size) bs) (h .2) i p (record { later = a .later; is = a .is }) in
+      omega (arith, x, h .0)
+
+  all-fits : (ns : List ℕ) (b o : ℕ) (bs : List ℕ) → Rise b (s .count) ns → length ns * s .size ≤ length bs → Bytes bs
+      → (i : ℕ) (p : Page) → At (pages (s .size) o ns bs) i p → Fits s p
+  unfolding pages Rise
+  all-fits [] b o bs h hl hb i p a = absurd (nothing-at i p a)
+  all-fits (n ∷ ns) b o bs h hl hb zero p a =
+      let e : record { number = n; offset = o; bytes = take (s .size) bs } ≡ p = cc (a .is) in
+      subst (Fits s) e (record { number = h .1; whole = length-take-le (s .size) bs (omega arith); bytes = bytes-take (s .size) bs hb })
+  all-fits (n ∷ ns) b o bs h hl hb (suc i) p a =
+      all-fits ns (suc n) (o + s .size) (drop (s .size) bs) (h .2) (rw length-drop (omega arith)) (bytes-drop (s .size) bs hb) i p
+      (record { later = a .later; is = a .is })
+
+  number-once : (ns : List ℕ) (b o : ℕ) (bs : List ℕ) → Rise b (s .count) ns → (i j : ℕ) (p q : Page) → At (pages (s .size) o ns bs) i p
+      → At (pages (s .size) o ns bs) j q → p .number ≡ q .number → i ≡ j
+  unfolding pages Rise
+  number-once [] b o bs h i j p q a c e = absurd (nothing-at i p a)
+  number-once (n ∷ ns) b o bs h zero zero p q a c e = refl
+  number-once (n ∷ ns) b o bs h zero (suc j) p q a c e =
+      let here : n ≡ p .number = let r : record { number = n; offset = o; bytes = take (s .size) bs } ≡ p = cc (a .is) in ap (λ (x : Page). x .number) r in
+      let past = above ns (suc n) (o + s .size) (drop (s .size) bs) (h .2) j q (record { later = c .later; is = c .is }) in
+      absurd (omega (arith, here, past, e))
+  number-once (n ∷ ns) b o bs h (suc i) zero p q a c e =
+      let here : n ≡ q .number = let r : record { number = n; offset = o; bytes = take (s .size) bs } ≡ q = cc (c .is) in ap (λ (x : Page). x .number) r in
+      let past = above ns (suc n) (o + s .size) (drop (s .size) bs) (h .2) i p (record { later = a .later; is = a .is }) in
+      absurd (omega (arith, here, past, e))
+  number-once (n ∷ ns) b o bs h (suc i) (suc j) p q a c e =
+      ap suc (number-once ns (suc n) (o + s .size) (drop (s .size) bs) (h .2) i j p q (record { later = a .later; is = a .is }) (record { later = c .later; is = c .is }) e)
+
+  pub rise-named : (ns : List ℕ) (b o : ℕ) (bs : List ℕ) → Rise b (s .count) ns → length ns * s .size ≤ length bs → Bytes bs
+      → Named s (pages (s .size) o ns bs)
+  rise-named ns b o bs h hl hb = record { fits = all-fits ns b o bs h hl hb; once = number-once ns b o bs h }
+
+  rising-rise : (n first b : ℕ) → b ≤ first → first + n ≤ s .count → Rise b (s .count) (rising first n)
+  unfolding Rise rising
+  rising-rise zero first b h g = tt
+  rising-rise (suc n) first b h g = (h, omega arith, rising-rise n (suc first) (suc first) (omega arith) (omega arith))
+
+  rising-length : (n first : ℕ) → length (rising first n) ≡ n
+  unfolding rising
+  rising-length zero first = refl
+  rising-length (suc n) first = ap suc (rising-length n (suc first))
+
+  pub rising-named : (n first o : ℕ) (bs : List ℕ) → n * s .size ≤ length bs → Bytes bs → first + n ≤ s .count
+      → Named s (pages (s .size) o (rising first n) bs)
+  rising-named n first o bs hl hb hc =
+      rise-named (rising first n) 0 o bs (rising-rise n first 0 (omega arith) hc) (rw (rising-length n first) hl) hb
+
+-- pages one by one are the image laid over
+lay : (size n first o : ℕ) (A bs Z : List ℕ) → length A ≡ first * size → n * size ≤ length bs
+    → with-pages size (pages size o (rising first n) bs) (A ++ Z) ≡ A ++ (take (n * size) bs ++ drop (n * size) Z)
+unfolding pages rising with-pages with-page
+lay size zero first o A bs Z ea h = let z : 0 * size ≡ 0 = omega arith in rw z
+lay size (suc n) first o A bs Z ea h =
+    let w : length (take size bs) ≡ size = length-take-le size bs (omega arith) in
+    let x : suc n * size ≡ size + n * size = omega arith in
+    let here : take (first * size) (A ++ Z) ++ (take size bs ++ drop (first * size + size) (A ++ Z)) ≡ (A ++ take size bs) ++ drop size Z =
+    rw (take-at A Z (first * size) ea, ← drop-drop size (first * size) (A ++ Z), drop-at A Z (first * size) ea, append-assoc A (take size bs)) in
+    ap (λ (f : List ℕ). with-pages size (pages size (o + size) (rising (suc first) n) (drop size bs)) f) here
+    ∙ lay size n (suc first) (o + size) (A ++ take size bs) (drop size bs) (drop size Z) (rw (length-append, w) (omega arith)) (rw length-drop (omega arith))
+    ∙ rw (x, drop-drop, take-add, append-assoc A (take size bs), append-assoc (take size bs))
+
+pub laid-is : (s : Settings) (first : ℕ) (image f : List ℕ) → Opened s first (length image) → length f ≡ s .size * s .count
+    → with-pages (s .size) (pages (s .size) 0 (rising first (length image / s .size)) image) f ≡ laid-over (first * s .size) image f
+unfolding laid-over
+laid-is s first image f o e =
+    let n : ℕ = length image / s .size in
+    let fits : (first + n) * s .size ≤ s .count * s .size = mul-le-mul-right (s .size) (o .inside) in
+    let short : first * s .size ≤ length f = omega (arith, e, fits) in
+    let whole : n * s .size ≡ length image = sym (o .whole) in
+    let l = lay (s .size) n first 0 (take (first * s .size) f) image (drop (first * s .size) f) (length-take-le (first * s .size) f short) (omega arith) in
+    rw (take-append-drop (first * s .size) f, drop-drop (n * s .size) (first * s .size) f, whole, take-all (length image) image (omega arith)) at l

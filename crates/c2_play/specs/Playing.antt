@@ -1,0 +1,64 @@
+-- An exchange played against the target: each reply is the target's own to the step before, and nobody else writes the flash.
+use mathlib.Core.List.{List, [], _∷_}
+use mathlib.Core.Path.{_≡_}
+use Prim.Native.Nat.{ℕ}
+use lib.Dec.{eqb}
+use lib.ListN.{take}
+use Rattle.c2_wire.specs.Bits.{bit}
+use Rattle.c2_wire.specs.Step.{Step, code}
+use Rattle.c2_wire.specs.Exchange.{Exchange, ended, strobe, ask, at, Outcome, fed, asks, steps, taken, outcome-of}
+use Rattle.c2_target.specs.declared.Target.{Target}
+use Rattle.c2_target.specs.Delays.{Setup}
+use Rattle.c2_target.specs.Strobes.{Turn, turn}
+use Rattle.c2_target.specs.Target.{answer, flash-after}
+
+-- how an exchange ends, and the target and the flash then
+pub record Played : Type 0 where
+  pub outcome : Outcome
+  pub target : Target
+  pub flash : List ℕ
+
+-- an exchange against whatever answers its steps
+unfoldable pub against : (Target → List ℕ → Step → Turn) → Exchange → Target → List ℕ → Played
+against step (ended o) t f = record { outcome = o; target = t; flash = f }
+against step (ask (at g s) k) t f = against step (k (step t f s .reply)) (step t f s .target) (step t f s .flash)
+
+-- the replies that it is given
+unfoldable pub replies-of : (Target → List ℕ → Step → Turn) → Exchange → Target → List ℕ → List ℕ
+replies-of step (ended o) t f = []
+replies-of step (ask (at g s) k) t f =
+    bit (step t f s .reply) ∷ replies-of step (k (step t f s .reply)) (step t f s .target) (step t f s .flash)
+
+-- the target's whole step, refusals included, by the step's byte
+unfoldable pub whole-step : Setup → Target → List ℕ → Step → Turn
+whole-step u t f s = turn (eqb (answer u t f (code s) .reply) 1) (answer u t f (code s) .target) (flash-after u t f (code s))
+
+abbrev pub play : Setup → Exchange → Target → List ℕ → Played
+play u e t f = against (whole-step u) e t f
+
+-- The target's own replies to steps in a row,
+unfoldable pub own-replies : Setup → Target → List ℕ → (steps : List ℕ) → List ℕ
+own-replies u t f [] = []
+own-replies u t f (x ∷ xs) = answer u t f x .reply ∷ own-replies u (answer u t f x .target) (flash-after u t f x) xs
+
+-- and the target and the flash after them.
+pub record State : Type 0 where
+  pub target : Target
+  pub flash : List ℕ
+
+unfoldable pub left-by : Setup → Target → List ℕ → (steps : List ℕ) → State
+left-by u t f [] = record { target = t; flash = f }
+left-by u t f (x ∷ xs) = left-by u (answer u t f x .target) (flash-after u t f x) xs
+
+-- The steps that the replies taken answer: the first, and each that was written but the last.
+unfoldable pub answered : Exchange → (replies : List ℕ) → List ℕ
+answered e rs = take (taken e rs) (asks e ∷ steps e rs)
+
+-- Each reply taken is the target's own to the step before.
+abbrev pub Own-replies : Setup → Target → List ℕ → Exchange → (replies : List ℕ) → Type 0
+Own-replies u t f e rs = take (taken e rs) rs ≡ own-replies u t f (answered e rs)
+
+-- How an exchange stands after replies, with the target and the flash as the steps that they answer have left them.
+abbrev pub after-replies : Setup → Exchange → Target → List ℕ → (replies : List ℕ) → Played
+after-replies u e t f rs =
+    record { outcome = outcome-of (fed e rs); target = left-by u t f (answered e rs) .target; flash = left-by u t f (answered e rs) .flash }

@@ -1,0 +1,58 @@
+-- What a session supposes of the target, and what it leaves behind (demand 3).
+use mathlib.Core.Path.{_≡_}
+use mathlib.Core.Bool.{true, false}
+use mathlib.Core.List.{List, _++_}
+use Prim.Native.Nat.{ℕ, _+_, _*_, _≤_}
+use lib.ListN.{length, take, drop}
+use Rattle.numbers.specs.Numbers.{done}
+use Rattle.c2_wire.specs.Bits.{Bytes}
+use Rattle.c2_wire.specs.Exchange.{outcome}
+use Rattle.c2_order.specs.Order.{session-order}
+use Rattle.c2_order.specs.Conversation.{Limits}
+use Rattle.c2_order.specs.Point.{begin}
+use Rattle.c2_order.specs.Figure.{figure}
+use Rattle.c2_order.specs.Claims.{Opening, exchange-of}
+use Rattle.c2_target.specs.declared.Target.{Target}
+use Rattle.c2_target.specs.Delays.{Setup}
+use Rattle.c2_target.specs.Known.{known}
+use Rattle.c2_play.specs.Playing.{Played, play, Own-replies, after-replies}
+
+-- The target, fresh or in any state that exists, with no mark; any flash of size times count bytes, any delays. The session's WAIT limit is no
+-- lower than the target's, and its reads are enough for a delay of one byte.
+pub record Met (limits : Limits) (u : Setup) (t : Target) (f : List ℕ) : Type 0 where
+  pub state : known u t f ≡ true
+  pub unmarked : t .collision ≡ false
+  pub flash : Bytes f
+  pub delays : Bytes (u .delays)
+  pub some : 1 ≤ u .wait
+  pub wait : u .wait ≤ limits .wait
+  pub reads : 256 ≤ limits .reads
+
+-- the flash with the image laid over it from an address on; every other byte is as it was
+unfoldable pub laid-over : (address : ℕ) → (image flash : List ℕ) → List ℕ
+laid-over a image f = take a f ++ (image ++ drop (a + length image) f)
+
+-- the session has ended done, the flash is this one, and no collision is marked
+pub record Programmed (flash : List ℕ) (x : Played) : Type 0 where
+  pub ended : x .outcome ≡ outcome done
+  pub holds : x .flash ≡ flash
+  pub clean : x .target .collision ≡ false
+
+-- A session with the target's settings, played against it, programs it.
+abbrev pub Programs : Type 0
+Programs = (l : Limits) (u : Setup) (first : ℕ) (image : List ℕ) (t : Target) (f : List ℕ) → Opening (u .settings) first image → Met l u t f
+    → Programmed (laid-over (first * u .settings .size) image f) (play u (exchange-of l (u .settings) first image) t f)
+
+-- So does one whose replies taken are each the target's own to the step before, if there are as many as the most steps to come at the opening.
+abbrev pub Own-replies-program : Type 0
+Own-replies-program = (l : Limits) (u : Setup) (first : ℕ) (image : List ℕ) (t : Target) (f replies : List ℕ)
+    → Opening (u .settings) first image → Met l u t f → Own-replies u t f (exchange-of l (u .settings) first image) replies
+    → figure l (begin (session-order (u .settings) first image)) ≤ length replies
+    → Programmed (laid-over (first * u .settings .size) image f) (after-replies u (exchange-of l (u .settings) first image) t f replies)
+
+-- And wherever such replies stop, they leave a target that a session may meet again.
+abbrev pub Own-replies-leave : Type 0
+Own-replies-leave = (l : Limits) (u : Setup) (first : ℕ) (image : List ℕ) (t : Target) (f replies : List ℕ)
+    → Opening (u .settings) first image → Met l u t f → Own-replies u t f (exchange-of l (u .settings) first image) replies
+    → Met l u (after-replies u (exchange-of l (u .settings) first image) t f replies .target)
+    (after-replies u (exchange-of l (u .settings) first image) t f replies .flash)

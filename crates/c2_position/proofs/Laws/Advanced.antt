@@ -1,0 +1,294 @@
+-- A reply turns a session into its successor as it moves the point of the order.
+use mathlib.Core.Path.{_≡_, refl, sym, ap, _∙_}
+use mathlib.Core.Bool.{Bool, true, false, not, cond}
+use mathlib.Core.List.{List, [], _∷_}
+use Prim.Native.Nat.{ℕ, zero, suc, _+_, _*_, _-_, _/_, _%_, _<_, _≤_}
+use native.Mathlib.Nat.{mod-eq-of-lt, mul-div-cancel-left, mul-comm, mul-zero}
+use native.Mathlib.Omega.{arith}
+use native.Mathlib.Decide.{decLt}
+use borrow.Author.Tests.{lt-ltb, le-ltb, ltb-true, ltb-false, eqb-true}
+use lib.Dec.{eqb, ltb}
+use lib.ListN.{length}
+use Rattle.laws.proofs.Below.{upto, same-below}
+use Rattle.laws.proofs.Tests.{both, by-test, not-first, not-second}
+use Rattle.c2_wire.specs.Bits.{odd}
+use Rattle.c2_wire.specs.Step.{Step, reset, pause}
+use Rattle.c2_wire.specs.Field.{Field, RESET, PAUSE}
+use Rattle.c2_wire.specs.Frames.{plain}
+use Rattle.c2_wire.specs.Place.{place, followed}
+use Rattle.c2_wire.specs.declared.Frame.the-variants.{AddressWrite, DataWrite}
+use Rattle.c2_wire.specs.declared.Place.{Place}
+use Rattle.c2_wire.specs.declared.Moved.{Moved}
+use Rattle.c2_wire.specs.declared.Moved.the-variants.{Within, Stopped, WaitLimit}
+use Rattle.c2_wire.proofs.Laws.Role.{followed-any-byte}
+use Rattle.c2_order.specs.Acts.{Act, input-taken, output-ready}
+use Rattle.c2_order.specs.Conversation.{limits}
+use Rattle.c2_order.specs.Point.{begin, strobes-of}
+use Rattle.settings.specs.Opening.{opening-refusal}
+use Rattle.settings.proofs.Laws.Opening.{Opened, opened}
+use Rattle.c2_acts.specs.declared.Stage.{Stage}
+use Rattle.c2_acts.specs.declared.Stage.the-variants.{Lead, Erase, Write, Read, Close}
+use Rattle.c2_acts.specs.declared.Task.{Task}
+use Rattle.c2_acts.specs.declared.Task.the-variants.{Reset, Pause, Address, Send, Input, Output, Ident, Status, Compare}
+use Rattle.c2_session.specs.declared.At.{At}
+use Rattle.c2_session.specs.declared.Point.the-variants.{Running, Ended}
+use Rattle.c2_session.specs.declared.Session.{Session}
+use Rattle.c2_session.specs.declared.Wanted.the-variants.{Byte}
+use Rattle.c2_acts.specs.Code.Acts.{task-of, acts-in}
+use Rattle.c2_session.specs.Code.Sent.{image-byte, sent-offset, compared-offset}
+use Rattle.c2_session.specs.Code.Machine.{at, running, onward, again, differs, compared, judged, sends-image, drives-image, wants, stays, settled, task-taken}
+use Rattle.c2_range.specs.Range.{pages-in, blocks-in, strobes-in, reads-in, place-in-range, running-in-range, point-in-range, in-range}
+use Rattle.c2_position.specs.Position.{page-list, pages-from, writes-from, reads-from, at-act, point-position, position}
+use Rattle.c2_position.proofs.Laws.Acts.{task-act}
+use Rattle.c2_position.proofs.Laws.Position.{Fits, act-here, act-byte, page-inside, block-inside, image-small}
+use Rattle.c2_position.proofs.Laws.Onward.{rest-from, acts-here, goes-on}
+use Rattle.c2_order.specs.Point
+use Rattle.c2_session.specs.Code.Machine
+
+input-test : (x : ℕ) → eqb (x / 2 % 2) 0 ≡ input-taken x
+unfolding input-taken odd
+input-test x = go (x / 2 % 2) (omega arith)
+  where
+    go : (m : ℕ) → m < 2 → eqb m 0 ≡ not (eqb m 1)
+    go zero h = refl
+    go (suc zero) h = refl
+    go (suc (suc m)) h = absurd (omega arith)
+
+-- only a block read compares, from its act 14 on
+is-compare : Task → Bool
+is-compare = elim [ Reset ↦ false | Pause ↦ false | Address ↦ false | Send ↦ false | Input ↦ false | Output ↦ false | Ident ↦ false | Status ↦ false | Compare ↦ true ]
+
+none-below : (f : ℕ → Task) (n : ℕ) → upto (λ m. is-compare (f m)) n ≡ upto (λ m. false) n → (k : ℕ) → k < n → f k ≡ Compare → ⊥
+unfolding is-compare
+none-below f n e k h q =
+    let p : is-compare (f k) ≡ false = same-below (λ m. is-compare (f m)) (λ m. false) n e k h in
+    let z : true ≡ false = sym (ap is-compare q) ∙ p in
+    let y : _≡_ {A = ℕ} 0 1 = cc in omega arith
+
+abbrev pub Compares : Stage → ℕ → Type 0
+Compares Lead k = ⊥
+Compares Erase k = ⊥
+Compares Write k = ⊥
+Compares Read k = 14 ≤ k
+Compares Close k = ⊥
+
+pub compares-late : (g : Stage) (k : ℕ) → k < acts-in g → task-of g k ≡ Compare → Compares g k
+unfolding is-compare
+compares-late Lead k h q = none-below (task-of Lead) 8 refl k h q
+compares-late Erase k h q = none-below (task-of Erase) 13 refl k h q
+compares-late Write k h q = none-below (task-of Write) 525 refl k h q
+compares-late Read k h q = go (decLt k 14)
+  where
+    go : Dec (k < 14) → 14 ≤ k
+    go (yes y) = absurd (none-below (task-of Read) 14 refl k y q)
+    go (no y) = omega arith
+compares-late Close k h q = none-below (task-of Close) 1 refl k h q
+
+-- the byte that a compare wants is there
+pub wanted-there : (s : Session) (image : List ℕ) (h : Fits s image) (g : Stage) (i j k : ℕ) → i < pages-in g (s .pages) → j < blocks-in g (s .settings .size)
+    → k < acts-in g → Compares g k
+    → (image-byte image (compared-offset s (at g i j k)) ≡ Byte (act-byte s image h g (at g i j k))) × (compared-offset s (at g i j k) < length image)
+unfolding image-byte compared-offset
+wanted-there s image h Read i j k gi gj gk c =
+    let inside : i * s .settings .size + j * 256 + (k - 14) / 2 < length image = omega (arith, page-inside s image h i gi, block-inside s image h j gj) in (
+      rw (lt-ltb (i * s .settings .size + j * 256 + (k - 14) / 2) (length image) inside, le-ltb k 11 (omega arith)),
+      inside,
+    )
+wanted-there s image h Lead i j k gi gj gk c = absurd c
+wanted-there s image h Erase i j k gi gj gk c = absurd c
+wanted-there s image h Write i j k gi gj gk c = absurd c
+wanted-there s image h Close i j k gi gj gk c = absurd c
+
+-- the byte that a strobe drives is there
+sends-inside : (k : ℕ) → sends-image k ≡ true → (11 ≤ k) × (k < 523)
+unfolding sends-image
+sends-inside k e =
+    let a = not-first (ltb k 11) (cond (ltb k 523) (eqb (k % 2) 1) false) e in
+    let b = not-second (ltb k 523) (eqb (k % 2) 1) (a .1) in
+    (ltb-false k 11 (a .0), ltb-true k 523 (b .0))
+
+writes-stay : (s : Session) (image : List ℕ) → Fits s image → (i j k : ℕ) → i < s .pages → j < s .settings .size / 256 → (p : Place)
+    → stays Write s (at Write i j k) p image ≡ running (at Write i j k) p
+unfolding drives-image image-byte sent-offset
+writes-stay s image h i j k gi gj p = by-test (drives-image (at Write i j k) p) driving (λ e. rw e)
+  where
+    driving : drives-image (at Write i j k) p ≡ true → stays Write s (at Write i j k) p image ≡ running (at Write i j k) p
+    driving e =
+        let a = not-first (ltb (p .strobe) 5) _ e in
+        let b = not-second (ltb (p .strobe) 13) (sends-image k) (a .1) in
+        rw e (there (sends-inside k (b .1)))
+      where
+        there : (11 ≤ k) × (k < 523) → wants (image-byte image (sent-offset s (at Write i j k))) (at Write i j k) p ≡ running (at Write i j k) p
+        there c =
+            rw (lt-ltb (i * s .settings .size + j * 256 + (k - 11) / 2) (length image) (omega (arith, page-inside s image h i gi, block-inside s image h j gj)))
+
+pub stays-same : (s : Session) (image : List ℕ) → Fits s image → (g : Stage) (i j k : ℕ) → i < pages-in g (s .pages) → j < blocks-in g (s .settings .size) → (p : Place)
+    → stays g s (at g i j k) p image ≡ running (at g i j k) p
+stays-same s image h Lead i j k gi gj p = refl
+stays-same s image h Erase i j k gi gj p = refl
+stays-same s image h Write i j k gi gj p = writes-stay s image h i j k gi gj p
+stays-same s image h Read i j k gi gj p = refl
+stays-same s image h Close i j k gi gj p = refl
+
+-- a step that stands in no frame is over at its reply
+step-over : (w : ℕ) (f : Field) (x : Step) (p : Place) (b : Bool) → followed w (plain f x ∷ []) p b ≡ Stopped (p .bits)
+unfolding followed
+step-over w f x p b = rw (le-ltb (p .strobe + 1) 1 (omega arith))
+
+module _ (s : Session) (image : List ℕ) (h : Fits s image) (w r : ℕ)
+    (g : Stage) (i j k : ℕ) (gi : i < pages-in g (s .pages)) (gj : j < blocks-in g (s .settings .size)) (gk : k < acts-in g) where
+  abbrev a : At
+  a = at g i j k
+
+  abbrev here : Act
+  here = act-here s image h g (at g i j k)
+
+  abbrev after : List Act
+  after = rest-from s image h g i j k
+
+  -- a point of the same act
+  stays-here : (p : Place) → point-position s image (running (at g i j k) p) ≡ Point.running here after p
+  unfolding point-position
+  stays-here p = ap (λ (x : List Act). at-act x p) (acts-here s image h g i j k gi gj gk)
+
+  onward-here : point-position s image (onward s (at g i j k)) ≡ begin after
+  onward-here = sym (goes-on s image h g i j k gi gj gk)
+
+  cond-position : (t : Bool) (x y : Rattle.c2_session.specs.declared.Point.Point) (u v : Point.Point)
+      → point-position s image x ≡ u → point-position s image y ≡ v → point-position s image (cond t x y) ≡ cond t u v
+  cond-position true x y u v p q = p
+  cond-position false x y u v p q = q
+
+  again-here : (n : ℕ) → point-position s image (again r (at g i j k) n) ≡ Point.again (limits w r) here after n
+  unfolding again Point.again point-position
+  again-here n = cond-position (ltb (n + 1) r) _ _ _ _ (stays-here (place 0 (n + 1) 0)) refl
+
+  again-as : (t : Task) → task-of g k ≡ t → (n : ℕ)
+      → point-position s image (again r (at g i j k) n) ≡ Point.again (limits w r) (task-act t (act-byte s image h g a) (s .settings .id) (compared-offset s a)) after n
+  again-as t q n =
+      again-here n ∙ ap (λ (x : Task). Point.again (limits w r) (task-act x (act-byte s image h g a) (s .settings .id) (compared-offset s a)) after n) q
+
+  -- a frame of the act has ended with a byte
+  judged-here : (t : Task) → task-of g k ≡ t → (n x : ℕ)
+      → point-position s image (judged r t s (at g i j k) n x image) ≡ Point.judged (limits w r) (task-act t (act-byte s image h g a) (s .settings .id) (compared-offset s a)) after n x
+  unfolding Point.judged compared differs point-position output-ready odd
+  judged-here Reset q n x = onward-here
+  judged-here Pause q n x = onward-here
+  judged-here Address q n x = onward-here
+  judged-here Send q n x = onward-here
+  judged-here Input q n x = rw (input-test x) (cond-position (input-taken x) _ _ _ _ onward-here (again-as Input q n))
+  judged-here Output q n x = cond-position (eqb (x % 2) 1) _ _ _ _ onward-here (again-as Output q n)
+  judged-here Ident q n x = cond-position (eqb x (s .settings .id)) _ _ _ _ onward-here refl
+  judged-here Status q n x = cond-position (eqb x 13) _ _ _ _ onward-here refl
+  judged-here Compare q n x =
+      let c = wanted-there s image h g i j k gi gj gk (compares-late g k gk q) in
+      let m : compared-offset s (at g i j k) % 4294967296 ≡ compared-offset s (at g i j k) = mod-eq-of-lt (omega (arith, c .1, image-small s image h)) in
+      rw (c .0) (cond-position (eqb x (act-byte s image h g a)) _ _ _ _ onward-here (rw m))
+
+  -- another strobe of the act's frame: the byte that it may drive is there
+  stays-on : (p : Place) → point-position s image (stays g s (at g i j k) p image) ≡ Point.running here after p
+  stays-on p = ap (λ (x : Rattle.c2_session.specs.declared.Point.Point). point-position s image x) (stays-same s image h g i j k gi gj p) ∙ stays-here p
+
+  settled-here : (t : Task) → task-of g k ≡ t → (n : ℕ) (m : Moved)
+      → point-position s image (settled r m t s (at g i j k) n image) ≡ Point.settled (limits w r) (task-act t (act-byte s image h g a) (s .settings .id) (compared-offset s a)) after n m
+  unfolding Point.settled point-position
+  settled-here t q n (Within p) =
+      stays-on p ∙ ap (λ (x : Task). Point.running (task-act x (act-byte s image h g a) (s .settings .id) (compared-offset s a)) after p) q
+  settled-here t q n (Stopped x) = judged-here t q n x
+  settled-here t q n WaitLimit = refl
+
+  -- a reply of 0 or 1
+  framed-here : (t : Task) → task-of g k ≡ t → (p : Place) (b : Bool) (m : Moved)
+      → followed w (strobes-of (task-act t (act-byte s image h g a) (s .settings .id) (compared-offset s a))) p b ≡ m
+      → point-position s image (settled r m t s (at g i j k) (p .count) image)
+      ≡ Point.settled (limits w r) (task-act t (act-byte s image h g a) (s .settings .id) (compared-offset s a)) after (p .count)
+      (followed w (strobes-of (task-act t (act-byte s image h g a) (s .settings .id) (compared-offset s a))) p b)
+  framed-here t q p b m e = rw e (settled-here t q (p .count) m)
+
+  taken-here : (t : Task) → task-of g k ≡ t → (p : Place) (b : Bool)
+      → point-position s image (task-taken w r t s (at g i j k) p b image)
+      ≡ Point.settled (limits w r) (task-act t (act-byte s image h g a) (s .settings .id) (compared-offset s a)) after (p .count)
+      (followed w (strobes-of (task-act t (act-byte s image h g a) (s .settings .id) (compared-offset s a))) p b)
+  unfolding strobes-of Point.settled Point.judged
+  taken-here Reset q p b = rw (step-over w RESET reset p b) onward-here
+  taken-here Pause q p b = rw (step-over w PAUSE pause p b) onward-here
+  taken-here Address q p b = framed-here Address q p b _ (followed-any-byte AddressWrite (act-byte s image h g a) 0 w p b)
+  taken-here Send q p b = framed-here Send q p b _ (followed-any-byte DataWrite (act-byte s image h g a) 0 w p b)
+  taken-here Input q p b = framed-here Input q p b _ refl
+  taken-here Output q p b = framed-here Output q p b _ refl
+  taken-here Ident q p b = framed-here Ident q p b _ refl
+  taken-here Status q p b = framed-here Status q p b _ refl
+  taken-here Compare q p b = framed-here Compare q p b _ refl
+
+  -- the point that the session is at, and any reply
+  pub replied-here : (p : Place) (x : ℕ)
+      → point-position s image (Machine.replied w r s (at g i j k) p x image) ≡ Point.next (limits w r) (point-position s image (running (at g i j k) p)) x
+  unfolding Machine.replied Point.next point-position
+  replied-here p zero = rw (acts-here s image h g i j k gi gj gk) (taken-here (task-of g k) refl p false)
+  replied-here p (suc zero) = rw (acts-here s image h g i j k gi gj gk) (taken-here (task-of g k) refl p true)
+  replied-here p (suc (suc x)) = rw (acts-here s image h g i j k gi gj gk, lt-ltb 1 (suc (suc x)) (omega arith))
+
+some-factor : (a b : ℕ) → 1 ≤ a * b → 1 ≤ b
+some-factor a zero h = absurd (omega (arith, mul-zero a))
+some-factor a (suc b) h = omega arith
+
+-- what in-range says of a session and an image of its length
+pub fits-of : (w r : ℕ) (s : Session) (image : List ℕ) → in-range w r s ≡ true → length image ≡ s .settings .size * s .pages → Fits s image
+unfolding in-range
+fits-of w r s image e l =
+    let b = both _ _ e in
+    let o : Opened (s .settings) (s .first) (s .settings .size * s .pages) = opened (s .settings) (s .first) (s .settings .size * s .pages) (eqb-true _ 0 (b .0)) in
+    let n : s .settings .size * s .pages / s .settings .size ≡ s .pages = mul-div-cancel-left (s .pages) (omega (arith, o .settings .size, o .settings .some)) in
+    record { settings = o .settings; some = some-factor (s .settings .size) (s .pages) (o .some); inside = rw n at (o .inside); whole = l ∙ mul-comm (s .settings .size) (s .pages) }
+
+-- a point in range exists in the order
+pub record Exists-in (w r : ℕ) (s : Session) (g : Stage) (i j k q c v : ℕ) : Type 0 where
+  pub page : i < pages-in g (s .pages)
+  pub block : j < blocks-in g (s .settings .size)
+  pub act : k < acts-in g
+  pub place : place-in-range w (reads-in r (task-of g k)) (strobes-in (task-of g k)) q c v ≡ true
+
+pub exists-of : (w r : ℕ) (s : Session) (g : Stage) (i j k q c v : ℕ) → running-in-range w r (s .settings .size) (s .pages) g i j k q c v ≡ true
+    → Exists-in w r s g i j k q c v
+unfolding running-in-range
+exists-of w r s g i j k q c v e =
+    let a = both _ _ e in
+    let b = both _ _ (a .0) in
+    let d = both _ _ (b .0) in
+    record { page = ltb-true _ _ (d .0); block = ltb-true _ _ (d .1); act = ltb-true _ _ (b .1); place = a .1 }
+
+-- where a point stands goes by settings and pages alone
+abbrev pub SessionPoint : Type 0
+SessionPoint = Rattle.c2_session.specs.declared.Point.Point
+
+abbrev pub with-point : Session → SessionPoint → Session
+with-point s y = record { settings = s .settings; first = s .first; pages = s .pages; point = y }
+
+pub position-keeps : (s : Session) (y : SessionPoint) (image : List ℕ) (z : SessionPoint) → point-position (with-point s y) image z ≡ point-position s image z
+unfolding point-position pages-from writes-from reads-from page-list
+position-keeps s y image (Running Lead i j k q c v) = refl
+position-keeps s y image (Running Erase i j k q c v) = refl
+position-keeps s y image (Running Write i j k q c v) = refl
+position-keeps s y image (Running Read i j k q c v) = refl
+position-keeps s y image (Running Close i j k q c v) = refl
+position-keeps s y image (Ended n o) = refl
+
+pub point-of : (w r : ℕ) (s : Session) → in-range w r s ≡ true → point-in-range w r (s .settings .size) (s .pages) (s .point) ≡ true
+unfolding in-range
+point-of w r s e =
+    both (eqb (opening-refusal (s .settings) (s .first) (s .settings .size * s .pages)) 0) (point-in-range w r (s .settings .size) (s .pages) (s .point)) e .1
+
+-- the session after a reply stands at the next point
+pub advances : (w r : ℕ) (s : Session) (image : List ℕ) → in-range w r s ≡ true → length image ≡ s .settings .size * s .pages → (x : ℕ)
+    → position (Machine.advanced w r s x image) image ≡ Point.next (limits w r) (position s image) x
+unfolding Machine.advanced Point.next point-position
+advances w r s image e l x =
+    position-keeps s (Machine.point-advanced w r (s .point) s x image) image (Machine.point-advanced w r (s .point) s x image)
+    ∙ go (s .point) (point-of w r s e)
+  where
+    go : (y : SessionPoint) → point-in-range w r (s .settings .size) (s .pages) y ≡ true
+        → point-position s image (Machine.point-advanced w r y s x image) ≡ Point.next (limits w r) (point-position s image y) x
+    go (Running g i j k q c v) f =
+        let n = exists-of w r s g i j k q c v f in
+        replied-here s image (fits-of w r s image e l) w r g i j k (n .page) (n .block) (n .act) (place q c v) x
+    go (Ended n o) f = refl

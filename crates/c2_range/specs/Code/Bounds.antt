@@ -1,0 +1,57 @@
+-- For the code: the frame of an act as numbers, and tests of numbers below others. Nothing here needs to be believed: `Shapes` in proofs/ has the
+-- law that these are the strobes, counts and sampled bits of the frames.
+use mathlib.Core.Bool.{Bool, cond, _&&_}
+use Prim.Native.Nat.{ℕ, _-_, _^_}
+use lib.Dec.{eqb, ltb}
+use Rattle.c2_acts.specs.declared.Task.{Task}
+use Rattle.c2_acts.specs.declared.Task.the-variants.{Reset, Pause, Address, Send, Input, Output, Ident, Status, Compare}
+
+-- how many strobes there are
+abbrev pub strobes-by : Task → ℕ
+strobes-by Reset = 1
+strobes-by Pause = 1
+strobes-by Address = 12
+strobes-by Send = 15
+strobes-by Input = 12
+strobes-by Output = 12
+strobes-by Ident = 15
+strobes-by Status = 15
+strobes-by Compare = 15
+
+-- what a count is below, where the WAIT has this number
+abbrev pub limit-from : (waits wait-limit strobe : ℕ) → ℕ
+limit-from a w q = cond (eqb q a) w 1
+
+abbrev pub limit-by : (wait-limit poll-limit : ℕ) → Task → (strobe : ℕ) → ℕ
+limit-by w r Reset q = 1
+limit-by w r Pause q = 1
+limit-by w r Address q = 1
+limit-by w r Send q = limit-from 13 w q
+limit-by w r Input q = r
+limit-by w r Output q = r
+limit-by w r Ident q = limit-from 5 w q
+limit-by w r Status q = limit-from 5 w q
+limit-by w r Compare q = limit-from 5 w q
+
+-- how many of the eight strobes from this first one on are passed
+abbrev pub sampled-from : (first strobe : ℕ) → ℕ
+sampled-from a q = cond (ltb q a) 0 (cond (ltb (q - a) 8) (q - a) 8)
+
+abbrev pub sampled-by : Task → (strobe : ℕ) → ℕ
+sampled-by Reset q = 0
+sampled-by Pause q = 0
+sampled-by Address q = 0
+sampled-by Send q = 0
+sampled-by Input q = sampled-from 3 q
+sampled-by Output q = sampled-from 3 q
+sampled-by Ident q = sampled-from 6 q
+sampled-by Status q = sampled-from 6 q
+sampled-by Compare q = sampled-from 6 q
+
+-- a place below such numbers
+abbrev pub within : (strobes limit sampled : ℕ) → (strobe count bits : ℕ) → Bool
+within n m k q c v = ltb q n && ltb c m && ltb v (2 ^ k)
+
+-- an act of so many, in one of so many blocks of so many pages
+abbrev pub inside : (pages blocks acts : ℕ) → (page block act : ℕ) → Bool
+inside n m a i j k = ltb i n && ltb j m && ltb k a

@@ -1,0 +1,98 @@
+// A frame of an act as numbers, and tests of numbers below others.
+ghost use mathlib.Core.Path.{_≡_};
+ghost use Prim.Native.Nat.{_^_, _≤_};
+ghost use Rattle.c2_acts.specs.Code.Acts.{acts-in};
+ghost use Rattle.c2_range.specs.Range.{strobes-in, reads-in, place-in-range};
+ghost use Rattle.c2_range.specs.Code.Bounds.{limit-from, sampled-from, within, inside};
+use c2_acts::Task;
+use c2_acts::acts_in;
+use c2_session::At;
+use c2_wire::Place;
+
+// The zeros of the WAIT at this strobe are below its limit, and elsewhere there is nothing to count.
+fn limit_from(waits: usize, wait: usize, strobe: usize) -> usize
+    ensures { λ r. ⌜ r ≡ limit-from waits wait strobe ⌝ }
+{
+    if strobe == waits {
+        return wait;
+    }
+    1
+}
+
+// How many of the eight strobes from this first one on are passed.
+fn sampled_from(first: usize, strobe: usize) -> usize
+    ensures { λ r. ⌜ r ≡ sampled-from first strobe ⌝ }
+    ensures { λ r. ⌜ r ≤ 8 ⌝ }
+{
+    if strobe < first {
+        return 0;
+    }
+    if strobe - first < 8 {
+        return strobe - first;
+    }
+    8
+}
+
+// What the bits are below where so many are sampled.
+fn bits_limit(sampled: usize) -> usize
+    requires { ⌜ sampled ≤ 8 ⌝ }
+    ensures { λ r. ⌜ r ≡ 2 ^ sampled ⌝ }
+{
+    1usize << sampled
+}
+
+// Whether a place is one of so many strobes, with its count below a limit and no bit beyond those sampled.
+fn within(strobes: usize, limit: usize, sampled: usize, place: Place) -> bool
+    requires { ⌜ sampled ≤ 8 ⌝ }
+    ensures { λ r. ⌜ r ≡ within strobes limit sampled (place .strobe) (place .count) (place .bits) ⌝ }
+{
+    if place.strobe < strobes {
+        if place.count < limit {
+            return place.bits < bits_limit(sampled);
+        }
+    }
+    false
+}
+
+// A place of an Address Read, and one of a Data Read.
+fn address_read(reads: usize, place: Place) -> bool
+    ensures { λ r. ⌜ r ≡ within 12 reads (sampled-from 3 (place .strobe)) (place .strobe) (place .count) (place .bits) ⌝ }
+{
+    within(12, reads, sampled_from(3, place.strobe), place)
+}
+
+fn data_read(wait: usize, place: Place) -> bool
+    ensures { λ r. ⌜ r ≡ within 15 (limit-from 5 wait (place .strobe)) (sampled-from 6 (place .strobe)) (place .strobe) (place .count) (place .bits) ⌝ }
+{
+    let limit = limit_from(5, wait, place.strobe);
+    within(15, limit, sampled_from(6, place.strobe), place)
+}
+
+pub(crate) fn place_in_range(wait: usize, reads: usize, task: Task, place: Place) -> bool
+    ensures { λ r. ⌜ r ≡ place-in-range wait (reads-in reads task) (strobes-in task) (place .strobe) (place .count) (place .bits) ⌝ }
+{
+    match task {
+        Task::Reset => within(1, 1, 0, place),
+        Task::Pause => within(1, 1, 0, place),
+        Task::Address => within(12, 1, 0, place),
+        Task::Send => within(15, limit_from(13, wait, place.strobe), 0, place),
+        Task::Input => address_read(reads, place),
+        Task::Output => address_read(reads, place),
+        Task::Ident => data_read(wait, place),
+        Task::Status => data_read(wait, place),
+        Task::Compare => data_read(wait, place),
+    }
+}
+
+// Whether an act is one of its stage, in one of so many blocks of so many pages.
+pub(crate) fn inside(pages: u16, blocks: u32, at: At) -> bool
+    ensures { λ r. ⌜ r ≡ inside pages blocks (acts-in (at .stage)) (at .page) (at .block) (at .act) ⌝ }
+{
+    let stage = at.stage;
+    if at.page < pages {
+        if at.block < blocks {
+            return at.act < acts_in(stage);
+        }
+    }
+    false
+}

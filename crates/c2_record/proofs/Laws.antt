@@ -1,0 +1,5 @@
+-- The laws of the definitions, each in the module of the definition that it is about.
+pub mod Record
+pub mod Fields
+pub mod Spare
+pub mod Claims

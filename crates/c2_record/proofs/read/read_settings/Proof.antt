@@ -1,0 +1,43 @@
+-- `c2_record::read::read_settings` meets its contract: each return by the tests on its way and what the calls give.
+use borrow.Author.Needs.{needs}
+use Rattle.c2_record.specs.Record.{settings-read}
+use Rattle.c2_record.proofs.read.read_settings.Statement.{statement}
+use Rattle.c2_record.proofs.read.read_settings.Tie as tie
+
+shared-slice-read-t3 : tie.Need-shared-slice-read-t3
+shared-slice-read-t3 c = search needs
+
+shared-slice-read-t5 : tie.Need-shared-slice-read-t5
+shared-slice-read-t5 c = search needs
+
+shared-slice-read-pair32 : tie.Need-shared-slice-read-pair32
+shared-slice-read-pair32 c = search needs
+
+shared-slice-read-pair32-2 : tie.Need-shared-slice-read-pair32-2
+shared-slice-read-pair32-2 c = search needs
+
+pair32-requires : tie.Need-pair32-requires
+pair32-requires c κs = search needs
+
+shared-slice-read-wide32 : tie.Need-shared-slice-read-wide32
+shared-slice-read-wide32 c = search needs
+
+wide32-requires : tie.Need-wide32-requires
+wide32-requires c κs = search needs
+
+returns : tie.Need-returns
+unfolding settings-read
+returns c = rw (c .wide32 .ensures, c .before .before .pair32 .ensures)
+
+pub read-settings-spec : {M : Type 1} → statement M
+read-settings-spec =
+    tie.close
+    (tie.spec
+    shared-slice-read-t3
+    shared-slice-read-t5
+    shared-slice-read-pair32
+    shared-slice-read-pair32-2
+    pair32-requires
+    shared-slice-read-wide32
+    wide32-requires
+    returns)

@@ -1,0 +1,41 @@
+-- `c2_record::spare::unused` meets its contract: each return by the tests on its way and what the calls give.
+use borrow.Author.Needs.{needs}
+use Rattle.laws.proofs.Pick.{picks}
+use Rattle.c2_record.specs.Code.Spare.{unused}
+use Rattle.c2_record.proofs.spare.unused.Statement.{statement}
+use Rattle.c2_record.proofs.spare.unused.Tie as tie
+
+shared-slice-read-if1 : tie.Need-shared-slice-read-if1
+shared-slice-read-if1 c = search needs
+
+shared-slice-read-pair32 : tie.Need-shared-slice-read-pair32
+shared-slice-read-pair32 c = search needs
+
+shared-slice-read-pair32-2 : tie.Need-shared-slice-read-pair32-2
+shared-slice-read-pair32-2 c = search needs
+
+pair32-requires : tie.Need-pair32-requires
+pair32-requires c κs = search needs
+
+returns : tie.Need-returns
+unfolding unused
+returns c = rw (c .pair32 .ensures) (search (needs, picks))
+
+zeros-requires : tie.Need-zeros-requires
+zeros-requires c κs = search needs
+
+returns-2 : tie.Need-returns-2
+unfolding unused
+returns-2 c = search (needs, picks)
+
+pub unused-spec : {M : Type 1} → statement M
+unused-spec =
+    tie.close
+    (tie.spec
+    shared-slice-read-if1
+    shared-slice-read-pair32
+    shared-slice-read-pair32-2
+    pair32-requires
+    returns
+    zeros-requires
+    returns-2)

@@ -1,0 +1,89 @@
+-- `c2_record::spare::zeros` meets its contract: each return by the tests on its way and what the calls give.
+use borrow.Author.Needs.{needs}
+use Rattle.laws.proofs.Pick.{picks}
+use Rattle.c2_record.specs.Code.Spare.{zeros}
+use Rattle.c2_record.proofs.spare.zeros.Statement.{statement}
+use Rattle.c2_record.proofs.spare.zeros.Tie as tie
+
+shared-slice-read-four : tie.Need-shared-slice-read-four
+shared-slice-read-four c = search needs
+
+add-four : tie.Need-add-four
+add-four c = search needs
+
+shared-slice-read-four-2 : tie.Need-shared-slice-read-four-2
+shared-slice-read-four-2 c = search needs
+
+add-four-2 : tie.Need-add-four-2
+add-four-2 c = search needs
+
+shared-slice-read-four-3 : tie.Need-shared-slice-read-four-3
+shared-slice-read-four-3 c = search needs
+
+add-four-3 : tie.Need-add-four-3
+add-four-3 c = search needs
+
+shared-slice-read-four-4 : tie.Need-shared-slice-read-four-4
+shared-slice-read-four-4 c = search needs
+
+four-requires : tie.Need-four-requires
+four-requires c κs = search needs
+
+add-four-4 : tie.Need-add-four-4
+add-four-4 c = search needs
+
+shared-slice-read-four-5 : tie.Need-shared-slice-read-four-5
+shared-slice-read-four-5 c = search needs
+
+add-four-5 : tie.Need-add-four-5
+add-four-5 c = search needs
+
+shared-slice-read-four-6 : tie.Need-shared-slice-read-four-6
+shared-slice-read-four-6 c = search needs
+
+add-four-6 : tie.Need-add-four-6
+add-four-6 c = search needs
+
+shared-slice-read-four-7 : tie.Need-shared-slice-read-four-7
+shared-slice-read-four-7 c = search needs
+
+add-four-7 : tie.Need-add-four-7
+add-four-7 c = search needs
+
+shared-slice-read-four-8 : tie.Need-shared-slice-read-four-8
+shared-slice-read-four-8 c = search needs
+
+four-requires-2 : tie.Need-four-requires-2
+four-requires-2 c κs = search needs
+
+returns : tie.Need-returns
+unfolding zeros
+returns c = rw (c .four2 .ensures) (search (needs, picks))
+
+returns-2 : tie.Need-returns-2
+unfolding zeros
+returns-2 c = search (needs, picks)
+
+pub zeros-spec : {M : Type 1} → statement M
+zeros-spec =
+    tie.close
+    (tie.spec
+    shared-slice-read-four
+    add-four
+    shared-slice-read-four-2
+    add-four-2
+    shared-slice-read-four-3
+    add-four-3
+    shared-slice-read-four-4
+    four-requires
+    add-four-4
+    shared-slice-read-four-5
+    add-four-5
+    shared-slice-read-four-6
+    add-four-6
+    shared-slice-read-four-7
+    add-four-7
+    shared-slice-read-four-8
+    four-requires-2
+    returns
+    returns-2)

@@ -1,0 +1,115 @@
+-- The record of a session, byte by byte (docs/RECORD.md), and the session of a record (document 01, "What the driver keeps over sleep").
+use mathlib.Core.Bool.{Bool, true, false, cond, _&&_}
+use mathlib.Core.List.{List, [], _∷_}
+use Prim.Native.Nat.{ℕ, _+_, _*_, _/_, _%_}
+use lib.Dec.{eqb}
+use lib.ListN.{getD}
+use Rattle.settings.specs.declared.Settings.{Settings}
+use Rattle.c2_acts.specs.declared.Stage.{Stage}
+use Rattle.c2_acts.specs.declared.Stage.the-variants.{Lead, Erase, Write, Read, Close}
+use Rattle.c2_session.specs.declared.Point.{Point}
+use Rattle.c2_session.specs.declared.Point.the-variants.{Running, Ended}
+use Rattle.c2_session.specs.declared.Session.{Session}
+use Rattle.c2_range.specs.Range.{in-range}
+use Rattle.c2_record.specs.declared.Fields.{Fields}
+use Rattle.c2_record.specs.declared.Named.{Named}
+use Rattle.c2_record.specs.declared.Named.the-variants.{Of, Nothing}
+use Rattle.c2_record.specs.declared.Reached.{Reached}
+use Rattle.c2_record.specs.declared.Reached.the-variants.{At, Nowhere}
+use Rattle.c2_record.specs.declared.Unpacked.{Unpacked}
+use Rattle.c2_record.specs.declared.Unpacked.the-variants.{Held, Refused}
+
+-- the byte of a stage
+abbrev pub stage-code : Stage → ℕ
+stage-code Lead = 0
+stage-code Erase = 1
+stage-code Write = 2
+stage-code Read = 3
+stage-code Close = 4
+
+-- the fields of a point; those not in use are 0
+abbrev pub fields-of : Point → Fields
+fields-of (Running g i j k q c v) =
+    record { number = 0; offset = 0; stage = stage-code g; page = i; block = j; act = k; strobe = q; count = c; bits = v }
+fields-of (Ended n o) =
+    record { number = n; offset = o; stage = 0; page = 0; block = 0; act = 0; strobe = 0; count = 0; bits = 0 }
+
+-- a field of one byte; one of two bytes has its low byte first
+abbrev pub low : ℕ → ℕ
+low x = x % 256
+
+abbrev pub high : ℕ → ℕ
+high x = x / 256 % 256
+
+-- the 32 bytes: 0 to 6 settings and pages, 7 to 9 the outcome, 10 to 17 the point, and 18 to 31, which are 0
+unfoldable pub laid : Settings → (first pages : ℕ) → Fields → List ℕ
+laid t first pages f =
+    low (t .id) ∷ low (t .fpdat) ∷ low (t .size) ∷ high (t .size) ∷ low (t .count) ∷ low first ∷ low pages ∷
+    low (f .number) ∷ low (f .offset) ∷ high (f .offset) ∷
+    low (f .stage) ∷ low (f .page) ∷ low (f .block) ∷ low (f .act) ∷ high (f .act) ∷ low (f .strobe) ∷ low (f .count) ∷ low (f .bits) ∷
+    0 ∷ 0 ∷ 0 ∷ 0 ∷ 0 ∷ 0 ∷ 0 ∷ 0 ∷ 0 ∷ 0 ∷ 0 ∷ 0 ∷ 0 ∷ 0 ∷ []
+
+-- the record of a session
+unfoldable pub packed : Session → List ℕ
+packed s = laid (s .settings) (s .first) (s .pages) (fields-of (s .point))
+
+-- What the fields of any bytes say: a byte, two bytes,
+abbrev pub byte : List ℕ → ℕ → ℕ
+byte r i = getD r i 0
+
+abbrev pub pair : List ℕ → ℕ → ℕ
+pair r i = getD r i 0 + getD r (i + 1) 0 * 256
+
+-- settings,
+unfoldable pub settings-read : List ℕ → Settings
+settings-read r = record { id = byte r 0; fpdat = byte r 1; size = pair r 2; count = byte r 4 }
+
+-- the fields of the point,
+unfoldable pub fields-read : List ℕ → Fields
+fields-read r =
+    record {
+      number = byte r 7;
+      offset = pair r 8;
+      stage = byte r 10;
+      page = byte r 11;
+      block = byte r 12;
+      act = pair r 13;
+      strobe = byte r 15;
+      count = byte r 16;
+      bits = byte r 17;
+    }
+
+-- and of these the stage and the point, if there is one.
+unfoldable pub stage-named : ℕ → Named
+stage-named n =
+    cond (eqb n 0) (Of Lead)
+    (cond (eqb n 1) (Of Erase) (cond (eqb n 2) (Of Write) (cond (eqb n 3) (Of Read) (cond (eqb n 4) (Of Close) Nothing))))
+
+abbrev pub running-at : Named → Fields → Reached
+running-at (Of g) f = At (Running g (f .page) (f .block) (f .act) (f .strobe) (f .count) (f .bits))
+running-at Nothing f = Nowhere
+
+unfoldable pub point-of : Fields → Reached
+point-of f = cond (eqb (f .number) 0) (running-at (stage-named (f .stage)) f) (At (Ended (f .number) (f .offset)))
+
+-- The session that the bytes say with this point.
+abbrev pub session-read : List ℕ → Point → Session
+session-read r p = record { settings = settings-read r; first = byte r 5; pages = byte r 6; point = p }
+
+unfoldable pub same : List ℕ → List ℕ → Bool
+same [] [] = true
+same [] (y ∷ ys) = false
+same (x ∷ xs) [] = false
+same (x ∷ xs) (y ∷ ys) = eqb x y && same xs ys
+
+-- a session that is in range and whose record these bytes are
+unfoldable pub checked : (wait-limit poll-limit : ℕ) → Session → List ℕ → Unpacked
+checked w l s r = cond (in-range w l s) (cond (same (packed s) r) (Held s) Refused) Refused
+
+abbrev pub taken-apart : (wait-limit poll-limit : ℕ) → Reached → List ℕ → Unpacked
+taken-apart w l (At p) r = checked w l (session-read r p) r
+taken-apart w l Nowhere r = Refused
+
+-- The session that a record holds. `Claims` says of which records it is one: 32 bytes that are the packing of a session in range.
+unfoldable pub unpacked : (wait-limit poll-limit : ℕ) → List ℕ → Unpacked
+unpacked w l r = taken-apart w l (point-of (fields-read r)) r

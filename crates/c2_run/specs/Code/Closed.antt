@@ -1,0 +1,29 @@
+-- For the code: a session and a target, step by step, for a budget of replies. Nothing here needs to be believed: `Running` in proofs/ has the law
+-- that this is the exchange of the order played against the target.
+use mathlib.Core.Bool.{cond}
+use mathlib.Core.List.{List}
+use Prim.Native.Nat.{ℕ, zero, suc, _+_, _%_}
+use Rattle.settings.specs.declared.Settings.{Settings}
+use Rattle.c2_session.specs.declared.Session.{Session}
+use Rattle.c2_session.specs.Code.Machine.{advanced, step-of}
+use Rattle.c2_outcome.specs.Outcome.{is-running}
+use Rattle.c2_target.specs.declared.Target.{Target}
+use Rattle.c2_target.specs.Delays.{setup}
+use Rattle.c2_target.specs.Target.{answer, flash-after}
+
+pub record Closed : Type 0 where
+  pub session : Session
+  pub target : Target
+  pub flash : List ℕ
+  pub replies : ℕ
+
+abbrev pub stopped : (replies : ℕ) → Session → Target → (flash : List ℕ) → Closed
+stopped i s y f = record { session = s; target = y; flash = f; replies = i }
+
+unfoldable pub closed : (left made : ℕ) → Settings → (delays image : List ℕ) → Session → Target → (flash : List ℕ) → Closed
+closed zero i t ds image s y f = stopped i s y f
+closed (suc n) i t ds image s y f =
+    cond (is-running (s .point))
+    (closed n (i + 1) t ds image (advanced 20 256 s (answer (setup t ds) y f (step-of s image) .reply % 256) image)
+    (answer (setup t ds) y f (step-of s image) .target) (flash-after (setup t ds) y f (step-of s image)))
+    (stopped i s y f)

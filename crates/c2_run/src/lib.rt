@@ -1,0 +1,22 @@
+// A session run against a fresh target, over lent buffers.
+use c2_session::Session;
+use c2_target::Target;
+
+mod same;
+mod play;
+mod program;
+
+// The session's number and the image offset for 14, the replies that it took, and whether the target has marked a collision.
+#[repr(C)]
+pub struct Run {
+    pub number: u32,
+    pub offset: u32,
+    pub replies: usize,
+    pub collision: bool,
+}
+
+struct Ran {
+    session: Session,
+    target: Target,
+    replies: usize,
+}

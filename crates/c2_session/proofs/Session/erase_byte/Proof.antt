@@ -1,0 +1,28 @@
+-- `c2_session::Session::erase_byte` meets its contract: each return by the tests on its way and what the calls give.
+use borrow.Author.Needs.{needs}
+use Rattle.laws.proofs.Pick.{picks}
+use Rattle.c2_session.specs.Code.Sent.{erase-byte}
+use Rattle.c2_session.proofs.Session.erase_byte.Statement.{statement}
+use Rattle.c2_session.proofs.Session.erase_byte.Tie as tie
+
+returns : tie.Need-returns
+unfolding erase-byte
+returns c = search (needs, picks)
+
+returns-2 : tie.Need-returns-2
+unfolding erase-byte
+returns-2 c = search (needs, picks)
+
+page-number-requires : tie.Need-page-number-requires
+page-number-requires c κs = search needs
+
+returns-3 : tie.Need-returns-3
+unfolding erase-byte
+returns-3 c = search (needs, picks)
+
+returns-4 : tie.Need-returns-4
+unfolding erase-byte
+returns-4 c = search (needs, picks)
+
+pub erase-byte-spec : {M : Type 1} → statement M
+erase-byte-spec = tie.close (tie.spec returns returns-2 page-number-requires returns-3 returns-4)

@@ -1,0 +1,45 @@
+-- `c2_session::Session::next_write` meets its contract: each return by the tests on its way and what the calls give.
+use borrow.Author.Needs.{needs}
+use Rattle.laws.proofs.Pick.{picks}
+use Rattle.c2_session.specs.Code.Machine.{next-write}
+use Rattle.c2_session.proofs.Session.next_write.Statement.{statement}
+use Rattle.c2_session.proofs.Session.next_write.Tie as tie
+
+cast-if1 : tie.Need-cast-if1
+cast-if1 c = search needs
+
+add-if1 : tie.Need-add-if1
+add-if1 c = search needs
+
+cast-if1-2 : tie.Need-cast-if1-2
+cast-if1-2 c = search needs
+
+add-begins : tie.Need-add-begins
+add-begins c = search needs
+
+begins-requires : tie.Need-begins-requires
+begins-requires c κs = search needs
+
+returns : tie.Need-returns
+unfolding next-write
+returns c = search (needs, picks)
+
+begins-requires-2 : tie.Need-begins-requires-2
+begins-requires-2 c κs = search needs
+
+returns-2 : tie.Need-returns-2
+unfolding next-write
+returns-2 c = search (needs, picks)
+
+pub next-write-spec : {M : Type 1} → statement M
+next-write-spec =
+    tie.close
+    (tie.spec
+    cast-if1
+    add-if1
+    cast-if1-2
+    add-begins
+    begins-requires
+    returns
+    begins-requires-2
+    returns-2)

@@ -1,0 +1,16 @@
+-- `c2_session::Session::step_by` meets its contract: each return by the tests on its way and what the calls give.
+use borrow.Author.Needs.{needs}
+use Rattle.laws.proofs.Pick.{picks}
+use Rattle.c2_session.specs.Code.Machine.{step-by}
+use Rattle.c2_session.proofs.Session.step_by.Statement.{statement}
+use Rattle.c2_session.proofs.Session.step_by.Tie as tie
+
+point-step-by-requires : tie.Need-point-step-by-requires
+point-step-by-requires c κs = search needs
+
+returns : tie.Need-returns
+unfolding step-by
+returns c = search (needs, picks)
+
+pub step-by-spec : {M : Type 1} → statement M
+step-by-spec = tie.close (tie.spec point-step-by-requires returns)

@@ -1,0 +1,62 @@
+-- The byte that an act sends or compares, by arithmetic. `Standing` of the crate position has the law that these are the bytes of the session's
+-- order, so that they need no belief; `image-byte` says besides which bytes a shorter image lacks (number 15).
+use mathlib.Core.Bool.{cond}
+use mathlib.Core.List.{List}
+use Prim.Native.Nat.{ℕ, _+_, _-_, _*_, _/_, _%_}
+use lib.Dec.{eqb, ltb}
+use lib.ListN.{length, getD}
+use Rattle.settings.specs.declared.Settings.{Settings}
+use Rattle.c2_acts.specs.declared.Stage.{Stage}
+use Rattle.c2_acts.specs.declared.Stage.the-variants.{Lead, Erase, Write, Read, Close}
+use Rattle.c2_session.specs.declared.At.{At}
+use Rattle.c2_session.specs.declared.Session.{Session}
+use Rattle.c2_session.specs.declared.Wanted.{Wanted}
+use Rattle.c2_session.specs.declared.Wanted.the-variants.{Byte, Missing}
+
+-- the image offset of the block at a point
+abbrev pub block-offset : Settings → At → ℕ
+block-offset t at = at .page * t .size + at .block * 256
+
+-- and the high byte of its address in the flash; the low byte is 0
+abbrev pub high-byte : Session → At → ℕ
+high-byte s at = (s .first * s .settings .size + block-offset (s .settings) at) / 256 % 256
+
+unfoldable pub lead-byte : ℕ → ℕ
+lead-byte act = cond (eqb act 3) 2 (cond (eqb act 4) 2 (cond (eqb act 5) 4 1))
+
+unfoldable pub erase-byte : Session → At → ℕ
+erase-byte s at =
+    cond (eqb (at .act) 0) (s .settings .fpdat)
+    (cond (eqb (at .act) 1) 8 (cond (eqb (at .act) 5) ((s .first + at .page) % 256) 0))
+
+unfoldable pub block-byte : Session → At → (command : ℕ) → ℕ
+block-byte s at command =
+    cond (eqb (at .act) 0) (s .settings .fpdat)
+    (cond (eqb (at .act) 1) command (cond (eqb (at .act) 5) (high-byte s at) 0))
+
+-- a byte of the image, if it has one there
+unfoldable pub image-byte : List ℕ → ℕ → Wanted
+image-byte image i = cond (ltb i (length image)) (Byte (getD image i 0)) Missing
+
+-- the image offset of the byte that a block write's act sends, and of the one that a block read's act compares
+unfoldable pub sent-offset : Session → At → ℕ
+sent-offset s at = block-offset (s .settings) at + (at .act - 11) / 2
+
+unfoldable pub compared-offset : Session → At → ℕ
+compared-offset s at = block-offset (s .settings) at + (at .act - 14) / 2
+
+unfoldable pub write-byte : Session → At → List ℕ → Wanted
+write-byte s at image = cond (ltb (at .act) 11) (Byte (block-byte s at 7)) (image-byte image (sent-offset s at))
+
+-- the byte that an act sends
+abbrev pub stage-byte : Stage → Session → At → List ℕ → Wanted
+stage-byte Lead s at image = Byte (lead-byte (at .act))
+stage-byte Erase s at image = Byte (erase-byte s at)
+stage-byte Write s at image = write-byte s at image
+stage-byte Read s at image = Byte (block-byte s at 6)
+stage-byte Close s at image = Byte 0
+
+-- 0 where there is none
+abbrev pub byte-of : Wanted → ℕ
+byte-of (Byte b) = b
+byte-of Missing = 0

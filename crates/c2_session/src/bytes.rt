@@ -1,0 +1,150 @@
+// The byte that an act of the session sends or compares.
+ghost use mathlib.Core.Path.{_≡_};
+ghost use Prim.Native.Nat.{_+_, _*_, _%_, _<_};
+ghost use Rattle.c2_session.specs.Code.Sent.{block-offset, high-byte, lead-byte, erase-byte, block-byte, image-byte, sent-offset, compared-offset, write-byte, stage-byte, byte-of};
+ghost use Rattle.c2_session.specs.Code.Machine.{at};
+use c2_acts::Stage;
+use crate::At;
+use crate::Session;
+use crate::Wanted;
+use settings::Settings;
+
+// The image offset of a page.
+fn page_offset(page: u16, size: u32) -> usize
+    ensures { λ r. ⌜ r ≡ page * size ⌝ }
+    ensures { λ r. ⌜ r < 281474976710656 ⌝ }
+{
+    (page as usize) * (size as usize)
+}
+
+fn block_offset(t: Settings, at: At) -> usize
+    ensures { λ r. ⌜ r ≡ block-offset t at ⌝ }
+    ensures { λ r. ⌜ r < 282574488338432 ⌝ }
+{
+    page_offset(at.page, t.size) + (at.block as usize) * 256
+}
+
+fn lead_byte(act: u16) -> u8
+    ensures { λ r. ⌜ r ≡ lead-byte act ⌝ }
+{
+    if act == 3 {
+        return 2;
+    }
+    if act == 4 {
+        return 2;
+    }
+    if act == 5 {
+        return 4;
+    }
+    1
+}
+
+pub(crate) fn image_byte(image: &[u8], i: usize) -> Wanted
+    ensures { λ r. ⌜ r ≡ image-byte (now (image .entry)) i ⌝ }
+{
+    if i < image.len() {
+        return Wanted::Byte(image[i]);
+    }
+    Wanted::Missing
+}
+
+pub(crate) fn byte_of(wanted: Wanted) -> u8
+    ensures { λ r. ⌜ r ≡ byte-of wanted ⌝ }
+{
+    match wanted {
+        Wanted::Byte(b) => b,
+        Wanted::Missing => 0,
+    }
+}
+
+impl Session {
+    fn page_number(self, page: u16) -> u8
+        ensures { λ r. ⌜ r ≡ (self .first + page) % 256 ⌝ }
+    {
+        (((self.first as usize) + (page as usize)) % 256) as u8
+    }
+
+    // The high byte of the block's address in the flash.
+    fn high_byte(self, at: At) -> u8
+        ensures { λ r. ⌜ r ≡ high-byte self at ⌝ }
+    {
+        let settings = self.settings;
+        let first = page_offset(self.first, settings.size);
+        ((first + block_offset(settings, at)) / 256 % 256) as u8
+    }
+
+    fn erase_byte(self, at: At) -> u8
+        ensures { λ r. ⌜ r ≡ erase-byte self at ⌝ }
+    {
+        let settings = self.settings;
+        if at.act == 0 {
+            return settings.fpdat;
+        }
+        if at.act == 1 {
+            return 8;
+        }
+        if at.act == 5 {
+            return self.page_number(at.page);
+        }
+        0
+    }
+
+    // A byte of a block's command that is not the image's. The low byte of the address and the length code are 0.
+    fn block_byte(self, at: At, command: u8) -> u8
+        ensures { λ r. ⌜ r ≡ block-byte self at command ⌝ }
+    {
+        let settings = self.settings;
+        if at.act == 0 {
+            return settings.fpdat;
+        }
+        if at.act == 1 {
+            return command;
+        }
+        if at.act == 5 {
+            return self.high_byte(at);
+        }
+        0
+    }
+
+    pub(crate) fn sent_offset(self, at: At) -> usize
+        ensures { λ r. ⌜ r ≡ sent-offset self at ⌝ }
+    {
+        let settings = self.settings;
+        if at.act < 11 {
+            return block_offset(settings, at);
+        }
+        block_offset(settings, at) + ((at.act - 11) as usize) / 2
+    }
+
+    pub(crate) fn compared_offset(self, at: At) -> usize
+        ensures { λ r. ⌜ r ≡ compared-offset self at ⌝ }
+    {
+        let settings = self.settings;
+        if at.act < 14 {
+            return block_offset(settings, at);
+        }
+        block_offset(settings, at) + ((at.act - 14) as usize) / 2
+    }
+
+    fn write_byte(self, at: At, image: &[u8]) -> Wanted
+        ensures { λ r. ⌜ r ≡ write-byte self at (now (image .entry)) ⌝ }
+    {
+        if at.act < 11 {
+            return Wanted::Byte(self.block_byte(at, 7));
+        }
+        image_byte(image, self.sent_offset(at))
+    }
+
+    // The byte that an act sends.
+    pub(crate) fn stage_byte(self, stage: Stage, at: At, image: &[u8]) -> Wanted
+        ensures { λ r. ⌜ r ≡ stage-byte stage self at (now (image .entry)) ⌝ }
+    {
+        match stage {
+            Stage::Lead => Wanted::Byte(lead_byte(at.act)),
+            Stage::Erase => Wanted::Byte(self.erase_byte(at)),
+            Stage::Write => self.write_byte(at, image),
+            Stage::Read => Wanted::Byte(self.block_byte(at, 6)),
+            Stage::Close => Wanted::Byte(0),
+        }
+    }
+}

@@ -1,0 +1,178 @@
+// What a reply makes of an act whose frame goes on, or is over: polls, status, ID and compare.
+ghost use mathlib.Core.Path.{_≡_};
+ghost use mathlib.Core.Bool.{cond};
+ghost use Rattle.c2_session.specs.Code.Sent.{image-byte, sent-offset};
+ghost use Rattle.c2_session.specs.Code.Machine.{at, running, ended, onward, again, differs, compared, compares, judged, sends-image, drives-image, wants, stays, settled};
+use c2_acts::Stage;
+use c2_acts::Task;
+use c2_wire::Moved;
+use c2_wire::Place;
+use crate::At;
+use crate::Point;
+use crate::Session;
+use crate::Wanted;
+use crate::bytes::image_byte;
+use crate::next::ended;
+use crate::next::running;
+use numbers::BAD_STATUS;
+use numbers::COMPARE_DIFFERS;
+use numbers::NO_IMAGE_BYTE;
+use numbers::OTHER_DEVICE;
+use numbers::POLL_LIMIT_REACHED;
+use numbers::WAIT_LIMIT_REACHED;
+
+// An unsatisfied read of a poll: the one that reaches the limit refuses.
+fn again(limit: usize, at: At, reads: usize) -> Point
+    ensures { λ r. ⌜ r ≡ again limit at reads ⌝ }
+{
+    if limit <= reads {
+        return ended(POLL_LIMIT_REACHED);
+    }
+    if limit <= reads + 1 {
+        return ended(POLL_LIMIT_REACHED);
+    }
+    running(
+        at,
+        Place {
+            strobe: 0,
+            count: reads + 1,
+            bits: 0,
+        },
+    )
+}
+
+// Whether an act of a block write sends a byte of the image.
+fn sends_image(act: u16) -> bool
+    ensures { λ r. ⌜ r ≡ sends-image act ⌝ }
+{
+    if act < 11 {
+        return false;
+    }
+    if act < 523 {
+        return act % 2 == 1;
+    }
+    false
+}
+
+// Whether a strobe of such an act drives a bit of the byte.
+fn drives_image(at: At, place: Place) -> bool
+    ensures { λ r. ⌜ r ≡ drives-image at place ⌝ }
+{
+    if place.strobe < 5 {
+        return false;
+    }
+    if place.strobe < 13 {
+        return sends_image(at.act);
+    }
+    false
+}
+
+fn wants(wanted: Wanted, at: At, place: Place) -> Point
+    ensures { λ r. ⌜ r ≡ wants wanted at place ⌝ }
+{
+    match wanted {
+        Wanted::Byte(_) => running(at, place),
+        Wanted::Missing => ended(NO_IMAGE_BYTE),
+    }
+}
+
+impl Session {
+    fn differs(self, at: At) -> Point
+        ensures { λ r. ⌜ r ≡ differs self at ⌝ }
+    {
+        Point::Ended {
+            number: COMPARE_DIFFERS,
+            offset: (self.compared_offset(at) % 4294967296) as u32,
+        }
+    }
+
+    // A byte read back, beside the image's.
+    fn compares(self, wanted: Wanted, at: At, byte: usize) -> Point
+        ensures { λ r. ⌜ r ≡ compares wanted self at byte ⌝ }
+    {
+        match wanted {
+            Wanted::Byte(b) => self.compared(b, at, byte),
+            Wanted::Missing => ended(NO_IMAGE_BYTE),
+        }
+    }
+
+    fn compared(self, wanted: u8, at: At, byte: usize) -> Point
+        ensures { λ r. ⌜ r ≡ compared wanted self at byte ⌝ }
+    {
+        if byte == (wanted as usize) {
+            return self.onward(at);
+        }
+        self.differs(at)
+    }
+
+    fn expects(self, passes: bool, number: u32, at: At) -> Point
+        ensures { λ r. ⌜ r ≡ cond passes (onward self at) (ended number) ⌝ }
+    {
+        if passes {
+            return self.onward(at);
+        }
+        ended(number)
+    }
+
+    fn polled(self, passes: bool, at: At, reads: usize) -> Point
+        ensures { λ r. ⌜ r ≡ cond passes (onward self at) (again 256 at reads) ⌝ }
+    {
+        if passes {
+            return self.onward(at);
+        }
+        again(Session::POLL_LIMIT, at, reads)
+    }
+
+    // The reply to a frame's STOP; the frame has given this byte.
+    fn judged(self, task: Task, at: At, reads: usize, byte: usize, image: &[u8]) -> Point
+        ensures { λ r. ⌜ r ≡ judged 256 task self at reads byte (now (image .entry)) ⌝ }
+    {
+        let settings = self.settings;
+        match task {
+            Task::Input => self.polled(byte / 2 % 2 == 0, at, reads),
+            Task::Output => self.polled(byte % 2 == 1, at, reads),
+            Task::Status => self.expects(byte == 0x0d, BAD_STATUS, at),
+            Task::Compare => {
+                self.compares(image_byte(image, self.compared_offset(at)), at, byte)
+            }
+            Task::Ident => self.expects(byte == (settings.id as usize), OTHER_DEVICE, at),
+            Task::Reset => self.onward(at),
+            Task::Pause => self.onward(at),
+            Task::Address => self.onward(at),
+            Task::Send => self.onward(at),
+        }
+    }
+
+    // Another strobe of the same frame. In a block write the image must have the byte of which the strobe drives a bit.
+    fn writes_on(self, at: At, place: Place, image: &[u8]) -> Point
+        ensures { λ r. ⌜ r ≡ cond (drives-image at place) (wants (image-byte (now (image .entry)) (sent-offset self at)) at place) (running at place) ⌝ }
+    {
+        if drives_image(at, place) {
+            return wants(image_byte(image, self.sent_offset(at)), at, place);
+        }
+        running(at, place)
+    }
+
+    fn stays(self, stage: Stage, at: At, place: Place, image: &[u8]) -> Point
+        ensures { λ r. ⌜ r ≡ stays stage self at place (now (image .entry)) ⌝ }
+    {
+        match stage {
+            Stage::Write => self.writes_on(at, place, image),
+            Stage::Lead => running(at, place),
+            Stage::Erase => running(at, place),
+            Stage::Read => running(at, place),
+            Stage::Close => running(at, place),
+        }
+    }
+
+    pub(crate) fn settled(self, moved: Moved, task: Task, at: At, reads: usize, image: &[u8]) -> Point
+        ensures { λ r. ⌜ r ≡ settled 256 moved task self at reads (now (image .entry)) ⌝ }
+    {
+        let stage = at.stage;
+        match moved {
+            Moved::Within(place) => self.stays(stage, at, place, image),
+            Moved::Stopped(byte) => self.judged(task, at, reads, byte, image),
+            Moved::WaitLimit => ended(WAIT_LIMIT_REACHED),
+        }
+    }
+}

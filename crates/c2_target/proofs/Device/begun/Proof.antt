@@ -1,0 +1,16 @@
+-- `c2_target::Device::begun` meets its contract: each return by the tests on its way and what the calls give.
+use borrow.Author.Tests.{eq-eqb, ne-eqb}
+use Rattle.c2_target.specs.Interface.{begun}
+use Rattle.c2_target.proofs.Device.begun.Statement.{statement}
+use Rattle.c2_target.proofs.Device.begun.Tie as tie
+
+returns : tie.Need-returns
+unfolding begun
+returns c = rw (eq-eqb _ _ (c .if1 .taken))
+
+returns-2 : tie.Need-returns-2
+unfolding begun
+returns-2 c = rw (ne-eqb _ _ (c .if1 .left))
+
+pub begun-spec : {M : Type 1} → statement M
+begun-spec = tie.close (tie.spec returns returns-2)

@@ -1,0 +1,19 @@
+-- `c2_target::Device::linked` meets its contract: each return by the tests on its way and what the calls give.
+use borrow.Author.Needs.{needs}
+use Rattle.c2_target.specs.Interface.{linked}
+use Rattle.c2_target.proofs.Device.linked.Statement.{statement}
+use Rattle.c2_target.proofs.Device.linked.Tie as tie
+
+cast-result : tie.Need-cast-result
+cast-result c = search needs
+
+returns : tie.Need-returns
+unfolding linked
+returns c = rw (c .before .before .if1 .taken)
+
+returns-2 : tie.Need-returns-2
+unfolding linked
+returns-2 c = rw (c .if1 .left)
+
+pub linked-spec : {M : Type 1} → statement M
+linked-spec = tie.close (tie.spec cast-result returns returns-2)

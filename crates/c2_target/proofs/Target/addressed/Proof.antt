@@ -1,0 +1,15 @@
+-- `c2_target::Target::addressed` meets its contract: each return by the tests on its way and what the calls give.
+use borrow.Author.Needs.{needs}
+use Rattle.c2_target.specs.Interface.{does}
+use Rattle.c2_target.proofs.Target.addressed.Statement.{statement}
+use Rattle.c2_target.proofs.Target.addressed.Tie as tie
+
+idle-requires : tie.Need-idle-requires
+idle-requires c κs = search needs
+
+returns : tie.Need-returns
+unfolding does
+returns c = λ t. rw (c .idle .ensures)
+
+pub addressed-spec : {M : Type 1} → statement M
+addressed-spec = tie.close (tie.spec idle-requires returns)

@@ -1,0 +1,13 @@
+-- `c2_target::Target::hears` meets its contract: each return by the tests on its way and what the calls give.
+use borrow.Author.Needs.{needs}
+use Rattle.c2_target.proofs.Target.hears.Statement.{statement}
+use Rattle.c2_target.proofs.Target.hears.Tie as tie
+
+line-requires : tie.Need-line-requires
+line-requires c κs = search needs
+
+returns : tie.Need-returns
+returns c = rw (c .line .ensures)
+
+pub hears-spec : {M : Type 1} → statement M
+hears-spec = tie.close (tie.spec line-requires returns)

@@ -1,0 +1,13 @@
+-- `c2_target::Target::shows` meets its contract: each return by the tests on its way and what the calls give.
+use borrow.Author.Needs.{needs}
+use Rattle.c2_target.proofs.Target.shows.Statement.{statement}
+use Rattle.c2_target.proofs.Target.shows.Tie as tie
+
+marked-requires : tie.Need-marked-requires
+marked-requires c κs = search needs
+
+returns : tie.Need-returns
+returns c = rw (c .marked .ensures)
+
+pub shows-spec : {M : Type 1} → statement M
+shows-spec = tie.close (tie.spec marked-requires returns)

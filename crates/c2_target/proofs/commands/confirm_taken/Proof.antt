@@ -1,0 +1,16 @@
+-- `c2_target::commands::confirm_taken` meets its contract: each return by the tests on its way and what the calls give.
+use borrow.Author.Tests.{eq-eqb, ne-eqb}
+use Rattle.c2_target.specs.Commands.{takes}
+use Rattle.c2_target.proofs.commands.confirm_taken.Statement.{statement}
+use Rattle.c2_target.proofs.commands.confirm_taken.Tie as tie
+
+returns : tie.Need-returns
+unfolding takes
+returns c = λ t page f. rw (eq-eqb _ _ (c .if1 .taken))
+
+returns-2 : tie.Need-returns-2
+unfolding takes
+returns-2 c = λ t page f. rw (ne-eqb _ _ (c .if1 .left))
+
+pub confirm-taken-spec : {M : Type 1} → statement M
+confirm-taken-spec = tie.close (tie.spec returns returns-2)

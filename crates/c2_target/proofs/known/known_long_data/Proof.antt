@@ -1,0 +1,16 @@
+-- `c2_target::known::known_long_data` meets its contract: each return by the tests on its way and what the calls give.
+use borrow.Author.Tests.{le-leb, lt-leb}
+use Rattle.c2_target.specs.Known.{known-point}
+use Rattle.c2_target.proofs.known.known_long_data.Statement.{statement}
+use Rattle.c2_target.proofs.known.known_long_data.Tie as tie
+
+returns : tie.Need-returns
+unfolding known-point
+returns c = rw (le-leb _ _ (c .if1 .taken))
+
+returns-2 : tie.Need-returns-2
+unfolding known-point
+returns-2 c = rw (lt-leb _ _ (c .if1 .left))
+
+pub known-long-data-spec : {M : Type 1} → statement M
+known-long-data-spec = tie.close (tie.spec returns returns-2)

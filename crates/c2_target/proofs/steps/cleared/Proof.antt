@@ -1,0 +1,12 @@
+-- `c2_target::steps::cleared` meets its contract: each return by the tests on its way and what the calls give.
+use mathlib.Core.Path.{refl}
+use Rattle.c2_target.specs.Target.{cleared}
+use Rattle.c2_target.proofs.steps.cleared.Statement.{statement}
+use Rattle.c2_target.proofs.steps.cleared.Tie as tie
+
+returns : tie.Need-returns
+unfolding cleared
+returns c = refl
+
+pub cleared-spec : {M : Type 1} → statement M
+cleared-spec = tie.close (tie.spec returns)

@@ -1,0 +1,16 @@
+-- `c2_target::steps::is_step` meets its contract: each return by the tests on its way and what the calls give.
+use borrow.Author.Tests.{le-leb, lt-leb}
+use Rattle.c2_target.specs.Target.{is-step}
+use Rattle.c2_target.proofs.steps.is_step.Statement.{statement}
+use Rattle.c2_target.proofs.steps.is_step.Tie as tie
+
+returns : tie.Need-returns
+unfolding is-step
+returns c = rw (le-leb _ _ (c .if1 .taken))
+
+returns-2 : tie.Need-returns-2
+unfolding is-step
+returns-2 c = rw (lt-leb _ _ (c .if1 .left))
+
+pub is-step-spec : {M : Type 1} → statement M
+is-step-spec = tie.close (tie.spec returns returns-2)

@@ -1,0 +1,97 @@
+-- One step of the modelled target (document 01, "The modelled target"): strobes, the reset pulse, the wait of 20 ms, and the refusals.
+use mathlib.Core.Bool.{Bool, true, false, not, cond, _&&_, _||_}
+use mathlib.Core.List.{List}
+use Prim.Native.Nat.{ℕ}
+use lib.Dec.{eqb, leb}
+use Rattle.numbers.specs.Numbers.{no-step, no-point}
+use Rattle.c2_wire.specs.Bits.{bit}
+use Rattle.c2_wire.specs.Step.{Step, released, driven, reset, pause, off}
+use Rattle.settings.specs.Accepted.{settings-refusal}
+use Rattle.c2_target.specs.declared.Command.the-variants.{Ready}
+use Rattle.c2_target.specs.declared.Output.the-variants.{Empty}
+use Rattle.c2_target.specs.declared.Point.{Point}
+use Rattle.c2_target.specs.declared.Point.the-variants.{Start, Ins, WriteLength, ReadLength, Address, Data, LongData, Wait, Waiting, Send, Stop}
+use Rattle.c2_target.specs.declared.Device.{Device}
+use Rattle.c2_target.specs.declared.Target.{Target}
+use Rattle.c2_target.specs.declared.Replied.{Replied}
+use Rattle.c2_target.specs.Delays.{Setup}
+use Rattle.c2_target.specs.Interface.{link, device}
+use Rattle.c2_target.specs.Strobes.{target, Turn, turn, strobed}
+use Rattle.c2_target.specs.Known.{known}
+
+-- address 0, interface off, no command, output, d or e, and no key write since
+unfoldable pub cleared : Device
+cleared = device 0 false 0 (link Ready Empty 0 0)
+
+-- fresh: besides that no frame, no mark, and the first delay
+unfoldable pub fresh : Target
+fresh = target Start 0 false cleared
+
+-- step 4 keeps flash, mark and delay place
+unfoldable pub after-reset : Target → Target
+after-reset t = target Start (t .place) (t .collision) cleared
+
+-- no frame is under way
+unfoldable pub between-frames : Point → Bool
+between-frames Start = true
+between-frames (Ins n v) = false
+between-frames (WriteLength n v) = false
+between-frames (ReadLength n v) = false
+between-frames (Address n v) = false
+between-frames (Data n v) = false
+between-frames (LongData n) = false
+between-frames (Wait n e) = false
+between-frames (Waiting z n e) = false
+between-frames (Send n v e) = false
+between-frames (Stop e) = false
+
+-- step 5 turns the interface on if the last Data Writes were the three key writes and no other frame has begun; elsewhere it changes nothing
+unfoldable pub keyed : Target → Bool
+keyed t = eqb (t .device .keys) 3 && between-frames (t .point)
+
+unfoldable pub after-pause : Target → Target
+after-pause t =
+    let d = t .device in
+    target (t .point) (t .place) (t .collision) (device (d .address) (keyed t || d .on) (d .keys) (d .link))
+
+-- One step; 4, 5 and 6 reply 1, and 6 changes nothing.
+unfoldable pub stepped : Setup → Target → List ℕ → Step → Turn
+stepped u t f released = strobed u t f released
+stepped u t f (driven b) = strobed u t f (driven b)
+stepped u t f reset = turn true (after-reset t) f
+stepped u t f pause = turn true (after-pause t) f
+stepped u t f off = turn true t f
+
+-- The step of a byte: 1 and those above 6 are none.
+unfoldable pub is-step : ℕ → Bool
+is-step x = leb x 6 && not (eqb x 1)
+
+unfoldable pub step-of : ℕ → Step
+step-of x =
+    cond (eqb x 0) released
+    (cond (eqb x 2) (driven false)
+    (cond (eqb x 3) (driven true)
+    (cond (eqb x 4) reset
+    (cond (eqb x 5) pause off))))
+
+-- The number by which a step is refused, or 0: settings by 1 to 3, then 17, then 16.
+unfoldable pub refusal : Setup → Target → List ℕ → (step : ℕ) → ℕ
+refusal u t f x =
+    cond (eqb (settings-refusal (u .settings)) 0)
+    (cond (known u t f) (cond (is-step x) 0 no-step) no-point)
+    (settings-refusal (u .settings))
+
+-- What a step gives back by the number of its refusal, and the flash afterwards. A refused step changes nothing and replies 1.
+abbrev pub answered : (number : ℕ) → Setup → Target → List ℕ → (step : ℕ) → Replied
+answered n u t f x =
+    let r = stepped u t f (step-of x) in
+    cond (eqb n 0) (record { number = 0; reply = bit (r .reply); target = r .target }) (record { number = n; reply = 1; target = t })
+
+abbrev pub flash-left : (number : ℕ) → Setup → Target → List ℕ → (step : ℕ) → List ℕ
+flash-left n u t f x = cond (eqb n 0) (stepped u t f (step-of x) .flash) f
+
+unfoldable pub answer : Setup → Target → List ℕ → (step : ℕ) → Replied
+answer u t f x = answered (refusal u t f x) u t f x
+
+unfoldable pub flash-after : Setup → Target → List ℕ → (step : ℕ) → List ℕ
+flash-after u t f x = flash-left (refusal u t f x) u t f x

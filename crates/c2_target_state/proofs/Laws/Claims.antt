@@ -1,0 +1,26 @@
+-- What `Claims` says of a target's state, proved.
+use mathlib.Core.Path.{refl, sym, _∙_}
+use lib.Dec.{eqb}
+use Rattle.laws.proofs.Tests.{by-test}
+use Rattle.c2_target.specs.Delays.{setup}
+use Rattle.c2_target.specs.Target.{refusal, answer}
+use Rattle.c2_target_state.specs.State.{state-of, target-of}
+use Rattle.c2_target_state.specs.Model.{held-answer, seen-answer, seen-flash}
+use Rattle.c2_target_state.specs.Claims.{Read-back, Has-state, One-state, Steps-alike}
+use Rattle.c2_target_state.proofs.Laws.State.{same-itself, held-says}
+use Rattle.c2_target_state.proofs.Laws.State.Fits.{target-back}
+
+pub read-back : Read-back
+unfolding target-of
+read-back s t f ds r k = rw (target-back s t f ds r k, same-itself (state-of t))
+
+pub has-state : Has-state
+has-state t s h = held-says t s h
+
+pub one-state : One-state
+one-state t a b p q = sym (held-says t a p) ∙ held-says t b q
+
+pub steps-alike : Steps-alike
+unfolding seen-answer seen-flash held-answer answer
+steps-alike s t f ds x r k =
+    rw (read-back s t f ds r k) (by-test (eqb (refusal (setup s ds) t f x) 0) (λ e. rw e) (λ e. rw (e, e)), refl)

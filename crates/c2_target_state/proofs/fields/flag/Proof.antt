@@ -1,0 +1,15 @@
+-- `c2_target_state::fields::flag` meets its contract: each return by the tests on its way and what the calls give.
+use Rattle.c2_wire.specs.Bits.{bit}
+use Rattle.c2_target_state.proofs.fields.flag.Statement.{statement}
+use Rattle.c2_target_state.proofs.fields.flag.Tie as tie
+
+returns : tie.Need-returns
+unfolding bit
+returns c = rw (c .if1 .taken)
+
+returns-2 : tie.Need-returns-2
+unfolding bit
+returns-2 c = rw (c .if1 .left)
+
+pub flag-spec : {M : Type 1} → statement M
+flag-spec = tie.close (tie.spec returns returns-2)

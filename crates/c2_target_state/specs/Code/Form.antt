@@ -1,0 +1,62 @@
+-- For the code, which tells a state that some target has by its numbers: tags exist, truth values are 0 or 1, and numbers that are not in use are
+-- 0. Nothing here needs to be believed: `form-decides` in proofs/ says that this is the test of `target-of`.
+use mathlib.Core.Bool.{Bool, true, false, cond}
+use Prim.Native.Nat.{ℕ, _+_}
+use lib.Dec.{eqb, ltb, leb}
+use Rattle.c2_target_state.specs.declared.State.{State}
+
+-- all of these are 0
+abbrev pub none : (a b c d : ℕ) → Bool
+none a b c d = eqb (a + b + c + d) 0
+
+-- What a frame does at its STOP: only an address and a byte that is written have a number.
+unfoldable pub effect-in-form : (effect byte : ℕ) → Bool
+effect-in-form e b = cond (eqb e 1) true (cond (eqb e 2) true (cond (ltb e 5) (eqb b 0) false))
+
+-- A point past the fields that the target hears, where no bits are heard,
+unfoldable pub later-in-form : (point value left zeros effect byte : ℕ) → Bool
+later-in-form p v n z e b =
+    cond (eqb p 9) (cond (eqb z 0) (effect-in-form e b) false)
+    (cond (eqb p 10) (cond (none v n z 0) (effect-in-form e b) false)
+    (cond (eqb p 7) (cond (none v z 0 0) (effect-in-form e b) false)
+    (cond (eqb p 8) (cond (eqb v 0) (effect-in-form e b) false)
+    (cond (eqb p 6) (none v z e b) false))))
+
+-- and any point.
+unfoldable pub point-in-form : (point heard value left zeros effect byte : ℕ) → Bool
+point-in-form p h v n z e b =
+    cond (ltb p 6) (cond (none n z e b) (cond (eqb p 0) (none h v 0 0) true) false) (cond (eqb h 0) (later-in-form p v n z e b) false)
+
+-- A command before the length code, which has no address and no bytes left,
+unfoldable pub early-in-form : (command write page high : ℕ) → Bool
+early-in-form c w p h =
+    cond (ltb c 2) (none w p h 0)
+    (cond (eqb c 2) (none w h 0 0)
+    (cond (eqb c 3) (cond (none p h 0 0) (ltb w 2) false)
+    (cond (eqb c 4) (cond (eqb p 0) (ltb w 2) false) false)))
+
+-- and any command.
+unfoldable pub command-in-form : (command write page high start rest : ℕ) → Bool
+command-in-form c w p h a n =
+    cond (eqb c 6) (none w p h 0)
+    (cond (eqb c 7) (cond (eqb a 0) (none w p h 0) false)
+    (cond (eqb n 0)
+    (cond (eqb c 5) (cond (none p h 0 0) (ltb w 2) false) (cond (eqb a 0) (early-in-form c w p h) false))
+    false))
+
+-- The output.
+unfoldable pub output-in-form : (output passed next count : ℕ) → Bool
+output-in-form o ok a n = cond (ltb o 2) (cond (eqb (a + n) 0) (leb ok o) false) (cond (ltb o 4) (eqb ok 0) false)
+
+-- A state.
+unfoldable pub in-form : State → Bool
+in-form s =
+    cond (ltb (s .collision) 2)
+    (cond (ltb (s .on) 2)
+    (cond (output-in-form (s .output) (s .passed) (s .next) (s .count))
+    (cond (command-in-form (s .command) (s .write) (s .page) (s .high) (s .start) (s .rest))
+    (point-in-form (s .point) (s .heard) (s .value) (s .left) (s .zeros) (s .effect) (s .byte))
+    false)
+    false)
+    false)
+    false

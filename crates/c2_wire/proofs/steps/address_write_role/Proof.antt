@@ -1,0 +1,14 @@
+-- `c2_wire::steps::address_write_role` meets its contract: each return by the tests on its way and what the calls give.
+use borrow.Author.Needs.{needs}
+use Rattle.laws.proofs.Pick.{picks}
+use Rattle.c2_wire.proofs.steps.address_write_role.Statement.{statement}
+use Rattle.c2_wire.proofs.steps.address_write_role.Tie as tie
+
+returns : tie.Need-returns
+returns c = search (needs, picks)
+
+returns-2 : tie.Need-returns-2
+returns-2 c = search (needs, picks)
+
+pub address-write-role-spec : {M : Type 1} → statement M
+address-write-role-spec = tie.close (tie.spec returns returns-2)

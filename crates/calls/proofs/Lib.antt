@@ -1,4 +1,0 @@
-pub mod Taking
-pub mod Claimed
-pub mod Targets
-pub mod Programmed

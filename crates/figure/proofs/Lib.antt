@@ -1,2 +1,0 @@
-pub mod Costing
-pub mod Counting

@@ -1,4 +1,0 @@
-pub mod States
-pub mod Reading
-pub mod Claimed
-pub mod Form

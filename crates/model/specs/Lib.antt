@@ -1,4 +1,0 @@
-pub mod State
-pub mod Model
-pub mod Form
-pub mod Claims

@@ -1,9 +1,0 @@
-pub mod Sound
-pub mod Moving
-pub mod Falling
-pub mod Costs
-pub mod Every
-pub mod Reaching
-pub mod Opened
-pub mod Claimed
-pub mod Papers

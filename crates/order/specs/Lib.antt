@@ -1,8 +1,0 @@
-pub mod Acts
-pub mod Order
-pub mod Opening
-pub mod Conversation
-pub mod Point
-pub mod Figure
-pub mod Claims
-pub mod Paper

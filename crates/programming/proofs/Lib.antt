@@ -1,3 +1,0 @@
-pub mod Looping
-pub mod Running
-pub mod Budget

@@ -1,3 +1,0 @@
-pub mod Run
-pub mod Claims
-pub mod Closed

@@ -1,4 +1,0 @@
-pub mod Records
-pub mod Fitting
-pub mod Sparing
-pub mod Claimed

@@ -1,3 +1,0 @@
-pub mod Sent
-pub mod Machine
-pub mod Range

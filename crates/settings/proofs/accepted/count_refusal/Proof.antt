@@ -1,0 +1,21 @@
+-- `settings::accepted::count_refusal` meets its contract: each return by the tests on its way and what the calls give.
+use borrow.Author.Tests.{le-leb, lt-leb}
+use native.Mathlib.Omega.{arith}
+use Rattle.settings.proofs.accepted.count_refusal.Statement.{statement}
+use Rattle.settings.proofs.accepted.count_refusal.Tie as tie
+
+returns : tie.Need-returns
+returns c = cc
+
+returns-2 : tie.Need-returns-2
+returns-2 c =
+    let a = c .before .before .args in
+    rw (le-leb 1 (a .count) (omega (arith)), le-leb (a .count) (a .most) (c .if2 .taken))
+
+returns-3 : tie.Need-returns-3
+returns-3 c =
+    let a = c .before .before .args in
+    rw (le-leb 1 (a .count) (omega (arith)), lt-leb (a .count) (a .most) (c .if2 .left))
+
+pub count-refusal-spec : {M : Type 1} → statement M
+count-refusal-spec = tie.close (tie.spec returns returns-2 returns-3)

@@ -1,8 +1,0 @@
-pub mod Delays
-pub mod Commands
-pub mod Interface
-pub mod Strobes
-pub mod Known
-pub mod Target
-pub mod Parts
-pub mod StepOn
