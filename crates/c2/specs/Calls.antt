@@ -1,4 +1,5 @@
--- What each call of the C face answers and leaves in what it was lent, for all inputs (document 01, "Numbers that come back").
+-- What each call of the C face answers and leaves in what it was lent, for all inputs (document 01, "Numbers
+-- that come back").
 use mathlib.Core.Bool.{cond}
 use mathlib.Core.List.{List, _++_}
 use Prim.Native.Nat.{ℕ, _+_}
@@ -13,7 +14,7 @@ use Rattle.c2_order.specs.Conversation.{session-limits}
 use Rattle.c2_order.specs.Figure.{figure}
 use Rattle.c2_session.specs.declared.Session.{Session}
 use Rattle.c2_position.specs.Position.{position}
-use Rattle.c2_opening.specs.Opened.{image-length, exchange-at, after-replies}
+use Rattle.c2_opening.specs.Opened.{image-length, exchange-at, session-fed}
 use Rattle.c2_record.specs.declared.Unpacked.{Unpacked}
 use Rattle.c2_record.specs.declared.Unpacked.the-variants.{Held, Refused}
 use Rattle.c2_record.specs.Record.{packed}
@@ -46,7 +47,8 @@ taken-answer e rs = record { number = outcome-of (fed e rs) .number; offset = ou
 unfoldable pub refused-answer : (number : ℕ) → Advanced
 refused-answer n = record { number = n; offset = 0; taken = 0 }
 
--- the step buffer: the steps that the exchange asks for stand from the place on, and every other byte is as it was
+-- the step buffer: the steps that the exchange asks for stand from the place on, and every other byte is as
+-- it was
 unfoldable pub steps-written : Exchange → (replies : List ℕ) → (place : ℕ) → List ℕ → List ℕ
 steps-written e rs place buffer = take place buffer ++ (steps e rs ++ drop (Exchange.taken e rs) (drop place buffer))
 
@@ -64,11 +66,11 @@ advance-steps Refused image rs buffer place = buffer
 
 abbrev pub advance-record : Unpacked → (image replies buffer : List ℕ) → (place : ℕ) → List ℕ → List ℕ
 advance-record (Held s) image rs buffer place r =
-    cond (eqb (held-number (Held s) (length image) (length rs) (length buffer) place) 0) (packed (after-replies s image rs)) r
+    cond (eqb (held-number (Held s) (length image) (length rs) (length buffer) place) 0) (packed (session-fed s image rs)) r
 advance-record Refused image rs buffer place r = r
 
--- Asking. The image is not lent. The figure goes by the point and not by the image's bytes, so one of the session's length that is all 0 stands
--- for it (`Figure-of-any` in Claims).
+-- Asking. The image is not lent. The figure goes by the point and not by the image's bytes, so one of the
+-- session's length that is all 0 stands for it (`Figure-of-any` in Claims).
 abbrev pub blank : Session → List ℕ
 blank s = replicate (image-length s) 0
 

@@ -1,5 +1,6 @@
--- What is claimed of a session whose replies come in parts, by the definitions that the calls meet (demand 2, and the first half of demand 3); of
--- the records that calls write; and of the figure that a question tells. Types alone: `Claimed` and `Asking` in proofs/ prove each.
+-- What is claimed of a session whose replies come in parts, by the definitions that the calls meet (demand 2,
+-- and the first half of demand 3); of the records that calls write; and of the figure that a question tells.
+-- Types alone: `Claimed` and `Asking` in proofs/ prove each.
 use mathlib.Core.Path.{_≡_}
 use mathlib.Core.Bool.{true}
 use mathlib.Core.List.{List, _++_}
@@ -17,15 +18,16 @@ use Rattle.c2_range.specs.Range.{in-range}
 use Rattle.c2_position.specs.Position.{position}
 use Rattle.c2_record.specs.declared.Unpacked.the-variants.{Held}
 use Rattle.c2_record.specs.Record.{packed, unpacked}
-use Rattle.c2_opening.specs.Opened.{opened-session, image-length, exchange-at, after-replies}
+use Rattle.c2_opening.specs.Opened.{opened-session, image-length, exchange-at, session-fed}
 use Rattle.c2.specs.Calls.{blank}
 
 -- the session that was opened, after replies
 abbrev pub session-after : Settings → (first : ℕ) → (image replies : List ℕ) → Session
-session-after t first image rs = after-replies (opened-session t first (length image)) image rs
+session-after t first image rs = session-fed (opened-session t first (length image)) image rs
 
--- Its settings and pages are those of the opening; its record is taken and holds it, with the image of the opening; it stands at the point of the
--- order that these replies reach; and what it leaves to say is what they leave of the exchange of the session's order.
+-- Its settings and pages are those of the opening; its record is taken and holds it, with the image of the
+-- opening; it stands at the point of the order that these replies reach; and what it leaves to say is what
+-- they leave of the exchange of the session's order.
 pub record Follows (t : Settings) (first : ℕ) (image replies : List ℕ) : Type 0 where
   pub settings : session-after t first image replies .settings ≡ t
   pub first-page : session-after t first image replies .first ≡ first
@@ -42,12 +44,13 @@ Replies-follow = (t : Settings) (first : ℕ) (image replies : List ℕ) → t .
 
 -- and replies in two parts lead where they lead in a row
 abbrev pub Parts-join : Type 0
-Parts-join = (s : Session) (image qs rs : List ℕ) → after-replies (after-replies s image qs) image rs ≡ after-replies s image (qs ++ rs)
+Parts-join = (s : Session) (image qs rs : List ℕ) → session-fed (session-fed s image qs) image rs ≡ session-fed s image (qs ++ rs)
 
--- Whatever record a call has taken, ours or not: the one that it writes after any replies is taken again, and holds the session that they lead to.
+-- Whatever record a call has taken, ours or not: the one that it writes after any replies is taken again, and
+-- holds the session that they lead to.
 abbrev pub Records-stay : Type 0
 Records-stay = (s : Session) (r image replies : List ℕ) → unpacked 20 256 r ≡ Held s → Bytes image → length image ≡ image-length s
-    → unpacked 20 256 (packed (after-replies s image replies)) ≡ Held (after-replies s image replies)
+    → unpacked 20 256 (packed (session-fed s image replies)) ≡ Held (session-fed s image replies)
 
 -- The figure goes by the session and not by the image's bytes.
 abbrev pub Figure-of-any : Type 0

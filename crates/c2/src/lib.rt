@@ -1,5 +1,5 @@
-// The calls in C. The driver's three: a session is opened, takes replies, and tells how much is left; nothing is kept between them but the record.
-// And the two of the modelled target, whose state is handed in and back.
+// The calls in C. The driver's three: a session is opened, takes replies, and tells how much is left; nothing
+// is kept between them but the record. And the two of the modelled target, whose state is handed in and back.
 ghost use mathlib.Core.Path.{_≡_};
 ghost use mathlib.Core.List.{_++_};
 ghost use Prim.Native.Nat.{_≤_};
@@ -12,12 +12,6 @@ ghost use Rattle.c2_target_state.specs.Model.{model-answer, model-flash};
 ghost use Rattle.c2_opening.specs.Opened.{opened-session};
 ghost use Rattle.c2.specs.Calls.{opening-number, opening-answer, record-opened, refused-answer, advance-answer, advance-steps, advance-record, remaining-answer};
 ghost use Rattle.c2.specs.Code.Loop.{ran, wrote};
-use c2_target_state::ModelReplied;
-use c2_target_state::State;
-use numbers::BAD_RECORD;
-use numbers::NO_ROOM;
-use numbers::OTHER_IMAGE;
-use numbers::RUNNING;
 use c2_outcome::is_running;
 use c2_outcome::outcome_of;
 use c2_outcome::same_session;
@@ -25,6 +19,12 @@ use c2_outcome::task_at;
 use c2_outcome::task_next;
 use c2_record::Unpacked;
 use c2_session::Session;
+use c2_target_state::ModelReplied;
+use c2_target_state::State;
+use numbers::BAD_RECORD;
+use numbers::NO_ROOM;
+use numbers::OTHER_IMAGE;
+use numbers::RUNNING;
 use settings::Settings;
 
 // The number of an opening, and its first step: 4, or 6 when refused.
@@ -107,8 +107,8 @@ fn answer(s: Session, taken: usize) -> Advanced
     }
 }
 
-// Opens a session for the image's pages, from the first page on. A record that is not 32 bytes is tested first, then 1 to 5, in this order; a
-// refused opening changes no byte.
+// Opens a session for the image's pages, from the first page on. A record that is not 32 bytes is tested
+// first, then 1 to 5, in this order; a refused opening changes no byte.
 #[no_mangle]
 pub extern "C" fn c2_open(held: &mut [u8], image: &[u8], t: Settings, first: u32) -> Opened
     ensures { λ r. ⌜ r ≡ opening-answer (opening-number (length (now (held .entry))) t first (length (now (image .entry)))) ⌝ }
@@ -135,8 +135,8 @@ pub extern "C" fn c2_open(held: &mut [u8], image: &[u8], t: Settings, first: u32
     }
 }
 
-// Takes replies, and writes the step that follows each one taken into the step buffer, from the place on. Tests 6, 7 and 8, in this order; a
-// refused call changes no byte and takes no reply.
+// Takes replies, and writes the step that follows each one taken into the step buffer, from the place on.
+// Tests 6, 7 and 8, in this order; a refused call changes no byte and takes no reply.
 #[no_mangle]
 pub extern "C" fn c2_advance(
     held: &mut [u8],
@@ -169,7 +169,8 @@ pub extern "C" fn c2_advance(
     answer(after, ran.taken)
 }
 
-// Tells the session's number and the most steps still to come. A record that holds no session in range has 6 and 0.
+// Tells the session's number and the most steps still to come. A record that holds no session in range has 6
+// and 0.
 #[no_mangle]
 pub extern "C" fn c2_steps_left(held: &[u8]) -> Remaining
     ensures { λ r. ⌜ r ≡ remaining-answer (unpacked 20 256 (now (held .entry))) ⌝ }

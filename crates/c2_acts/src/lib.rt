@@ -2,7 +2,8 @@
 ghost use mathlib.Core.Path.{_≡_};
 ghost use Rattle.c2_acts.specs.Code.Acts.{lead-task, put-task, erase-task, write-task, read-task, task-of, acts-in};
 
-// The stages of the order: up to the pause; then for each page its erase, its block writes and its block reads; and the last reset.
+// The stages of the order: up to the pause; then for each page its erase, its block writes and its block
+// reads; and the last reset.
 pub enum Stage {
     Lead,
     Erase,
@@ -11,8 +12,8 @@ pub enum Stage {
     Close,
 }
 
-// What an act does: a step that stands in no frame, a frame that is sent, a poll for InBusy 0 or OutReady 1, or a Data Read that must give
-// the device ID, the status 0x0D or a byte of the image.
+// What an act does: a step that stands in no frame, a frame that is sent, a poll for InBusy 0 or OutReady 1,
+// or a Data Read that must give the device ID, the status 0x0D or a byte of the image.
 pub enum Task {
     Reset,
     Pause,

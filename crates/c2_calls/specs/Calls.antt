@@ -1,5 +1,5 @@
--- A driver's calls as data, each with everything that it is lent, and what a list of them tells the driver of its session. What a call answers
--- and leaves is as the contracts of the C face say it.
+-- A driver's calls as data, each with everything that it is lent, and what a list of them tells the driver of
+-- its session. What a call answers and leaves is as the contracts of the C face say it.
 use mathlib.Core.Path.{_≡_}
 use mathlib.Core.Bool.{cond}
 use mathlib.Core.List.{List, [], _∷_, _++_}
@@ -28,8 +28,8 @@ refusal (opening r image t first) = opening-number (length r) t first (length im
 refusal (taking r image rs buffer place) = held-number (unpacked 20 256 r) (length image) (length rs) (length buffer) place
 refusal (asking r) = asked-number (unpacked 20 256 r)
 
--- What the driver has of its session: the record, the steps written to step buffers, joined, the replies taken, summed, the outcome, and the
--- most steps to come.
+-- What the driver has of its session: the record, the steps written to step buffers, joined, the replies
+-- taken, summed, the outcome, and the most steps to come.
 pub record Told : Type 0 where
   pub held : List ℕ
   pub steps : List ℕ
@@ -48,7 +48,8 @@ opened r image t first =
     let q = record-opened n (opened-session t first (length image)) r in
     record { held = q; steps = []; taken = 0; outcome = outcome (opening-answer n .number); left = told-left q }
 
--- After an accepted call that takes replies: as many steps as it says were taken stand in the step buffer, from the place on.
+-- After an accepted call that takes replies: as many steps as it says were taken stand in the step buffer,
+-- from the place on.
 abbrev pub after-taking : Told → (held image replies buffer : List ℕ) → (place : ℕ) → Told
 after-taking x r image rs buffer place =
     let u = unpacked 20 256 r in
@@ -82,8 +83,8 @@ unfoldable pub told : Told → List Call → Told
 told x [] = x
 told x (c ∷ cs) = told (heard x c) cs
 
--- Which lists may follow an opening: an accepted call is no opening, and is lent the record as the calls before left it and, where it is lent
--- one, the same image. A refused call may be lent anything.
+-- Which lists may follow an opening: an accepted call is no opening, and is lent the record as the calls
+-- before left it and, where it is lent one, the same image. A refused call may be lent anything.
 abbrev pub As-left : (image held : List ℕ) → Call → Type 0
 As-left image r (opening q i t first) = ⊥
 As-left image r (taking q i rs buffer place) = (q ≡ r) × (i ≡ image)
@@ -103,8 +104,8 @@ unfoldable pub in-a-row : List Call → List ℕ
 in-a-row [] = []
 in-a-row (c ∷ cs) = cond (eqb (refusal c) 0) (replies-of c) [] ++ in-a-row cs
 
--- The same by the definitions of demand 2: the exchange of the session's order, fed with replies in a row, the session that is reached, and the
--- point of the order.
+-- The same by the definitions of demand 2: the exchange of the session's order, fed with replies in a row,
+-- the session that is reached, and the point of the order.
 unfoldable pub by-replies : Settings → (first : ℕ) → (image replies : List ℕ) → Told
 by-replies t first image rs =
     let e = exchange-of session-limits t first image in

@@ -1,4 +1,5 @@
--- Demand 3, as far as it needs no target: what is claimed of whole lists of calls. Types alone: `Claimed` in proofs/ proves each.
+-- Demand 3, as far as it needs no target: what is claimed of whole lists of calls. Types alone: `Claimed` in
+-- proofs/ proves each.
 use mathlib.Core.Path.{_≡_}
 use mathlib.Core.List.{List, [], _∷_}
 use Prim.Native.Nat.{ℕ, _≤_}
@@ -11,8 +12,8 @@ use Rattle.c2_opening.specs.Opened.{opened-session}
 use Rattle.c2.specs.Calls.{opening-answer, record-opened, refused-answer, advance-answer, advance-steps, advance-record, remaining-answer}
 use Rattle.c2_calls.specs.Calls.{Call, opening, taking, asking, refusal, opened, told, May-follow, in-a-row, by-replies}
 
--- However the replies are cut into calls, with refused calls and questions in between: steps, replies taken, outcome, record and most steps to
--- come are those of the replies in a row.
+-- However the replies are cut into calls, with refused calls and questions in between: steps, replies taken,
+-- outcome, record and most steps to come are those of the replies in a row.
 abbrev pub Lists-are-replies : Type 0
 Lists-are-replies = (t : Settings) (first : ℕ) (image held : List ℕ) → Opening t first image → length held ≡ 32
     → (calls : List Call) → May-follow image (opened held image t first) calls

@@ -16,10 +16,12 @@ use Rattle.c2_calls.specs.Calls.{Call, opened, told, May-follow, in-a-ro
 use Rattle.c2_calls.specs.Claims.{Each-unchanged}
 use Rattle.c2_calls.specs.Target.{state-after, flash-after, Ready, answered, Own, Programmed}
 
--- One claim about every list of calls after an accepted opening, over one image and against one target with the same settings. Each refused call
--- gives its number, takes no reply and changes no byte that it is lent. What the calls tell is what the replies in a row come to. Where each reply taken is the target's own: the session has ended done at the latest after as many
--- replies as the most steps to come at the opening; and once it has ended, it has ended done, the named pages hold the image, every other byte is
--- unchanged and no collision is marked.
+-- One claim about every list of calls after an accepted opening, over one image and against one target with
+-- the same settings. Each refused call gives its number, takes no reply and changes no byte that it is lent.
+-- What the calls tell is what the replies in a row come to. Where each reply taken is the target's own: the
+-- session has ended done at the latest after as many replies as the most steps to come at the opening; and
+-- once it has ended, it has ended done, the named pages hold the image, every other byte is unchanged and no
+-- collision is marked.
 pub record Whole (t : Settings) (first : ℕ) (image held : List ℕ) (calls : List Call) : Type 0 where
   pub refused : Each-unchanged calls
   pub told-is : told (opened held image t first) calls ≡ by-replies t first image (in-a-row calls)
@@ -32,7 +34,8 @@ abbrev pub Calls-program : Type 0
 Calls-program = (t : Settings) (first : ℕ) (image held : List ℕ) → Opening t first image → length held ≡ 32
     → (calls : List Call) → May-follow image (opened held image t first) calls → Whole t first image held calls
 
--- There are such lists, so the claim is about something: whatever the target, one call that takes its replies to the end.
+-- There are such lists, so the claim is about something: whatever the target, one call that takes its replies
+-- to the end.
 pub record Some-calls (t : Settings) (first : ℕ) (image held ds f : List ℕ) (s : State) : Type 0 where
   pub calls : List Call
   pub follow : May-follow image (opened held image t first) calls

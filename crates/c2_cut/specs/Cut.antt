@@ -1,4 +1,5 @@
--- A session cut after any number of steps given to the target (request h): which pages are as before, which hold their image.
+-- A session cut after any number of steps given to the target (request h): which pages are as before, which
+-- hold their image.
 use mathlib.Core.Path.{_≡_}
 use mathlib.Core.List.{List, _∷_, map}
 use Prim.Native.Nat.{ℕ, suc, _-_, _<_, _≤_}
@@ -10,17 +11,18 @@ use Rattle.c2_order.specs.Order.{Page}
 use Rattle.c2_order.specs.Conversation.{Limits, conversation}
 use Rattle.c2_target.specs.declared.Target.{Target}
 use Rattle.c2_target.specs.Delays.{Setup}
-use Rattle.c2_play.specs.Playing.{replies-of, whole-step, play, left-by, Own-replies}
+use Rattle.c2_play.specs.Playing.{run-replies, whole-step, play, left-by, Own-replies}
 use Rattle.c2_play.specs.Programmed.{Met, Programmed}
 use Rattle.c2_play.specs.Pages.{page-of, with-pages, At, Named, up-to, exchange-over, Meets}
 use Rattle.c2_cut.specs.Walk.{walked}
 
--- These replies have brought the order up to the end of some pages to its end, with no refusal and no byte differing.
+-- These replies have brought the order up to the end of some pages to its end, with no refusal and no byte
+-- differing.
 abbrev pub Over : Limits → Settings → List Page → (replies : List ℕ) → Type 0
 Over l s ps rs = fed (conversation l (up-to s ps)) rs ≡ ended (outcome done)
 
--- Page i is begun after n steps: one of them is a step of it, so the replies to all but the last have brought the order to the end of the
--- pages before it.
+-- Page i is begun after n steps: one of them is a step of it, so the replies to all but the last have brought
+-- the order to the end of the pages before it.
 abbrev pub Begun : Limits → Settings → List Page → (own : List ℕ) → (n i : ℕ) → Type 0
 Begun l s ps own n i = Over l s (take i ps) (take (n - 1) own)
 
@@ -28,8 +30,9 @@ Begun l s ps own n i = Over l s (take i ps) (take (n - 1) own)
 abbrev pub Read-back : Limits → Settings → List Page → (own : List ℕ) → (n i : ℕ) → Type 0
 Read-back l s ps own n i = Over l s (take (suc i) ps) (take n own)
 
--- Request h after n steps, with the target's own replies, over a flash that was f and is now F: a page not named is as before; one whose read-back
--- has ended holds its image; one not yet begun is as before; at most one is begun and its read-back not ended.
+-- Request h after n steps, with the target's own replies, over a flash that was f and is now F: a page not
+-- named is as before; one whose read-back has ended holds its image; one not yet begun is as before; at most
+-- one is begun and its read-back not ended.
 pub record Cut (l : Limits) (s : Settings) (ps : List Page) (own : List ℕ) (n : ℕ) (f F : List ℕ) : Type 0 where
   pub unnamed : (q : ℕ) → q < s .count → ((i : ℕ) (p : Page) → At ps i p → p .number ≡ q → ⊥) → page-of (s .size) q F ≡ page-of (s .size) q f
   pub read-back : (i : ℕ) (p : Page) → At ps i p → Read-back l s ps own n i → page-of (s .size) (p .number) F ≡ p .bytes
@@ -40,14 +43,14 @@ pub record Cut (l : Limits) (s : Settings) (ps : List Page) (own : List ℕ) (n 
 abbrev pub Cuts : Type 0
 Cuts = (l : Limits) (u : Setup) (ps : List Page) (t : Target) (f : List ℕ)
     → Meets l u ps t f → (n : ℕ)
-    → Cut l (u .settings) ps (replies-of (whole-step u) (exchange-over l (u .settings) ps) t f) n f
+    → Cut l (u .settings) ps (run-replies (whole-step u) (exchange-over l (u .settings) ps) t f) n f
     (walked (whole-step u) n (exchange-over l (u .settings) ps) t f .flash)
 
 abbrev pub numbers : List Page → List ℕ
 numbers ps = map (λ p. p .number) ps
 
--- Wherever a session was cut, a new one over pages of the same numbers, with the target kept as it was left, ends as if there had been none
--- before it: `f` is the flash before the first.
+-- Wherever a session was cut, a new one over pages of the same numbers, with the target kept as it was left,
+-- ends as if there had been none before it: `f` is the flash before the first.
 pub record Again (l : Limits) (u : Setup) (ps : List Page) (t : Target) (f F : List ℕ) : Type 0 where
   pub met : Met l u t F
   pub ends : (qs : List Page) → Named (u .settings) qs → numbers qs ≡ numbers ps
@@ -63,8 +66,8 @@ Agains = (l : Limits) (u : Setup) (ps : List Page) (t : Target) (f : List ℕ)
 abbrev pub sent : Exchange → (replies : List ℕ) → List ℕ
 sent e rs = asks e ∷ steps e rs
 
--- The same by replies: whatever they are, if each taken is the target's own to the step before. The target gets the first step and those that the replies
--- bring; n is any number of these.
+-- The same by replies: whatever they are, if each taken is the target's own to the step before. The target
+-- gets the first step and those that the replies bring; n is any number of these.
 abbrev pub Cuts-by-replies : Type 0
 Cuts-by-replies = (l : Limits) (u : Setup) (ps : List Page) (t : Target) (f replies : List ℕ)
     → Meets l u ps t f

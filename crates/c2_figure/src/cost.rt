@@ -1,11 +1,11 @@
 // What acts, commands and pages cost at the most.
 ghost use mathlib.Core.Path.{_≡_};
 ghost use Prim.Native.Nat.{_+_, _-_, _*_, _/_, _<_, _≤_};
-ghost use Rattle.c2_figure.specs.Code.Left.{task-cost, page-cost, page-blocks};
-use c2_acts::Task;
-use c2_session::Session;
+ghost use Rattle.c2_figure.specs.Code.Left.{task-cost, page-cost, blocks-by-size};
 use crate::BLOCK;
 use crate::ERASE;
+use c2_acts::Task;
+use c2_session::Session;
 
 pub(crate) fn less(a: usize, b: usize) -> usize
     ensures { λ r. ⌜ r ≡ a - b ⌝ }
@@ -35,7 +35,7 @@ pub(crate) fn task_cost(task: Task) -> usize
 
 // The blocks of a page, written or read.
 pub(crate) fn page_blocks(size: u32) -> usize
-    ensures { λ r. ⌜ r ≡ page-blocks 20 256 size ⌝ }
+    ensures { λ r. ⌜ r ≡ blocks-by-size 20 256 size ⌝ }
     ensures { λ r. ⌜ r < 17592186044416 ⌝ }
 {
     ((size / 256) as usize) * BLOCK

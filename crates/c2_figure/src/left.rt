@@ -2,17 +2,17 @@
 ghost use mathlib.Core.Path.{_≡_};
 ghost use Prim.Native.Nat.{_<_, _≤_};
 ghost use Rattle.c2_figure.specs.Code.Left.{wait-left, poll-left, act-left, lead-left, bytes-left, stage-left, pages-left, blocks-left, after-left, point-left, steps-left};
-use c2_acts::Stage;
-use c2_acts::Task;
-use c2_acts::task_of;
-use c2_session::Point;
-use c2_session::Session;
 use crate::BLOCK;
 use crate::BYTE;
 use crate::cost::less;
 use crate::cost::page_blocks;
 use crate::cost::pages_cost;
 use crate::cost::task_cost;
+use c2_acts::Stage;
+use c2_acts::Task;
+use c2_acts::task_of;
+use c2_session::Point;
+use c2_session::Session;
 
 // What is left of a frame of 15 strobes with a WAIT at this one.
 fn wait_left(waits: usize, strobe: usize, count: usize) -> usize

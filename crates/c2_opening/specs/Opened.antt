@@ -1,8 +1,6 @@
 -- The session that an opening begins, the session after replies, and what it leaves to say.
-use mathlib.Core.Bool.{cond}
-use mathlib.Core.List.{List, [], _∷_}
-use Prim.Native.Nat.{ℕ, _*_, _/_, _%_}
-use lib.Dec.{eqb}
+use mathlib.Core.List.{List, _∷_}
+use Prim.Native.Nat.{ℕ, _*_, _/_}
 use Rattle.c2_wire.specs.Exchange.{Exchange}
 use Rattle.settings.specs.declared.Settings.{Settings}
 use Rattle.c2_order.specs.Conversation.{session-limits}
@@ -10,17 +8,12 @@ use Rattle.c2_order.specs.Point.{left-to-say}
 use Rattle.c2_acts.specs.declared.Stage.the-variants.{Lead}
 use Rattle.c2_session.specs.declared.Point.the-variants.{Running}
 use Rattle.c2_session.specs.declared.Session.{Session}
-use Rattle.c2_session.specs.Code.Machine.{advanced}
+use Rattle.c2_session.specs.Code.Advance.{advanced}
 use Rattle.c2_position.specs.Position.{position}
 
 -- the session at its first step, the reset
 unfoldable pub opened-session : Settings → (first length : ℕ) → Session
 opened-session t first n = record { settings = t; first = first; pages = n / t .size; point = Running Lead 0 0 0 0 0 0 }
-
--- For the code: the same from any numbers, each kept to 16 bits. `started-is` in proofs/ has the law that for an accepted opening it is that session.
-unfoldable pub started : Settings → (first length : ℕ) → Session
-started t first n =
-    record { settings = t; first = first % 65536; pages = cond (eqb (t .size) 0) 0 (n / t .size % 65536); point = Running Lead 0 0 0 0 0 0 }
 
 -- the length of a session's image
 abbrev pub image-length : Session → ℕ
@@ -31,6 +24,6 @@ abbrev pub exchange-at : Session → (image : List ℕ) → Exchange
 exchange-at s image = left-to-say session-limits (position s image)
 
 -- the session after replies
-unfoldable pub after-replies : Session → (image replies : List ℕ) → Session
-after-replies s image [] = s
-after-replies s image (r ∷ rs) = after-replies (advanced 20 256 s r image) image rs
+unfoldable pub session-fed : Session → (image replies : List ℕ) → Session
+session-fed s image [] = s
+session-fed s image (r ∷ rs) = session-fed (advanced 20 256 s r image) image rs

@@ -3,11 +3,11 @@ ghost use mathlib.Core.Path.{_≡_};
 ghost use mathlib.Core.Bool.{cond};
 ghost use Prim.Native.Nat.{_/_, _%_};
 ghost use lib.Dec.{eqb};
-ghost use Rattle.c2_opening.specs.Opened.{started};
+ghost use Rattle.c2_opening.specs.Code.Started.{started};
+use c2_acts::Stage;
 use c2_session::Point;
 use c2_session::Session;
 use settings::Settings;
-use c2_acts::Stage;
 
 fn pages_in(bytes: usize, size: u32) -> u16
     ensures { λ r. ⌜ r ≡ cond (eqb size 0) 0 (bytes / size % 65536) ⌝ }
@@ -18,8 +18,8 @@ fn pages_in(bytes: usize, size: u32) -> u16
     (bytes / (size as usize) % 65536) as u16
 }
 
-// A session at its first step, for settings, first page and image length that opening accepts: their numbers fit. Any other numbers are kept to
-// 16 bits.
+// A session at its first step, for settings, first page and image length that opening accepts: their numbers
+// fit. Any other numbers are kept to 16 bits.
 pub fn start(t: Settings, first: u32, bytes: usize) -> Session
     ensures { λ r. ⌜ r ≡ started t first bytes ⌝ }
 {

@@ -1,4 +1,5 @@
--- Acts, and the Programming Interface's commands as lists of acts (document 01, "Settings and session"; the maker's note, section 4).
+-- Acts, and the Programming Interface's commands as lists of acts (document 01, "Settings and session"; the
+-- maker's note, section 4).
 use mathlib.Core.Bool.{Bool, not, cond}
 use mathlib.Core.List.{List, [], _∷_, _++_}
 use Prim.Native.Nat.{ℕ, suc, _/_, _%_}

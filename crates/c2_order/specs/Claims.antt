@@ -1,4 +1,5 @@
--- What is claimed of a session's exchange and of the figure of the most steps to come. Types alone: `Claimed` in proofs/ proves each.
+-- What is claimed of a session's exchange and of the figure of the most steps to come. Types alone: `Claimed`
+-- in proofs/ proves each.
 use mathlib.Core.Path.{_≡_}
 use mathlib.Core.Bool.{true}
 use mathlib.Core.List.{List, _++_}
@@ -34,7 +35,8 @@ abbrev pub Points-follow : Type 0
 Points-follow = (l : Limits) (s : Settings) (first : ℕ) (image : List ℕ) → Positive l → Opening s first image → (rs : List ℕ)
     → left-to-say l (point-after l s first image rs) ≡ fed (exchange-of l s first image) rs
 
--- feeding replies in parts is feeding them in a row: steps joined, replies taken summed, and the exchange that is left
+-- feeding replies in parts is feeding them in a row: steps joined, replies taken summed, and the exchange
+-- that is left
 pub record In-parts (e : Exchange) (rs qs : List ℕ) : Type 0 where
   pub steps-joined : steps e (rs ++ qs) ≡ steps e rs ++ steps (fed e rs) qs
   pub taken-summed : taken e (rs ++ qs) ≡ taken e rs + taken (fed e rs) qs

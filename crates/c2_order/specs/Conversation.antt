@@ -1,4 +1,5 @@
--- The exchange of a list of acts: what is said on the wire, whatever the replies (document 01, "Settings and session"), and the session's limits.
+-- The exchange of a list of acts: what is said on the wire, whatever the replies (document 01, "Settings and
+-- session"), and the session's limits.
 use mathlib.Core.Bool.{Bool, cond}
 use mathlib.Core.List.{List, [], _∷_}
 use Prim.Native.Nat.{ℕ, zero, suc, _<_}

@@ -1,5 +1,6 @@
--- The most steps still to come with a reply (document 01, "How much is left"): each WAIT counts to its limit and each poll to its reads, less
--- those done. It goes by the point alone: a sampled bit that already decides a poll or a compare does not lower it.
+-- The most steps still to come with a reply (document 01, "How much is left"): each WAIT counts to its limit
+-- and each poll to its reads, less those done. It goes by the point alone: a sampled bit that already decides
+-- a poll or a compare does not lower it.
 use mathlib.Core.List.{List, [], _∷_}
 use Prim.Native.Nat.{ℕ, suc, _+_, _-_, _*_}
 use Rattle.c2_wire.specs.Frames.{frame}

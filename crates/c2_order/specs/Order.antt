@@ -1,4 +1,5 @@
--- The order of a session (document 01, "A session is, in order"): a list of acts over settings, page numbers and the image.
+-- The order of a session (document 01, "A session is, in order"): a list of acts over settings, page numbers
+-- and the image.
 use mathlib.Core.List.{List, [], _∷_, _++_, map}
 use Prim.Native.Nat.{ℕ, zero, suc, _+_, _*_, _/_}
 use lib.ListN.{length, take, drop}

@@ -1,5 +1,5 @@
--- P1 to P12: document 01's own examples in one table, what the definitions give beside what the paper says, and the one statement that they
--- agree.
+-- P1 to P12: document 01's own examples in one table, what the definitions give beside what the paper says,
+-- and the one statement that they agree.
 use mathlib.Core.Path.{_≡_}
 use mathlib.Core.Bool.{true}
 use mathlib.Core.List.{List, [], _∷_, _++_}

@@ -16,7 +16,8 @@ use Rattle.c2_order.specs.Conversation.{Limits, polling, conversation}
 use Rattle.exchange.specs.Exchange as Shared
 
 pub data Point : Type 0 where
-  -- the acts still to be done, of which the first is begun, and the place in its frame; a poll counts its unsatisfied reads there
+  -- the acts still to be done, of which the first is begun, and the place in its frame; a poll counts its
+  -- unsatisfied reads there
   running : Act → List Act → Place → Point
   ended : Outcome → Point
 

@@ -1,11 +1,13 @@
-// How a session stands: running, and what its act does, or ended with its outcome. And the same session put together anew, for loops.
+// How a session stands: running, and what its act does, or ended with its outcome. And the same session put
+// together anew, for loops.
 ghost use mathlib.Core.Path.{_≡_};
-ghost use Rattle.c2_outcome.specs.Outcome.{is-running, outcome-of, task-at, task-next};
-use numbers::RUNNING;
-use c2_session::Point;
-use c2_session::Session;
+ghost use Rattle.c2_outcome.specs.Outcome.{is-running, point-outcome};
+ghost use Rattle.c2_outcome.specs.Code.Task.{task-at, task-next};
 use c2_acts::Task;
 use c2_acts::task_of;
+use c2_session::Point;
+use c2_session::Session;
+use numbers::RUNNING;
 
 // The session's number, and the image offset for 14.
 pub struct Outcome {
@@ -34,7 +36,7 @@ pub fn is_running(point: Point) -> bool
 }
 
 pub fn outcome_of(point: Point) -> Outcome
-    ensures { λ r. ⌜ r ≡ outcome-of point ⌝ }
+    ensures { λ r. ⌜ r ≡ point-outcome point ⌝ }
 {
     match point {
         Point::Running {
@@ -77,7 +79,8 @@ pub fn task_at(point: Point) -> Task
     }
 }
 
-// The same, where it is known for the point before: so it is told anew only where an act begins, or a poll anew.
+// The same, where it is known for the point before: so it is told anew only where an act begins, or a poll
+// anew.
 pub fn task_next(point: Point, task: Task) -> Task
     ensures { λ r. ⌜ r ≡ task-next point task ⌝ }
 {
@@ -134,7 +137,8 @@ fn same_point(point: Point) -> Point
     }
 }
 
-// The same session, put together from its numbers: copied whole it would take along the gaps between them, at every turn of a loop.
+// The same session, put together from its numbers: copied whole it would take along the gaps between them, at
+// every turn of a loop.
 pub fn same_session(s: Session) -> Session
     ensures { λ r. ⌜ r ≡ s ⌝ }
 {

@@ -65,7 +65,8 @@ Programs-pages = (l : Limits) (u : Setup) (ps : List Page) (t : Target) (f : Lis
     → Meets l u ps t f
     → Programmed (with-pages (u .settings .size) ps f) (play u (exchange-over l (u .settings) ps) t f)
 
--- Numbers that rise from a bound on, each below another (request g: runs that neither fall nor overlap, none past the end).
+-- Numbers that rise from a bound on, each below another (request g: runs that neither fall nor overlap, none
+-- past the end).
 unfoldable pub Rise : (from below : ℕ) → List ℕ → Type 0
 Rise b c [] = Unit {0}
 Rise b c (n ∷ ns) = (b ≤ n) × (n < c) × Rise (suc n) c ns

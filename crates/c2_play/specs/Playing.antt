@@ -1,4 +1,5 @@
--- An exchange played against the target: each reply is the target's own to the step before, and nobody else writes the flash.
+-- An exchange played against the target: each reply is the target's own to the step before, and nobody else
+-- writes the flash.
 use mathlib.Core.List.{List, [], _∷_}
 use mathlib.Core.Path.{_≡_}
 use Prim.Native.Nat.{ℕ}
@@ -24,10 +25,10 @@ against step (ended o) t f = record { outcome = o; target = t; flash = f }
 against step (ask (at g s) k) t f = against step (k (step t f s .reply)) (step t f s .target) (step t f s .flash)
 
 -- the replies that it is given
-unfoldable pub replies-of : (Target → List ℕ → Step → Turn) → Exchange → Target → List ℕ → List ℕ
-replies-of step (ended o) t f = []
-replies-of step (ask (at g s) k) t f =
-    bit (step t f s .reply) ∷ replies-of step (k (step t f s .reply)) (step t f s .target) (step t f s .flash)
+unfoldable pub run-replies : (Target → List ℕ → Step → Turn) → Exchange → Target → List ℕ → List ℕ
+run-replies step (ended o) t f = []
+run-replies step (ask (at g s) k) t f =
+    bit (step t f s .reply) ∷ run-replies step (k (step t f s .reply)) (step t f s .target) (step t f s .flash)
 
 -- the target's whole step, refusals included, by the step's byte
 unfoldable pub whole-step : Setup → Target → List ℕ → Step → Turn
@@ -58,7 +59,8 @@ answered e rs = take (taken e rs) (asks e ∷ steps e rs)
 abbrev pub Own-replies : Setup → Target → List ℕ → Exchange → (replies : List ℕ) → Type 0
 Own-replies u t f e rs = take (taken e rs) rs ≡ own-replies u t f (answered e rs)
 
--- How an exchange stands after replies, with the target and the flash as the steps that they answer have left them.
-abbrev pub after-replies : Setup → Exchange → Target → List ℕ → (replies : List ℕ) → Played
-after-replies u e t f rs =
+-- How an exchange stands after replies, with the target and the flash as the steps that they answer have left
+-- them.
+abbrev pub played-after : Setup → Exchange → Target → List ℕ → (replies : List ℕ) → Played
+played-after u e t f rs =
     record { outcome = outcome-of (fed e rs); target = left-by u t f (answered e rs) .target; flash = left-by u t f (answered e rs) .flash }

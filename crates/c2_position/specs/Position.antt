@@ -1,4 +1,5 @@
--- The point of the order that a session has reached: what its numbers mean. The order's acts from an act of a stage on.
+-- The point of the order that a session has reached: what its numbers mean. The order's acts from an act of a
+-- stage on.
 use mathlib.Core.List.{List, [], _∷_, _++_, map}
 use Prim.Native.Nat.{ℕ, suc}
 use lib.ListN.{getD, drop}

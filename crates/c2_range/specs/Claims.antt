@@ -1,5 +1,5 @@
--- Which sessions are within their ranges, in the words of document 01 ("What the driver keeps over sleep"). Types alone: `Ranges` in proofs/
--- proves the last.
+-- Which sessions are within their ranges, in the words of document 01 ("What the driver keeps over sleep").
+-- Types alone: `Ranges` in proofs/ proves the last.
 use mathlib.Core.Path.{_≡_}
 use mathlib.Core.Bool.{true}
 use mathlib.Core.Logic.{_↔_, _⊎_}
@@ -24,8 +24,8 @@ pub record Opening-passes (t : Settings) (first pages : ℕ) : Type 0 where
   pub image : 1 ≤ pages
   pub inside : first + pages ≤ t .count
 
--- the point reached exists in the session's order; zeros seen in a WAIT are below its limit and unsatisfied reads below theirs; bits not yet
--- sampled are 0,
+-- the point reached exists in the session's order; zeros seen in a WAIT are below its limit and unsatisfied
+-- reads below theirs; bits not yet sampled are 0,
 pub record Point-exists (wait-limit poll-limit size pages : ℕ) (g : Stage) (i j k q c v : ℕ) : Type 0 where
   pub page : i < pages-in g pages
   pub block : j < blocks-in g size

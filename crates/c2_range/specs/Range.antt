@@ -1,4 +1,5 @@
--- Which values are a session within its ranges (document 01, "What the driver keeps over sleep"), in its order.
+-- Which values are a session within its ranges (document 01, "What the driver keeps over sleep"), in its
+-- order.
 use mathlib.Core.Bool.{Bool, cond, _&&_, _||_}
 use mathlib.Core.List.{List, [], _∷_}
 use Prim.Native.Nat.{ℕ, _*_, _/_, _^_}
@@ -59,8 +60,8 @@ reads-in r Ident = 1
 reads-in r Status = 1
 reads-in r Compare = 1
 
--- a place in a frame: the strobe exists; zeros seen in a WAIT are below its limit, unsatisfied reads below theirs, and other counts 0; bits not
--- yet sampled are 0
+-- a place in a frame: the strobe exists; zeros seen in a WAIT are below its limit, unsatisfied reads below
+-- theirs, and other counts 0; bits not yet sampled are 0
 unfoldable pub place-in-range : (wait-limit reads : ℕ) → List Strobe → (strobe count bits : ℕ) → Bool
 place-in-range w r ss q c v =
     ltb q (length ss) && ltb c (count-limit w r (strobe-at ss q)) && ltb v (2 ^ samples (take q ss))
@@ -71,7 +72,8 @@ running-in-range w r size pages g i j k q c v =
     ltb i (pages-in g pages) && ltb j (blocks-in g size) && ltb k (acts-in g)
     && place-in-range w (reads-in r (task-of g k)) (strobes-in (task-of g k)) q c v
 
--- an outcome is one that ends a session (9 to 15, and 32), with an offset inside the image for 14 and 0 otherwise
+-- an outcome is one that ends a session (9 to 15, and 32), with an offset inside the image for 14 and 0
+-- otherwise
 unfoldable pub ends-session : (number : ℕ) → Bool
 ends-session n = eqb n done || (leb bad-reply n && leb n no-image-byte)
 

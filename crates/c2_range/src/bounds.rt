@@ -3,7 +3,7 @@ ghost use mathlib.Core.Path.{_≡_};
 ghost use Prim.Native.Nat.{_^_, _≤_};
 ghost use Rattle.c2_acts.specs.Code.Acts.{acts-in};
 ghost use Rattle.c2_range.specs.Range.{strobes-in, reads-in, place-in-range};
-ghost use Rattle.c2_range.specs.Code.Bounds.{limit-from, sampled-from, within, inside};
+ghost use Rattle.c2_range.specs.Code.Bounds.{limit-from, sampled-from, below-bounds, inside};
 use c2_acts::Task;
 use c2_acts::acts_in;
 use c2_session::At;
@@ -44,7 +44,7 @@ fn bits_limit(sampled: usize) -> usize
 // Whether a place is one of so many strobes, with its count below a limit and no bit beyond those sampled.
 fn within(strobes: usize, limit: usize, sampled: usize, place: Place) -> bool
     requires { ⌜ sampled ≤ 8 ⌝ }
-    ensures { λ r. ⌜ r ≡ within strobes limit sampled (place .strobe) (place .count) (place .bits) ⌝ }
+    ensures { λ r. ⌜ r ≡ below-bounds strobes limit sampled (place .strobe) (place .count) (place .bits) ⌝ }
 {
     if place.strobe < strobes {
         if place.count < limit {
@@ -56,13 +56,13 @@ fn within(strobes: usize, limit: usize, sampled: usize, place: Place) -> bool
 
 // A place of an Address Read, and one of a Data Read.
 fn address_read(reads: usize, place: Place) -> bool
-    ensures { λ r. ⌜ r ≡ within 12 reads (sampled-from 3 (place .strobe)) (place .strobe) (place .count) (place .bits) ⌝ }
+    ensures { λ r. ⌜ r ≡ below-bounds 12 reads (sampled-from 3 (place .strobe)) (place .strobe) (place .count) (place .bits) ⌝ }
 {
     within(12, reads, sampled_from(3, place.strobe), place)
 }
 
 fn data_read(wait: usize, place: Place) -> bool
-    ensures { λ r. ⌜ r ≡ within 15 (limit-from 5 wait (place .strobe)) (sampled-from 6 (place .strobe)) (place .strobe) (place .count) (place .bits) ⌝ }
+    ensures { λ r. ⌜ r ≡ below-bounds 15 (limit-from 5 wait (place .strobe)) (sampled-from 6 (place .strobe)) (place .strobe) (place .count) (place .bits) ⌝ }
 {
     let limit = limit_from(5, wait, place.strobe);
     within(15, limit, sampled_from(6, place.strobe), place)

@@ -1,4 +1,5 @@
--- What is claimed of a session's record (document 01, "What the driver keeps over sleep"). Types alone: `Claimed` in proofs/ proves each.
+-- What is claimed of a session's record (document 01, "What the driver keeps over sleep"). Types alone:
+-- `Claimed` in proofs/ proves each.
 use mathlib.Core.Path.{_≡_}
 use mathlib.Core.Bool.{true}
 use mathlib.Core.List.{List}

@@ -1,4 +1,5 @@
--- The record of a session, byte by byte (docs/RECORD.md), and the session of a record (document 01, "What the driver keeps over sleep").
+-- The record of a session, byte by byte (docs/RECORD.md), and the session of a record (document 01, "What the
+-- driver keeps over sleep").
 use mathlib.Core.Bool.{Bool, true, false, cond, _&&_}
 use mathlib.Core.List.{List, [], _∷_}
 use Prim.Native.Nat.{ℕ, _+_, _*_, _/_, _%_}
@@ -110,6 +111,7 @@ abbrev pub taken-apart : (wait-limit poll-limit : ℕ) → Reached → List ℕ 
 taken-apart w l (At p) r = checked w l (session-read r p) r
 taken-apart w l Nowhere r = Refused
 
--- The session that a record holds. `Claims` says of which records it is one: 32 bytes that are the packing of a session in range.
+-- The session that a record holds. `Claims` says of which records it is one: 32 bytes that are the packing of
+-- a session in range.
 unfoldable pub unpacked : (wait-limit poll-limit : ℕ) → List ℕ → Unpacked
 unpacked w l r = taken-apart w l (point-of (fields-read r)) r

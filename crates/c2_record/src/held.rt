@@ -3,7 +3,6 @@ ghost use mathlib.Core.Path.{_≡_};
 ghost use lib.ListN.{length};
 ghost use Rattle.c2_record.specs.Record.{unpacked};
 ghost use Rattle.c2_record.specs.Code.Spare.{checked-by};
-use c2_session::Session;
 use crate::Reached;
 use crate::Unpacked;
 use crate::read::point_of;
@@ -12,6 +11,7 @@ use crate::read::read_settings;
 use crate::spare::spare;
 use crate::spare::unused;
 use crate::words::wide16;
+use c2_session::Session;
 
 // The session that was read, if this is its record and it is in range.
 fn checked(s: Session, r: &[u8]) -> Unpacked

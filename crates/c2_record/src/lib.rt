@@ -3,11 +3,11 @@ use c2_acts::Stage;
 use c2_session::Point;
 use c2_session::Session;
 
-mod words;
-mod write;
+mod held;
 mod read;
 mod spare;
-mod held;
+mod words;
+mod write;
 
 pub use held::unpack;
 pub use write::pack;

@@ -2,16 +2,16 @@
 ghost use mathlib.Core.Path.{_≡_};
 ghost use lib.ListN.{length};
 ghost use Rattle.c2_record.specs.Record.{settings-read, fields-read, stage-named, running-at, point-of};
-use c2_acts::Stage;
-use c2_session::Point;
 use crate::Fields;
 use crate::Named;
 use crate::Reached;
 use crate::words::pair16;
 use crate::words::pair32;
+use crate::words::wide;
 use crate::words::wide16;
 use crate::words::wide32;
-use crate::words::wide;
+use c2_acts::Stage;
+use c2_session::Point;
 use settings::Settings;
 
 pub(crate) fn read_settings(r: &[u8]) -> Settings

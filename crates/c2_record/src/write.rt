@@ -1,12 +1,12 @@
 // The record of a session.
 ghost use mathlib.Core.Path.{_≡_};
 ghost use Rattle.c2_record.specs.Record.{stage-code, fields-of, laid, packed};
-use c2_acts::Stage;
-use c2_session::Point;
-use c2_session::Session;
 use crate::Fields;
 use crate::words::high;
 use crate::words::low;
+use c2_acts::Stage;
+use c2_session::Point;
+use c2_session::Session;
 use settings::Settings;
 
 fn stage_code(stage: Stage) -> u8

@@ -16,7 +16,8 @@ use Rattle.c2_target.specs.Delays.{Setup, setup}
 use Rattle.c2_target.specs.Target.{fresh, answer, flash-after}
 use Rattle.c2_run.specs.declared.Run.{Run}
 
--- An exchange against the target for at most so many replies: what is left of it, the target and the flash then, and the replies.
+-- An exchange against the target for at most so many replies: what is left of it, the target and the flash
+-- then, and the replies.
 pub record Left : Type 0 where
   pub exchange : Exchange
   pub target : Target

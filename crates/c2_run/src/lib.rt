@@ -2,11 +2,12 @@
 use c2_session::Session;
 use c2_target::Target;
 
-mod same;
 mod play;
 mod program;
+mod same;
 
-// The session's number and the image offset for 14, the replies that it took, and whether the target has marked a collision.
+// The session's number and the image offset for 14, the replies that it took, and whether the target has
+// marked a collision.
 #[repr(C)]
 pub struct Run {
     pub number: u32,

@@ -5,6 +5,9 @@ ghost use lib.ListN.{length};
 ghost use Rattle.settings.specs.Accepted.{settings-refusal};
 ghost use Rattle.c2_target.specs.Target.{fresh};
 ghost use Rattle.c2_run.specs.Code.Closed.{closed};
+use crate::Ran;
+use crate::program::low;
+use crate::same::same_target;
 use c2_outcome::is_running;
 use c2_outcome::same_session;
 use c2_outcome::task_at;
@@ -16,9 +19,6 @@ use c2_target::Link;
 use c2_target::Output;
 use c2_target::Point;
 use c2_target::Target;
-use crate::Ran;
-use crate::program::low;
-use crate::same::same_target;
 use settings::Settings;
 
 // A target before its first step.
@@ -43,7 +43,8 @@ fn fresh() -> Target
     }
 }
 
-// Gives the target the step that the session waits at, and the session the target's reply, until the session has ended or the budget is spent.
+// Gives the target the step that the session waits at, and the session the target's reply, until the session
+// has ended or the budget is spent.
 pub(crate) fn play(
     start: Session,
     t: Settings,

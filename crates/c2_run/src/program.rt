@@ -3,9 +3,9 @@ ghost use mathlib.Core.Path.{_≡_};
 ghost use mathlib.Core.Bool.{false};
 ghost use Prim.Native.Nat.{_*_, _%_};
 ghost use Rattle.c2_run.specs.Run.{run-answer, run-flash};
-use c2_outcome::outcome_of;
 use crate::Run;
 use crate::play::play;
+use c2_outcome::outcome_of;
 use numbers::NO_POINT;
 use numbers::RUNNING;
 use settings::Settings;
@@ -34,9 +34,10 @@ fn flash_bytes(size: u32, count: u32) -> usize
     (size as usize) * (count as usize)
 }
 
-// Programs a fresh target with these settings, flash and delays: opens a session for the image from the first page on, and runs it for at most
-// so many replies. Refused by 1 to 5 as an opening is, and by 17 for a flash that is not size times count bytes; the flash is then unchanged.
-// The program calls it, and by its C name the benchmark.
+// Programs a fresh target with these settings, flash and delays: opens a session for the image from the first
+// page on, and runs it for at most so many replies. Refused by 1 to 5 as an opening is, and by 17 for a flash
+// that is not size times count bytes; the flash is then unchanged. The program calls it, and by its C name
+// the benchmark.
 #[no_mangle]
 pub extern "C" fn c2_program(
     t: Settings,

@@ -1,3 +1,7 @@
--- For the code: nothing here needs to be believed. The head of each module says which law joins it to the definitions.
-pub mod Sent
-pub mod Machine
+-- For the code: nothing here needs to be believed. The head of each module says which law joins it to the
+-- definitions.
+pub mod Bytes
+pub mod Next
+pub mod Judge
+pub mod Step
+pub mod Advance

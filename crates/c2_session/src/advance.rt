@@ -1,15 +1,16 @@
 // The session's successor by a reply.
 ghost use mathlib.Core.Path.{_≡_};
-ghost use Rattle.c2_session.specs.Code.Machine.{at, task-taken, replied-by, point-advanced, advanced, point-advanced-by, advanced-by};
-use c2_acts::Task;
-use c2_acts::task_of;
-use c2_wire::Place;
+ghost use Rattle.c2_session.specs.Code.Next.{at};
+ghost use Rattle.c2_session.specs.Code.Advance.{task-taken, replied-by, point-advanced, advanced, point-advanced-by, advanced-by};
 use crate::At;
 use crate::Point;
 use crate::Session;
-use crate::next::ended;
+use crate::next::end_point;
 use crate::step::alone;
-use crate::step::frame_of;
+use crate::step::task_frame;
+use c2_acts::Task;
+use c2_acts::task_of;
+use c2_wire::Place;
 use numbers::BAD_REPLY;
 
 impl Session {
@@ -18,17 +19,17 @@ impl Session {
         ensures { λ r. ⌜ r ≡ task-taken 20 256 task self at place one (now (image .entry)) ⌝ }
     {
         if alone(task) != 0 {
-            return self.onward(at);
+            return self.next_act(at);
         }
-        let moved = c2_wire::follow(frame_of(task), place, one, Session::WAIT_LIMIT);
-        self.settled(moved, task, at, place.count, image)
+        let moved = c2_wire::follow(task_frame(task), place, one, Session::WAIT_LIMIT);
+        self.frame_answered(moved, task, at, place.count, image)
     }
 
     fn taken(self, task: Task, at: At, place: Place, reply: u8, image: &[u8]) -> Point
         ensures { λ r. ⌜ r ≡ replied-by 20 256 task self at place reply (now (image .entry)) ⌝ }
     {
         if 1 < reply {
-            return ended(BAD_REPLY);
+            return end_point(BAD_REPLY);
         }
         self.task_taken(task, at, place, reply == 1, image)
     }

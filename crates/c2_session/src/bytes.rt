@@ -1,12 +1,12 @@
 // The byte that an act of the session sends or compares.
 ghost use mathlib.Core.Path.{_≡_};
 ghost use Prim.Native.Nat.{_+_, _*_, _%_, _<_};
-ghost use Rattle.c2_session.specs.Code.Sent.{block-offset, high-byte, lead-byte, erase-byte, block-byte, image-byte, sent-offset, compared-offset, write-byte, stage-byte, byte-of};
-ghost use Rattle.c2_session.specs.Code.Machine.{at};
-use c2_acts::Stage;
+ghost use Rattle.c2_session.specs.Code.Bytes.{block-offset, high-byte, lead-byte, erase-byte, block-byte, image-byte, sent-offset, compared-offset, write-byte, stage-byte, byte-of};
+ghost use Rattle.c2_session.specs.Code.Next.{at};
 use crate::At;
 use crate::Session;
 use crate::Wanted;
+use c2_acts::Stage;
 use settings::Settings;
 
 // The image offset of a page.
@@ -89,7 +89,8 @@ impl Session {
         0
     }
 
-    // A byte of a block's command that is not the image's. The low byte of the address and the length code are 0.
+    // A byte of a block's command that is not the image's. The low byte of the address and the length code
+    // are 0.
     fn block_byte(self, at: At, command: u8) -> u8
         ensures { λ r. ⌜ r ≡ block-byte self at command ⌝ }
     {

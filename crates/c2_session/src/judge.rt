@@ -1,19 +1,20 @@
 // What a reply makes of an act whose frame goes on, or is over: polls, status, ID and compare.
 ghost use mathlib.Core.Path.{_≡_};
 ghost use mathlib.Core.Bool.{cond};
-ghost use Rattle.c2_session.specs.Code.Sent.{image-byte, sent-offset};
-ghost use Rattle.c2_session.specs.Code.Machine.{at, running, ended, onward, again, differs, compared, compares, judged, sends-image, drives-image, wants, stays, settled};
-use c2_acts::Stage;
-use c2_acts::Task;
-use c2_wire::Moved;
-use c2_wire::Place;
+ghost use Rattle.c2_session.specs.Code.Bytes.{image-byte, sent-offset};
+ghost use Rattle.c2_session.specs.Code.Next.{strobe-point, end-point, next-act};
+ghost use Rattle.c2_session.specs.Code.Judge.{read-again, differs, compared, wanted-compared, frame-judged, sends-image, drives-image, wants, stays, frame-answered};
 use crate::At;
 use crate::Point;
 use crate::Session;
 use crate::Wanted;
 use crate::bytes::image_byte;
-use crate::next::ended;
-use crate::next::running;
+use crate::next::end_point;
+use crate::next::strobe_point;
+use c2_acts::Stage;
+use c2_acts::Task;
+use c2_wire::Moved;
+use c2_wire::Place;
 use numbers::BAD_STATUS;
 use numbers::COMPARE_DIFFERS;
 use numbers::NO_IMAGE_BYTE;
@@ -22,16 +23,16 @@ use numbers::POLL_LIMIT_REACHED;
 use numbers::WAIT_LIMIT_REACHED;
 
 // An unsatisfied read of a poll: the one that reaches the limit refuses.
-fn again(limit: usize, at: At, reads: usize) -> Point
-    ensures { λ r. ⌜ r ≡ again limit at reads ⌝ }
+fn read_again(limit: usize, at: At, reads: usize) -> Point
+    ensures { λ r. ⌜ r ≡ read-again limit at reads ⌝ }
 {
     if limit <= reads {
-        return ended(POLL_LIMIT_REACHED);
+        return end_point(POLL_LIMIT_REACHED);
     }
     if limit <= reads + 1 {
-        return ended(POLL_LIMIT_REACHED);
+        return end_point(POLL_LIMIT_REACHED);
     }
-    running(
+    strobe_point(
         at,
         Place {
             strobe: 0,
@@ -71,8 +72,8 @@ fn wants(wanted: Wanted, at: At, place: Place) -> Point
     ensures { λ r. ⌜ r ≡ wants wanted at place ⌝ }
 {
     match wanted {
-        Wanted::Byte(_) => running(at, place),
-        Wanted::Missing => ended(NO_IMAGE_BYTE),
+        Wanted::Byte(_) => strobe_point(at, place),
+        Wanted::Missing => end_point(NO_IMAGE_BYTE),
     }
 }
 
@@ -87,12 +88,12 @@ impl Session {
     }
 
     // A byte read back, beside the image's.
-    fn compares(self, wanted: Wanted, at: At, byte: usize) -> Point
-        ensures { λ r. ⌜ r ≡ compares wanted self at byte ⌝ }
+    fn wanted_compared(self, wanted: Wanted, at: At, byte: usize) -> Point
+        ensures { λ r. ⌜ r ≡ wanted-compared wanted self at byte ⌝ }
     {
         match wanted {
             Wanted::Byte(b) => self.compared(b, at, byte),
-            Wanted::Missing => ended(NO_IMAGE_BYTE),
+            Wanted::Missing => end_point(NO_IMAGE_BYTE),
         }
     }
 
@@ -100,32 +101,32 @@ impl Session {
         ensures { λ r. ⌜ r ≡ compared wanted self at byte ⌝ }
     {
         if byte == (wanted as usize) {
-            return self.onward(at);
+            return self.next_act(at);
         }
         self.differs(at)
     }
 
     fn expects(self, passes: bool, number: u32, at: At) -> Point
-        ensures { λ r. ⌜ r ≡ cond passes (onward self at) (ended number) ⌝ }
+        ensures { λ r. ⌜ r ≡ cond passes (next-act self at) (end-point number) ⌝ }
     {
         if passes {
-            return self.onward(at);
+            return self.next_act(at);
         }
-        ended(number)
+        end_point(number)
     }
 
     fn polled(self, passes: bool, at: At, reads: usize) -> Point
-        ensures { λ r. ⌜ r ≡ cond passes (onward self at) (again 256 at reads) ⌝ }
+        ensures { λ r. ⌜ r ≡ cond passes (next-act self at) (read-again 256 at reads) ⌝ }
     {
         if passes {
-            return self.onward(at);
+            return self.next_act(at);
         }
-        again(Session::POLL_LIMIT, at, reads)
+        read_again(Session::POLL_LIMIT, at, reads)
     }
 
     // The reply to a frame's STOP; the frame has given this byte.
-    fn judged(self, task: Task, at: At, reads: usize, byte: usize, image: &[u8]) -> Point
-        ensures { λ r. ⌜ r ≡ judged 256 task self at reads byte (now (image .entry)) ⌝ }
+    fn frame_judged(self, task: Task, at: At, reads: usize, byte: usize, image: &[u8]) -> Point
+        ensures { λ r. ⌜ r ≡ frame-judged 256 task self at reads byte (now (image .entry)) ⌝ }
     {
         let settings = self.settings;
         match task {
@@ -133,24 +134,25 @@ impl Session {
             Task::Output => self.polled(byte % 2 == 1, at, reads),
             Task::Status => self.expects(byte == 0x0d, BAD_STATUS, at),
             Task::Compare => {
-                self.compares(image_byte(image, self.compared_offset(at)), at, byte)
+                self.wanted_compared(image_byte(image, self.compared_offset(at)), at, byte)
             }
             Task::Ident => self.expects(byte == (settings.id as usize), OTHER_DEVICE, at),
-            Task::Reset => self.onward(at),
-            Task::Pause => self.onward(at),
-            Task::Address => self.onward(at),
-            Task::Send => self.onward(at),
+            Task::Reset => self.next_act(at),
+            Task::Pause => self.next_act(at),
+            Task::Address => self.next_act(at),
+            Task::Send => self.next_act(at),
         }
     }
 
-    // Another strobe of the same frame. In a block write the image must have the byte of which the strobe drives a bit.
+    // Another strobe of the same frame. In a block write the image must have the byte of which the strobe
+    // drives a bit.
     fn writes_on(self, at: At, place: Place, image: &[u8]) -> Point
-        ensures { λ r. ⌜ r ≡ cond (drives-image at place) (wants (image-byte (now (image .entry)) (sent-offset self at)) at place) (running at place) ⌝ }
+        ensures { λ r. ⌜ r ≡ cond (drives-image at place) (wants (image-byte (now (image .entry)) (sent-offset self at)) at place) (strobe-point at place) ⌝ }
     {
         if drives_image(at, place) {
             return wants(image_byte(image, self.sent_offset(at)), at, place);
         }
-        running(at, place)
+        strobe_point(at, place)
     }
 
     fn stays(self, stage: Stage, at: At, place: Place, image: &[u8]) -> Point
@@ -158,21 +160,28 @@ impl Session {
     {
         match stage {
             Stage::Write => self.writes_on(at, place, image),
-            Stage::Lead => running(at, place),
-            Stage::Erase => running(at, place),
-            Stage::Read => running(at, place),
-            Stage::Close => running(at, place),
+            Stage::Lead => strobe_point(at, place),
+            Stage::Erase => strobe_point(at, place),
+            Stage::Read => strobe_point(at, place),
+            Stage::Close => strobe_point(at, place),
         }
     }
 
-    pub(crate) fn settled(self, moved: Moved, task: Task, at: At, reads: usize, image: &[u8]) -> Point
-        ensures { λ r. ⌜ r ≡ settled 256 moved task self at reads (now (image .entry)) ⌝ }
+    pub(crate) fn frame_answered(
+        self,
+        moved: Moved,
+        task: Task,
+        at: At,
+        reads: usize,
+        image: &[u8],
+    ) -> Point
+        ensures { λ r. ⌜ r ≡ frame-answered 256 moved task self at reads (now (image .entry)) ⌝ }
     {
         let stage = at.stage;
         match moved {
             Moved::Within(place) => self.stays(stage, at, place, image),
-            Moved::Stopped(byte) => self.judged(task, at, reads, byte, image),
-            Moved::WaitLimit => ended(WAIT_LIMIT_REACHED),
+            Moved::Stopped(byte) => self.frame_judged(task, at, reads, byte, image),
+            Moved::WaitLimit => end_point(WAIT_LIMIT_REACHED),
         }
     }
 }

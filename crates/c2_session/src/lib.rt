@@ -1,15 +1,16 @@
-// A programming session as a value: settings, pages and the point reached in the session's order. Each reply turns a session into its
-// successor.
+// A programming session as a value: settings, pages and the point reached in the session's order. Each reply
+// turns a session into its successor.
 use c2_acts::Stage;
 use settings::Settings;
 
-mod bytes;
-mod next;
-mod judge;
 mod advance;
+mod bytes;
+mod judge;
+mod next;
 mod step;
 
-// An act of the order: its stage, the page of the image and the block of the page, and its number in the stage.
+// An act of the order: its stage, the page of the image and the block of the page, and its number in the
+// stage.
 pub struct At {
     pub stage: Stage,
     pub page: u16,
@@ -22,8 +23,8 @@ pub enum Wanted {
     Missing,
 }
 
-// The point that a session has reached: an act, the strobe in its frame, the zeros seen in a WAIT or the reads done in a poll, and the bits
-// sampled so far; or the outcome, with the image offset for 14.
+// The point that a session has reached: an act, the strobe in its frame, the zeros seen in a WAIT or the
+// reads done in a poll, and the bits sampled so far; or the outcome, with the image offset for 14.
 pub enum Point {
     Running {
         stage: Stage,

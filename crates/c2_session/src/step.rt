@@ -1,13 +1,14 @@
 // The step that the session waits at.
 ghost use mathlib.Core.Path.{_≡_};
-ghost use Rattle.c2_session.specs.Code.Machine.{at, alone, frame-of, sends, task-byte, task-step, point-step, step-of, point-step-by, step-by};
-use c2_acts::Task;
-use c2_acts::task_of;
-use c2_wire::Frame;
+ghost use Rattle.c2_session.specs.Code.Next.{at};
+ghost use Rattle.c2_session.specs.Code.Step.{alone, task-frame, task-sends, task-byte, task-step, point-step, session-step, point-step-by, step-by};
 use crate::At;
 use crate::Point;
 use crate::Session;
 use crate::bytes::byte_of;
+use c2_acts::Task;
+use c2_acts::task_of;
+use c2_wire::Frame;
 
 // The step of an act that stands in no frame, 0 for any other.
 pub(crate) fn alone(task: Task) -> u8
@@ -27,8 +28,8 @@ pub(crate) fn alone(task: Task) -> u8
 }
 
 // The frame of an act. One that stands in no frame is not asked for it.
-pub(crate) fn frame_of(task: Task) -> Frame
-    ensures { λ r. ⌜ r ≡ frame-of task ⌝ }
+pub(crate) fn task_frame(task: Task) -> Frame
+    ensures { λ r. ⌜ r ≡ task-frame task ⌝ }
 {
     match task {
         Task::Reset => Frame::AddressWrite,
@@ -44,8 +45,8 @@ pub(crate) fn frame_of(task: Task) -> Frame
 }
 
 // Whether an act's frame sends a byte.
-fn sends(task: Task) -> bool
-    ensures { λ r. ⌜ r ≡ sends task ⌝ }
+fn task_sends(task: Task) -> bool
+    ensures { λ r. ⌜ r ≡ task-sends task ⌝ }
 {
     match task {
         Task::Reset => false,
@@ -66,7 +67,7 @@ impl Session {
         ensures { λ r. ⌜ r ≡ task-byte task self at (now (image .entry)) ⌝ }
     {
         let stage = at.stage;
-        if sends(task) {
+        if task_sends(task) {
             return byte_of(self.stage_byte(stage, at, image));
         }
         0
@@ -79,7 +80,7 @@ impl Session {
         if step != 0 {
             return step;
         }
-        c2_wire::step(frame_of(task), self.task_byte(task, at, image), strobe)
+        c2_wire::step(task_frame(task), self.task_byte(task, at, image), strobe)
     }
 
     fn point_step(self, point: Point, image: &[u8]) -> u8
@@ -114,7 +115,7 @@ impl Session {
 
     // The step that the session waits at, lent its image: 6 once it has ended.
     pub fn step(self, image: &[u8]) -> u8
-        ensures { λ r. ⌜ r ≡ step-of self (now (image .entry)) ⌝ }
+        ensures { λ r. ⌜ r ≡ session-step self (now (image .entry)) ⌝ }
     {
         let point = self.point;
         self.point_step(point, image)

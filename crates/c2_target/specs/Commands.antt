@@ -1,4 +1,5 @@
--- The commands of the Programming Interface, from the target's side: what a byte put does, and the output (document 01, "The modelled target").
+-- The commands of the Programming Interface, from the target's side: what a byte put does, and the output
+-- (document 01, "The modelled target").
 use mathlib.Core.Bool.{Bool, true, false, cond}
 use mathlib.Core.List.{List, _++_}
 use Prim.Native.Nat.{ℕ, _+_, _-_, _*_}
@@ -47,7 +48,8 @@ opens b f =
     (cond (eqb b 0x06) (taken (High false) passed f)
     (taken Ready failed f)))
 
--- A byte put is the command's next byte. Output comes where the maker's note has a status; where the status is 0x00 the command ends.
+-- A byte put is the command's next byte. Output comes where the maker's note has a status; where the status
+-- is 0x00 the command ends.
 unfoldable pub takes : Settings → Command → (byte : ℕ) → List ℕ → Taken
 takes s Ready b f = opens b f
 -- a page past the end

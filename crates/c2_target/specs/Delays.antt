@@ -1,4 +1,5 @@
--- What the target is given besides its state, the flash and a step; and its delays (document 01, "The modelled target").
+-- What the target is given besides its state, the flash and a step; and its delays (document 01, "The
+-- modelled target").
 use mathlib.Core.Bool.{cond}
 use mathlib.Core.List.{List}
 use Prim.Native.Nat.{ℕ, _+_}
@@ -17,13 +18,13 @@ abbrev pub setup : Settings → (delays : List ℕ) → Setup
 setup s ds = record { settings = s; wait = 20; delays = ds }
 
 -- a place at or past the list's end is the start
-unfoldable pub within : List ℕ → (place : ℕ) → ℕ
-within ds p = cond (ltb p (length ds)) p 0
+unfoldable pub list-place : List ℕ → (place : ℕ) → ℕ
+list-place ds p = cond (ltb p (length ds)) p 0
 
 -- the delay at a place, 0 where the list is empty
 unfoldable pub delay : List ℕ → (place : ℕ) → ℕ
-delay ds p = getD ds (within ds p) 0
+delay ds p = getD ds (list-place ds p) 0
 
 -- the place after it: delays are taken in order
-unfoldable pub onward : List ℕ → (place : ℕ) → ℕ
-onward ds p = within ds p + 1
+unfoldable pub next-place : List ℕ → (place : ℕ) → ℕ
+next-place ds p = list-place ds p + 1

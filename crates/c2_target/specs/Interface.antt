@@ -1,5 +1,5 @@
--- The registers and the Programming Interface behind FPDAT: what reads show, and what a frame does at its STOP (document 01, "The modelled
--- target").
+-- The registers and the Programming Interface behind FPDAT: what reads show, and what a frame does at its
+-- STOP (document 01, "The modelled target").
 use mathlib.Core.Bool.{Bool, not, cond, _&&_}
 use mathlib.Core.List.{List}
 use Prim.Native.Nat.{ℕ, _+_, _-_, _*_}
@@ -12,7 +12,7 @@ use Rattle.c2_target.specs.declared.Effect.{Effect}
 use Rattle.c2_target.specs.declared.Effect.the-variants.{Nothing, SetAddress, Write, CountDown, Read}
 use Rattle.c2_target.specs.declared.Link.{Link}
 use Rattle.c2_target.specs.declared.Device.{Device}
-use Rattle.c2_target.specs.Delays.{Setup, delay, onward}
+use Rattle.c2_target.specs.Delays.{Setup, delay, next-place}
 use Rattle.c2_target.specs.Commands.{takes, some-output, first-byte, other-bytes}
 
 abbrev pub link : Command → Output → (busy late : ℕ) → Link
@@ -61,16 +61,17 @@ unfoldable pub late-of : List ℕ → Output → (place : ℕ) → ℕ
 late-of ds o p = cond (some-output o) (delay ds p) 0
 
 unfoldable pub place-after : List ℕ → Output → (place : ℕ) → ℕ
-place-after ds o p = cond (some-output o) (onward ds p) p
+place-after ds o p = cond (some-output o) (next-place ds p) p
 
 -- A byte put takes a delay d, then e. Output not yet read and what was left of d and e are dropped.
 unfoldable pub put-byte : Setup → Link → (byte place : ℕ) → List ℕ → Served
 put-byte u l b p f =
     let r = takes (u .settings) (l .command) b f in
-    let q = onward (u .delays) p in
+    let q = next-place (u .delays) p in
     served (link (r .command) (r .output) (delay (u .delays) p) (late-of (u .delays) (r .output) q)) (place-after (u .delays) (r .output) q) (r .flash)
 
--- A read takes the first byte of the output away, and where more waits a new e is taken; while OutReady is 0 it takes nothing.
+-- A read takes the first byte of the output away, and where more waits a new e is taken; while OutReady is 0
+-- it takes nothing.
 unfoldable pub get-byte : Setup → Link → (place : ℕ) → List ℕ → Served
 get-byte u l p f =
     let o = other-bytes (l .output) in
@@ -80,7 +81,8 @@ get-byte u l p f =
 unfoldable pub counted : Link → Link
 counted l = link (l .command) (l .output) (l .busy - 1) (cond (in-busy l) (l .late) (l .late - 1))
 
--- How many of the three key writes, 0x02, 0x04, 0x01 at address 0x02, the last Data Writes are, after one more.
+-- How many of the three key writes, 0x02, 0x04, 0x01 at address 0x02, the last Data Writes are, after one
+-- more.
 unfoldable pub next-keys : (address keys byte : ℕ) → ℕ
 next-keys a n b =
     cond (eqb a 0x02) (cond (eqb b 0x02) 1 (cond (eqb b 0x04 && eqb n 1) 2 (cond (eqb b 0x01 && eqb n 2) 3 0))) 0

@@ -1,5 +1,5 @@
--- The states that the target may be in, as bounds on their numbers; any other names a point that no frame or command has (document 01, number
--- 17).
+-- The states that the target may be in, as bounds on their numbers; any other names a point that no frame or
+-- command has (document 01, number 17).
 use mathlib.Core.Bool.{Bool, true, false, _&&_, _||_}
 use mathlib.Core.List.{List}
 use Prim.Native.Nat.{ℕ, _+_, _*_, _^_}
@@ -33,8 +33,8 @@ known-effect (Write b) = is-byte b
 known-effect CountDown = true
 known-effect Read = true
 
--- The bits that are sent after the WAIT of a frame that does this at its STOP: 8 by a Data Read, none by a write, and with LENGTH 1, 2 or 3
--- none or 16, 24 or 32. Frames of the address have no WAIT.
+-- The bits that are sent after the WAIT of a frame that does this at its STOP: 8 by a Data Read, none by a
+-- write, and with LENGTH 1, 2 or 3 none or 16, 24 or 32. Frames of the address have no WAIT.
 unfoldable pub after-its-wait : (left : ℕ) → Effect → Bool
 after-its-wait n Nothing = eqb n 0 || (eqb n 16 || (eqb n 24 || eqb n 32))
 after-its-wait n (SetAddress a) = false
@@ -93,7 +93,8 @@ known-output end (Block a n) = known-block end a n
 unfoldable pub known-link : (count end : ℕ) → Link → Bool
 known-link c end l = known-command c end (l .command) && (known-output end (l .output) && (is-byte (l .busy) && is-byte (l .late)))
 
--- the flash is size times count long, the address is a byte, at most three key writes are counted, and point and interface exist
+-- the flash is size times count long, the address is a byte, at most three key writes are counted, and point
+-- and interface exist
 unfoldable pub known : Setup → Target → List ℕ → Bool
 known u t f =
     let s = u .settings in

@@ -1,4 +1,5 @@
--- One strobe: what the target replies, and the strobe that comes next (document 01, "Frames" and "The modelled target").
+-- One strobe: what the target replies, and the strobe that comes next (document 01, "Frames" and "The
+-- modelled target").
 use mathlib.Core.Bool.{Bool, true, cond, _||_}
 use mathlib.Core.List.{List}
 use Prim.Native.Nat.{ℕ, _+_, _-_, _*_, _/_, _%_, _^_}
@@ -14,7 +15,7 @@ use Rattle.c2_target.specs.declared.Point.{Point}
 use Rattle.c2_target.specs.declared.Point.the-variants.{Start, Ins, WriteLength, ReadLength, Address, Data, LongData, Wait, Waiting, Send, Stop}
 use Rattle.c2_target.specs.declared.Device.{Device}
 use Rattle.c2_target.specs.declared.Target.{Target}
-use Rattle.c2_target.specs.Delays.{Setup, delay, onward}
+use Rattle.c2_target.specs.Delays.{Setup, delay, next-place}
 use Rattle.c2_target.specs.Interface.{shown, given, begun, does}
 
 abbrev pub target : Point → (place : ℕ) → (collision : Bool) → Device → Target
@@ -50,8 +51,8 @@ unfoldable pub sending : (left value : ℕ) → Effect → Point
 sending n v e = cond (eqb n 0) (Stop e) (Send n v e)
 
 -- INS tells the frame. The status bits that an Address Read shows are fixed at the last INS strobe.
-unfoldable pub begins : Settings → Device → (ins : ℕ) → Point
-begins s d v =
+unfoldable pub frame-begins : Settings → Device → (ins : ℕ) → Point
+frame-begins s d v =
     cond (eqb v (ins-code DataRead)) (ReadLength 0 0)
     (cond (eqb v (ins-code DataWrite)) (WriteLength 0 0)
     (cond (eqb v (ins-code AddressRead)) (sending 8 (shown s d) CountDown)
@@ -59,7 +60,7 @@ begins s d v =
 
 -- The point after n bits of a field with this value: INS,
 unfoldable pub after-ins : Settings → Device → (heard value : ℕ) → Point
-after-ins s d n v = cond (ltb n 2) (Ins n v) (begins s d v)
+after-ins s d n v = cond (ltb n 2) (Ins n v) (frame-begins s d v)
 
 -- LENGTH, which is one less than the number of bytes; only frames with LENGTH 0 write or read any,
 unfoldable pub after-write-length : (heard value : ℕ) → Point
@@ -111,7 +112,7 @@ strobed-at u (LongData n) t f x = hears t f x (after-long-data n)
 -- a WAIT takes a delay when it begins, and sends that many zeros modulo the limit
 strobed-at u (Wait n e) t f x =
     let z = delay (u .delays) (t .place) % u .wait in
-    shows (eqb z 0) t f x (after-wait u z n e (t .device) f) (onward (u .delays) (t .place)) (t .device)
+    shows (eqb z 0) t f x (after-wait u z n e (t .device) f) (next-place (u .delays) (t .place)) (t .device)
 strobed-at u (Waiting z n e) t f x = shows (eqb z 0) t f x (after-wait u z n e (t .device) f) (t .place) (t .device)
 strobed-at u (Send n v e) t f x = shows (odd v) t f x (sending (n - 1) (v / 2) e) (t .place) (t .device)
 -- a frame acts at its STOP

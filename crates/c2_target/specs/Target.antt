@@ -1,4 +1,5 @@
--- One step of the modelled target (document 01, "The modelled target"): strobes, the reset pulse, the wait of 20 ms, and the refusals.
+-- One step of the modelled target (document 01, "The modelled target"): strobes, the reset pulse, the wait of
+-- 20 ms, and the refusals.
 use mathlib.Core.Bool.{Bool, true, false, not, cond, _&&_, _||_}
 use mathlib.Core.List.{List}
 use Prim.Native.Nat.{ℕ}
@@ -45,7 +46,8 @@ between-frames (Waiting z n e) = false
 between-frames (Send n v e) = false
 between-frames (Stop e) = false
 
--- step 5 turns the interface on if the last Data Writes were the three key writes and no other frame has begun; elsewhere it changes nothing
+-- step 5 turns the interface on if the last Data Writes were the three key writes and no other frame has
+-- begun; elsewhere it changes nothing
 unfoldable pub keyed : Target → Bool
 keyed t = eqb (t .device .keys) 3 && between-frames (t .point)
 
@@ -66,8 +68,8 @@ stepped u t f off = turn true t f
 unfoldable pub is-step : ℕ → Bool
 is-step x = leb x 6 && not (eqb x 1)
 
-unfoldable pub step-of : ℕ → Step
-step-of x =
+unfoldable pub step-coded : ℕ → Step
+step-coded x =
     cond (eqb x 0) released
     (cond (eqb x 2) (driven false)
     (cond (eqb x 3) (driven true)
@@ -81,14 +83,15 @@ refusal u t f x =
     (cond (known u t f) (cond (is-step x) 0 no-step) no-point)
     (settings-refusal (u .settings))
 
--- What a step gives back by the number of its refusal, and the flash afterwards. A refused step changes nothing and replies 1.
+-- What a step gives back by the number of its refusal, and the flash afterwards. A refused step changes
+-- nothing and replies 1.
 abbrev pub answered : (number : ℕ) → Setup → Target → List ℕ → (step : ℕ) → Replied
 answered n u t f x =
-    let r = stepped u t f (step-of x) in
+    let r = stepped u t f (step-coded x) in
     cond (eqb n 0) (record { number = 0; reply = bit (r .reply); target = r .target }) (record { number = n; reply = 1; target = t })
 
 abbrev pub flash-left : (number : ℕ) → Setup → Target → List ℕ → (step : ℕ) → List ℕ
-flash-left n u t f x = cond (eqb n 0) (stepped u t f (step-of x) .flash) f
+flash-left n u t f x = cond (eqb n 0) (stepped u t f (step-coded x) .flash) f
 
 unfoldable pub answer : Setup → Target → List ℕ → (step : ℕ) → Replied
 answer u t f x = answered (refusal u t f x) u t f x

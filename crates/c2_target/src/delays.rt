@@ -1,6 +1,6 @@
 // The target's delays, taken from the list in order.
 ghost use mathlib.Core.Path.{_≡_};
-ghost use Rattle.c2_target.specs.Delays.{delay, onward};
+ghost use Rattle.c2_target.specs.Delays.{delay, next-place};
 
 pub(crate) fn wide(x: u8) -> usize
     ensures { λ r. ⌜ r ≡ x ⌝ }
@@ -22,8 +22,8 @@ pub(crate) fn delay(delays: &[u8], place: usize) -> usize
 }
 
 // The place after it.
-pub(crate) fn onward(delays: &[u8], place: usize) -> usize
-    ensures { λ r. ⌜ r ≡ onward (now (delays .entry)) place ⌝ }
+pub(crate) fn next_place(delays: &[u8], place: usize) -> usize
+    ensures { λ r. ⌜ r ≡ next-place (now (delays .entry)) place ⌝ }
 {
     if place < delays.len() {
         return place + 1;

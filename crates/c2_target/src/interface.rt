@@ -22,7 +22,7 @@ use crate::commands::other_bytes;
 use crate::commands::some_output;
 use crate::commands::takes;
 use crate::delays::delay;
-use crate::delays::onward;
+use crate::delays::next_place;
 use crate::delays::wide;
 use crate::flash::put_writes;
 use settings::Settings;
@@ -227,7 +227,7 @@ impl Target {
                     busy: busy,
                     late: delay(delays, place),
                 },
-                onward(delays, place),
+                next_place(delays, place),
             );
         }
         self.served(
@@ -256,7 +256,7 @@ impl Target {
             keys,
             takes(t, command, byte, flash),
             delay(delays, place),
-            onward(delays, place),
+            next_place(delays, place),
             delays,
         )
     }

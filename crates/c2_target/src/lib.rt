@@ -1,12 +1,12 @@
 // The modelled target: one step on the wire in, one reply out. It is lent its flash and its delays.
 
+mod commands;
 mod delays;
 mod flash;
-mod commands;
 mod interface;
-mod strobes;
 mod known;
 mod steps;
+mod strobes;
 
 pub use steps::step;
 pub use steps::step_on;
@@ -25,7 +25,8 @@ pub enum Effect {
     Read,
 }
 
-// The strobe that comes next, by its field. `heard` bits of a field go with their value so far; bits come and go lowest first.
+// The strobe that comes next, by its field. `heard` bits of a field go with their value so far; bits come and
+// go lowest first.
 pub enum Point {
     // between two frames: the next strobe is a START
     Start,
@@ -117,7 +118,8 @@ pub struct Link {
     pub late: usize,
 }
 
-// The address register, the interface on or off, how many of the three key writes the last Data Writes were, and the interface.
+// The address register, the interface on or off, how many of the three key writes the last Data Writes were,
+// and the interface.
 pub struct Device {
     pub address: usize,
     pub on: bool,

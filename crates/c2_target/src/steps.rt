@@ -177,7 +177,8 @@ fn still(number: u32, target: Target, x: u8) -> Replied
     accepted(target)
 }
 
-// One step of the target: what it gives back, and the flash afterwards. A refused step changes nothing and replies 1.
+// One step of the target: what it gives back, and the flash afterwards. A refused step changes nothing and
+// replies 1.
 pub fn step(t: Settings, target: Target, flash: &mut [u8], delays: &[u8], x: u8) -> Replied
     ensures { λ r. ⌜ r ≡ answer (setup t (now (delays .entry))) target (now (flash .entry)) x ⌝ }
     ensures { λ r. ⌜ now (flash .exit) ≡ flash-after (setup t (now (delays .entry))) target (now (flash .entry)) x ⌝ }
@@ -193,7 +194,8 @@ pub fn step(t: Settings, target: Target, flash: &mut [u8], delays: &[u8], x: u8)
     still(number, target, x)
 }
 
-// The same for a caller that hands the target on from step to step, and need not have all of it tested at each.
+// The same for a caller that hands the target on from step to step, and need not have all of it tested at
+// each.
 pub fn step_on(t: Settings, target: Target, flash: &mut [u8], delays: &[u8], x: u8) -> Replied
     ensures { λ r. ⌜ r ≡ answer-on (setup t (now (delays .entry))) target (now (flash .entry)) x ⌝ }
     ensures { λ r. ⌜ now (flash .exit) ≡ flash-on (setup t (now (delays .entry))) target (now (flash .entry)) x ⌝ }

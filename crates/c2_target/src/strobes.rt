@@ -9,25 +9,25 @@ ghost use Rattle.c2_wire.specs.Bits.{bit};
 ghost use Rattle.c2_target.specs.declared.Point.the-variants.{Start, Wait, Waiting, Send};
 ghost use Rattle.c2_target.specs.Delays.{setup};
 ghost use Rattle.c2_target.specs.Interface.{link, device};
-ghost use Rattle.c2_target.specs.Strobes.{target, line, marked, with-bit, sending, begins, after-ins, after-write-length, after-read-length, after-address, after-data, after-long-data, value-sent, after-wait, hears, strobed-at, strobed};
+ghost use Rattle.c2_target.specs.Strobes.{target, line, marked, with-bit, sending, frame-begins, after-ins, after-write-length, after-read-length, after-address, after-data, after-long-data, value-sent, after-wait, hears, strobed-at, strobed};
 ghost use Rattle.c2_target.specs.Known.{known-effect, known-link};
-ghost use Rattle.c2_target.specs.Target.{step-of};
+ghost use Rattle.c2_target.specs.Target.{step-coded};
 ghost use Rattle.c2_target.specs.Code.StepOn.{known-on};
-ghost use Rattle.c2_target.specs.Code.Parts.{replying, replied, strobe-flash};
+ghost use Rattle.c2_target.specs.Code.Parts.{replying, turn-replied, strobe-flash};
 use crate::Device;
 use crate::Effect;
 use crate::Point;
 use crate::Replied;
 use crate::Target;
 use crate::delays::delay;
-use crate::delays::onward;
+use crate::delays::next_place;
 use crate::interface::effect_writes;
 use crate::interface::less;
 use settings::Settings;
 
 // The bit on the line in a strobe of the master's: a released one reads 1.
 fn line(x: u8) -> u32
-    ensures { λ r. ⌜ r ≡ bit (line (step-of x)) ⌝ }
+    ensures { λ r. ⌜ r ≡ bit (line (step-coded x)) ⌝ }
 {
     if x == 2 {
         return 0;
@@ -37,7 +37,7 @@ fn line(x: u8) -> u32
 
 // Driving a strobe that is not the master's sets the mark for good.
 fn marked(x: u8, collision: bool) -> bool
-    ensures { λ r. ⌜ r ≡ marked (step-of x) collision ⌝ }
+    ensures { λ r. ⌜ r ≡ marked (step-coded x) collision ⌝ }
 {
     if x == 2 {
         return true;
@@ -52,7 +52,7 @@ fn marked(x: u8, collision: bool) -> bool
 fn with_bit(heard: usize, value: usize, x: u8) -> usize
     requires { ⌜ heard < 8 ⌝ }
     requires { ⌜ value < 256 ⌝ }
-    ensures { λ r. ⌜ r ≡ with-bit heard value (step-of x) ⌝ }
+    ensures { λ r. ⌜ r ≡ with-bit heard value (step-coded x) ⌝ }
     ensures { λ r. ⌜ r < 512 ⌝ }
 {
     if x == 2 {
@@ -76,8 +76,8 @@ fn sending(left: usize, value: usize, effect: Effect) -> Point
 }
 
 // INS tells the frame.
-fn begins(t: Settings, device: Device, ins: usize) -> Point
-    ensures { λ r. ⌜ r ≡ begins t device ins ⌝ }
+fn frame_begins(t: Settings, device: Device, ins: usize) -> Point
+    ensures { λ r. ⌜ r ≡ frame-begins t device ins ⌝ }
 {
     if ins == 0 {
         return Point::ReadLength { heard: 0, value: 0 };
@@ -101,7 +101,7 @@ fn after_ins(t: Settings, device: Device, heard: usize, value: usize) -> Point
             value: value,
         };
     }
-    begins(t, device, value)
+    frame_begins(t, device, value)
 }
 
 // LENGTH of a Data Write,
@@ -235,7 +235,7 @@ fn ends(zeros: usize) -> u32
 impl Target {
     // A strobe of the master's: the reply is the bit on the line, and only the point moves on.
     fn hears(self, x: u8, point: Point) -> Replied
-        ensures { λ r. ⌜ r ≡ replied (hears self [] (step-of x) point) ⌝ }
+        ensures { λ r. ⌜ r ≡ turn-replied (hears self [] (step-coded x) point) ⌝ }
     {
         let device = self.device;
         Replied {
@@ -253,7 +253,7 @@ impl Target {
     fn hears_ins(self, t: Settings, heard: usize, value: usize, x: u8) -> Replied
         requires { ⌜ heard < 8 ⌝ }
         requires { ⌜ value < 256 ⌝ }
-        ensures { λ r. ⌜ r ≡ replied (strobed-at (setup t []) (Point.Ins heard value) self [] (step-of x)) ⌝ }
+        ensures { λ r. ⌜ r ≡ turn-replied (strobed-at (setup t []) (Point.Ins heard value) self [] (step-coded x)) ⌝ }
     {
         let device = self.device;
         self.hears(
@@ -265,7 +265,7 @@ impl Target {
     fn hears_write_length(self, heard: usize, value: usize, x: u8) -> Replied
         requires { ⌜ heard < 8 ⌝ }
         requires { ⌜ value < 256 ⌝ }
-        ensures { λ r. ⌜ ((t : Settings) → r ≡ replied (strobed-at (setup t []) (Point.WriteLength heard value) self [] (step-of x))) ⌝ }
+        ensures { λ r. ⌜ ((t : Settings) → r ≡ turn-replied (strobed-at (setup t []) (Point.WriteLength heard value) self [] (step-coded x))) ⌝ }
     {
         self.hears(x, after_write_length(heard + 1, with_bit(heard, value, x)))
     }
@@ -273,7 +273,7 @@ impl Target {
     fn hears_read_length(self, heard: usize, value: usize, x: u8) -> Replied
         requires { ⌜ heard < 8 ⌝ }
         requires { ⌜ value < 256 ⌝ }
-        ensures { λ r. ⌜ ((t : Settings) → r ≡ replied (strobed-at (setup t []) (Point.ReadLength heard value) self [] (step-of x))) ⌝ }
+        ensures { λ r. ⌜ ((t : Settings) → r ≡ turn-replied (strobed-at (setup t []) (Point.ReadLength heard value) self [] (step-coded x))) ⌝ }
     {
         self.hears(x, after_read_length(heard + 1, with_bit(heard, value, x)))
     }
@@ -281,7 +281,7 @@ impl Target {
     fn hears_address(self, heard: usize, value: usize, x: u8) -> Replied
         requires { ⌜ heard < 8 ⌝ }
         requires { ⌜ value < 256 ⌝ }
-        ensures { λ r. ⌜ ((t : Settings) → r ≡ replied (strobed-at (setup t []) (Point.Address heard value) self [] (step-of x))) ⌝ }
+        ensures { λ r. ⌜ ((t : Settings) → r ≡ turn-replied (strobed-at (setup t []) (Point.Address heard value) self [] (step-coded x))) ⌝ }
     {
         self.hears(x, after_address(heard + 1, with_bit(heard, value, x)))
     }
@@ -289,14 +289,14 @@ impl Target {
     fn hears_data(self, heard: usize, value: usize, x: u8) -> Replied
         requires { ⌜ heard < 8 ⌝ }
         requires { ⌜ value < 256 ⌝ }
-        ensures { λ r. ⌜ ((t : Settings) → r ≡ replied (strobed-at (setup t []) (Point.Data heard value) self [] (step-of x))) ⌝ }
+        ensures { λ r. ⌜ ((t : Settings) → r ≡ turn-replied (strobed-at (setup t []) (Point.Data heard value) self [] (step-coded x))) ⌝ }
     {
         self.hears(x, after_data(heard + 1, with_bit(heard, value, x)))
     }
 
     // A strobe of the target's. A drive sets the mark and has no other effect.
     fn shows(self, reply: u32, x: u8, point: Point, place: usize, device: Device) -> Replied
-        ensures { λ r. ⌜ r ≡ replying reply (target point place (marked (step-of x) (self .collision)) device) ⌝ }
+        ensures { λ r. ⌜ r ≡ replying reply (target point place (marked (step-coded x) (self .collision)) device) ⌝ }
     {
         Replied {
             number: 0,
@@ -311,7 +311,7 @@ impl Target {
     }
 
     fn starts(self, x: u8) -> Replied
-        ensures { λ r. ⌜ ((t : Settings) → r ≡ replied (strobed-at (setup t []) Start self [] (step-of x))) ⌝ }
+        ensures { λ r. ⌜ ((t : Settings) → r ≡ turn-replied (strobed-at (setup t []) Start self [] (step-coded x))) ⌝ }
     {
         let device = self.device;
         self.shows(
@@ -333,7 +333,7 @@ impl Target {
         delays: &[u8],
         x: u8,
     ) -> Replied
-        ensures { λ r. ⌜ r ≡ replied (strobed-at (setup t (now (delays .entry))) (Wait left effect) self (now (flash .entry)) (step-of x)) ⌝ }
+        ensures { λ r. ⌜ r ≡ turn-replied (strobed-at (setup t (now (delays .entry))) (Wait left effect) self (now (flash .entry)) (step-coded x)) ⌝ }
     {
         let device = self.device;
         let place = self.place;
@@ -342,7 +342,7 @@ impl Target {
             ends(zeros),
             x,
             after_wait(t, zeros, left, effect, device, flash),
-            onward(delays, place),
+            next_place(delays, place),
             device,
         )
     }
@@ -356,7 +356,7 @@ impl Target {
         flash: &[u8],
         x: u8,
     ) -> Replied
-        ensures { λ r. ⌜ ((ds : List ℕ) → r ≡ replied (strobed-at (setup t ds) (Waiting zeros left effect) self (now (flash .entry)) (step-of x))) ⌝ }
+        ensures { λ r. ⌜ ((ds : List ℕ) → r ≡ turn-replied (strobed-at (setup t ds) (Waiting zeros left effect) self (now (flash .entry)) (step-coded x))) ⌝ }
     {
         let device = self.device;
         self.shows(
@@ -369,7 +369,7 @@ impl Target {
     }
 
     fn sends(self, left: usize, value: usize, effect: Effect, x: u8) -> Replied
-        ensures { λ r. ⌜ ((t : Settings) → r ≡ replied (strobed-at (setup t []) (Send left value effect) self [] (step-of x))) ⌝ }
+        ensures { λ r. ⌜ ((t : Settings) → r ≡ turn-replied (strobed-at (setup t []) (Send left value effect) self [] (step-coded x))) ⌝ }
     {
         let device = self.device;
         self.shows(
@@ -384,7 +384,7 @@ impl Target {
     fn stops(self, t: Settings, effect: Effect, flash: &[u8], delays: &[u8], x: u8) -> Replied
         requires { ⌜ known-link (t .count) (length (now flash)) (self .device .link) ≡ true ⌝ }
         requires { ⌜ known-effect effect ≡ true ⌝ }
-        ensures { λ r. ⌜ r ≡ replied (strobed-at (setup t (now (delays .entry))) (Point.Stop effect) self (now (flash .entry)) (step-of x)) ⌝ }
+        ensures { λ r. ⌜ r ≡ turn-replied (strobed-at (setup t (now (delays .entry))) (Point.Stop effect) self (now (flash .entry)) (step-coded x)) ⌝ }
     {
         let target = self.does(t, effect, flash, delays);
         let device = target.device;
@@ -394,7 +394,7 @@ impl Target {
     // A strobe, by the point.
     pub(crate) fn strobed(self, t: Settings, flash: &[u8], delays: &[u8], x: u8) -> Replied
         requires { ⌜ known-on (setup t []) self (now flash) ≡ true ⌝ }
-        ensures { λ r. ⌜ r ≡ replied (strobed (setup t (now (delays .entry))) self (now (flash .entry)) (step-of x)) ⌝ }
+        ensures { λ r. ⌜ r ≡ turn-replied (strobed (setup t (now (delays .entry))) self (now (flash .entry)) (step-coded x)) ⌝ }
     {
         let point = self.point;
         match point {

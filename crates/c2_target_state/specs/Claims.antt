@@ -28,7 +28,8 @@ Has-state = (t : Target) (s : State) → target-of s ≡ Held t → state-of t �
 abbrev pub One-state : Type 0
 One-state = (t : Target) (a b : State) → target-of a ≡ Held t → target-of b ≡ Held t → a ≡ b
 
--- A step on the state of a target that exists is the target's step: number and reply, the state, and the flash.
+-- A step on the state of a target that exists is the target's step: number and reply, the state, and the
+-- flash.
 abbrev pub state-answer : Replied → ModelReplied
 state-answer r = gives (r .number) (r .reply) (state-of (r .target))
 

@@ -1,2 +1,3 @@
--- For the code: nothing here needs to be believed. The head of each module says which law joins it to the definitions.
+-- For the code: nothing here needs to be believed. The head of each module says which law joins it to the
+-- definitions.
 pub mod Form

@@ -135,8 +135,8 @@ later-point s =
     (cond (eqb (s .point) 9) (Send (s .left) (s .value) e)
     (Stop e))))
 
-unfoldable pub point-of : State → Point
-point-of s =
+unfoldable pub state-point : State → Point
+state-point s =
     cond (eqb (s .point) 0) Start
     (cond (eqb (s .point) 1) (Ins (s .heard) (s .value))
     (cond (eqb (s .point) 2) (WriteLength (s .heard) (s .value))
@@ -169,7 +169,7 @@ output-of s =
 -- and the target.
 unfoldable pub target-read : State → Target
 target-read s =
-    target (point-of s) (s .place) (eqb (s .collision) 1)
+    target (state-point s) (s .place) (eqb (s .collision) 1)
     (device (s .address) (eqb (s .on) 1) (s .keys) (link (command-of s) (output-of s) (s .busy) (s .late)))
 
 -- Two states are the same, number by number.
@@ -200,7 +200,7 @@ same-output a b =
 unfoldable pub same-state : State → State → Bool
 same-state a b = same-point a b && (same-device a b && (same-command a b && same-output a b))
 
--- The target of which this is the state. A tag that does not exist, a truth value above 1 and a number that is not in use and not 0 are of
--- none: no target has them in its state.
+-- The target of which this is the state. A tag that does not exist, a truth value above 1 and a number that
+-- is not in use and not 0 are of none: no target has them in its state.
 unfoldable pub target-of : State → Seen
 target-of s = cond (same-state (state-of (target-read s)) s) (seen.Held (target-read s)) seen.Nothing

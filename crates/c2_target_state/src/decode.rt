@@ -1,6 +1,9 @@
 // The target that a state's numbers say.
 ghost use mathlib.Core.Path.{_≡_};
-ghost use Rattle.c2_target_state.specs.State.{effect-of, point-of, command-of, output-of, later-point, target-read};
+ghost use Rattle.c2_target_state.specs.State.{effect-of, state-point, command-of, output-of, later-point, target-read};
+use crate::State;
+use crate::fields::wide;
+use crate::fields::wide16;
 use c2_target::Command;
 use c2_target::Device;
 use c2_target::Effect;
@@ -8,9 +11,6 @@ use c2_target::Link;
 use c2_target::Output;
 use c2_target::Point;
 use c2_target::Target;
-use crate::State;
-use crate::fields::wide16;
-use crate::fields::wide;
 
 // What the numbers of any state say, in range or not: what the frame does at its STOP,
 fn effect_of(effect: u8, byte: u8) -> Effect
@@ -64,7 +64,7 @@ fn later_point(s: State) -> Point
 
 // and any point,
 fn point_of(s: State) -> Point
-    ensures { λ r. ⌜ r ≡ point-of s ⌝ }
+    ensures { λ r. ⌜ r ≡ state-point s ⌝ }
 {
     if s.point == 0 {
         return Point::Start;

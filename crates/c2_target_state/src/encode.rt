@@ -1,11 +1,6 @@
 // The state of a target: its numbers, those that are not in use 0.
 ghost use mathlib.Core.Path.{_≡_};
 ghost use Rattle.c2_target_state.specs.State.{effect-code, effect-byte, fields, point-fields, command-fields, output-fields, command-numbers, output-numbers, state-of};
-use c2_target::Command;
-use c2_target::Effect;
-use c2_target::Output;
-use c2_target::Point;
-use c2_target::Target;
 use crate::CommandFields;
 use crate::OutputFields;
 use crate::PointFields;
@@ -13,6 +8,11 @@ use crate::State;
 use crate::fields::flag;
 use crate::fields::low;
 use crate::fields::word;
+use c2_target::Command;
+use c2_target::Effect;
+use c2_target::Output;
+use c2_target::Point;
+use c2_target::Target;
 
 fn effect_code(effect: Effect) -> u8
     ensures { λ r. ⌜ r ≡ effect-code effect ⌝ }

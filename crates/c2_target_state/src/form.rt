@@ -3,8 +3,8 @@
 ghost use mathlib.Core.Path.{_≡_};
 ghost use Rattle.c2_target_state.specs.Code.Form.{none, effect-in-form, later-in-form, point-in-form, early-in-form, command-in-form, output-in-form, in-form};
 use crate::State;
-use crate::fields::wide16;
 use crate::fields::wide;
+use crate::fields::wide16;
 
 // All of these are 0.
 fn none(a: u8, b: u8, c: u8, d: u8) -> bool
@@ -145,7 +145,8 @@ fn output_in_form(output: u8, passed: u8, next: u16, count: u16) -> bool
     false
 }
 
-// Tags exist, truth values are 0 or 1, and numbers that are not in use are 0: so this is the state of the target that it says.
+// Tags exist, truth values are 0 or 1, and numbers that are not in use are 0: so this is the state of the
+// target that it says.
 pub(crate) fn in_form(s: State) -> bool
     ensures { λ r. ⌜ r ≡ in-form s ⌝ }
 {

@@ -1,9 +1,10 @@
-// The modelled target for C: its state is a struct of plain numbers, handed in and back by value. Nothing else is kept between steps.
+// The modelled target for C: its state is a struct of plain numbers, handed in and back by value. Nothing
+// else is kept between steps.
 use c2_target::Target;
 
-mod fields;
-mod encode;
 mod decode;
+mod encode;
+mod fields;
 mod form;
 mod model;
 
@@ -20,8 +21,9 @@ pub struct State {
     // output: the address of the next byte, and the bytes still to be read
     pub next: u16,
     pub count: u16,
-    // the strobe that comes next, by its field: 0 START, 1 INS, 2 LENGTH of a Data Write, 3 of a Data Read, 4 a written ADDRESS, 5 DATA of one
-    // byte, 6 DATA of more, 7 the first strobe of a WAIT, 8 a later one, 9 a bit that the target sends, 10 STOP
+    // the strobe that comes next, by its field: 0 START, 1 INS, 2 LENGTH of a Data Write, 3 of a Data Read, 4
+    // a written ADDRESS, 5 DATA of one byte, 6 DATA of more, 7 the first strobe of a WAIT, 8 a later one, 9 a
+    // bit that the target sends, 10 STOP
     pub point: u8,
     // the bits of the field heard so far, and their value, or the value that is left to be sent
     pub heard: u8,
@@ -29,7 +31,8 @@ pub struct State {
     // the bits still to come, and the zeros before the 1 of a WAIT
     pub left: u8,
     pub zeros: u8,
-    // what the frame does at its STOP: 0 nothing, 1 sets the address, 2 writes a byte, 3 counts an Address Read, 4 reads; and that byte
+    // what the frame does at its STOP: 0 nothing, 1 sets the address, 2 writes a byte, 3 counts an Address
+    // Read, 4 reads; and that byte
     pub effect: u8,
     pub byte: u8,
     // 1 once the master has driven a strobe of the target's
@@ -38,14 +41,15 @@ pub struct State {
     pub address: u8,
     pub on: u8,
     pub keys: u8,
-    // the byte that the command waits for: 0 a new command, 1 the page of an erase, 2 its 0x00, 3 a block's high byte, 4 its low byte, 5 its
-    // length code, 6 a byte to write, 7 a byte past the end
+    // the byte that the command waits for: 0 a new command, 1 the page of an erase, 2 its 0x00, 3 a block's
+    // high byte, 4 its low byte, 5 its length code, 6 a byte to write, 7 a byte past the end
     pub command: u8,
     // 1 for a block write; the page; the high byte
     pub write: u8,
     pub page: u8,
     pub high: u8,
-    // output that waits: 0 none, 1 a status, 2 the status and then a block, 3 a block; and whether the status is 0x0D
+    // output that waits: 0 none, 1 a status, 2 the status and then a block, 3 a block; and whether the status
+    // is 0x0D
     pub output: u8,
     pub passed: u8,
     // what is left of the delays d and e

@@ -9,7 +9,7 @@ use Rattle.settings.specs.declared.Settings.{Settings}
 use Rattle.c2_record.specs.declared.Unpacked.{Unpacked}
 use Rattle.c2_record.specs.declared.Unpacked.the-variants.{Held, Refused}
 use Rattle.c2_record.specs.Record.{packed, unpacked}
-use Rattle.c2_opening.specs.Opened.{opened-session, exchange-at, after-replies}
+use Rattle.c2_opening.specs.Opened.{opened-session, exchange-at, session-fed}
 use Rattle.c2.specs.declared.Opened.{Opened}
 use Rattle.c2.specs.declared.Advanced.{Advanced}
 use Rattle.c2.specs.declared.Remaining.{Remaining}
@@ -42,7 +42,7 @@ untouched (asking r) n = record { number = n; steps = 0 }
 abbrev pub takes : Unpacked → (held image replies buffer : List ℕ) → (place : ℕ) → Taking-done
 takes (Held s) r image rs buffer place =
     let e = exchange-at s image in
-    record { answer = taken-answer e rs; steps = steps-written e rs place buffer; held = packed (after-replies s image rs) }
+    record { answer = taken-answer e rs; steps = steps-written e rs place buffer; held = packed (session-fed s image rs) }
 takes Refused r image rs buffer place = untouched (taking r image rs buffer place) 0
 
 unfoldable pub does : (c : Call) → Done c

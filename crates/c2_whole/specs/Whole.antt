@@ -21,7 +21,8 @@ use Rattle.c2_calls.specs.Calls.{Call, opening, refusal, Told, by-replies}
 use Rattle.exchange.specs.Calls.{heard, told, in-a-row, May-follow, Refused-unchanged}
 use Rattle.c2_whole.specs.Family.{C2}
 
--- THE JOB. A device's settings, the numbers of the pages to be programmed, and the image, page by page in that order.
+-- THE JOB. A device's settings, the numbers of the pages to be programmed, and the image, page by page in
+-- that order.
 pub record Job : Type 0 where
   pub settings : Settings
   pub pages : List ℕ
@@ -80,14 +81,16 @@ unfoldable pub given : Settings → Bench → (steps : List ℕ) → Bench
 given t b [] = b
 given t b (x ∷ xs) = given t (stepped t b x) xs
 
--- one that a session may meet: no step of it is refused (step 6 changes nothing), no collision is marked, flash and delays are bytes
+-- one that a session may meet: no step of it is refused (step 6 changes nothing), no collision is marked,
+-- flash and delays are bytes
 pub record Ready (t : Settings) (b : Bench) : Type 0 where
   pub steps : model-answer t (b .target) (b .flash) (b .delays) (code off) .number ≡ 0
   pub unmarked : b .target .collision ≡ 0
   pub flash : Bytes (b .flash)
   pub delays : Bytes (b .delays)
 
--- THE CLAIM. What the target is sent, as the calls tell it: the opening's step, 4, then the steps that were written.
+-- THE CLAIM. What the target is sent, as the calls tell it: the opening's step, 4, then the steps that were
+-- written.
 abbrev pub sent : Told → List ℕ
 sent x = code reset ∷ x .steps
 
@@ -95,11 +98,13 @@ sent x = code reset ∷ x .steps
 abbrev pub Own : Settings → Bench → Told → (replies : List ℕ) → Type 0
 Own t b x rs = take (x .taken) rs ≡ replies t b (take (x .taken) (sent x))
 
--- Against a target, told this at the opening and this after calls with these replies. However many of the steps it has got, the target is one that
--- another session may meet. With as many replies as the most steps to come at the opening the session has ended. Once it has ended, it has ended
--- done, and the target, by then or with the last step too, holds the image in the named pages, and every other byte as it was.
--- Cut after n steps: a page not named, or not yet begun, is as before, one whose read-back has ended holds its image, and at most one is under way
--- (`Cut`); and a new session over the same pages, to which `ready` and this whole claim apply, comes to the same as if there had been none before.
+-- Against a target, told this at the opening and this after calls with these replies. However many of the
+-- steps it has got, the target is one that another session may meet. With as many replies as the most steps
+-- to come at the opening the session has ended. Once it has ended, it has ended done, and the target, by then
+-- or with the last step too, holds the image in the named pages, and every other byte as it was. Cut after n
+-- steps: a page not named, or not yet begun, is as before, one whose read-back has ended holds its image, and
+-- at most one is under way (`Cut`); and a new session over the same pages, to which `ready` and this whole
+-- claim apply, comes to the same as if there had been none before.
 pub record Against (j : Job) (b : Bench) (start x : Told) (rs : List ℕ) : Type 0 where
   pub ready : (n : ℕ) → Ready (j .settings) (given (j .settings) b (take n (sent x)))
   pub ends : start .left ≤ length rs → x .outcome ≡ outcome done
@@ -110,8 +115,8 @@ pub record Against (j : Job) (b : Bench) (start x : Told) (rs : List ℕ) : Type
   pub again : (n : ℕ) → n ≤ suc (x .taken) → (held image : List ℕ) → Begins held (anew j image)
       → programmed (anew j image) (given (j .settings) b (take n (sent x)) .flash) ≡ programmed (anew j image) (b .flash)
 
--- Of a list of calls: each refused one changes no byte that it is lent and takes no reply; what the calls tell is what the replies in a row come to;
--- and where these are the target's own, the above.
+-- Of a list of calls: each refused one changes no byte that it is lent and takes no reply; what the calls
+-- tell is what the replies in a row come to; and where these are the target's own, the above.
 pub record Whole (j : Job) (start x : Told) (calls : List Call) : Type 0 where
   pub refused : Refused-unchanged C2
   pub told-is : x ≡ by-replies (j .settings) (first-of (j .pages)) (j .image) (in-a-row C2 calls)
@@ -123,7 +128,8 @@ Calls-program = (j : Job) (held : List ℕ) (before : Told) (calls : List Call) 
     → May-follow C2 (j .image) (heard C2 before (opens held j)) calls
     → Whole j (heard C2 before (opens held j)) (told C2 before (opens held j ∷ calls)) calls
 
--- There are such lists, so the claim is about something: whatever the target, some calls take its own replies to the end.
+-- There are such lists, so the claim is about something: whatever the target, some calls take its own replies
+-- to the end.
 pub record Some-calls (j : Job) (held : List ℕ) (before : Told) (b : Bench) : Type 0 where
   pub calls : List Call
   pub follow : May-follow C2 (j .image) (heard C2 before (opens held j)) calls

@@ -54,7 +54,8 @@ unfoldable pub asks : Exchange → ℕ
 unfolding said
 asks e = byte (said e)
 
--- the steps that replies in a row bring, one for each reply taken: the reply that ends the exchange brings 6, and none is taken after it
+-- the steps that replies in a row bring, one for each reply taken: the reply that ends the exchange brings 6,
+-- and none is taken after it
 unfoldable pub steps : Exchange → (replies : List ℕ) → List ℕ
 unfolding brought asks after
 steps e rs = map byte (brought read e rs)

@@ -1,5 +1,5 @@
--- The four frames with one data byte (document 01, "Frames"; the maker's note, 2.3), each as the list of its strobes, and the exchange of
--- such a list.
+-- The four frames with one data byte (document 01, "Frames"; the maker's note, 2.3), each as the list of its
+-- strobes, and the exchange of such a list.
 use mathlib.Core.Bool.{cond}
 use mathlib.Core.List.{List, [], _∷_, _++_, map}
 use Prim.Native.Nat.{ℕ, zero, suc, _+_, _*_, _^_}
@@ -50,7 +50,8 @@ unfoldable pub waiting : (left : ℕ) → Exchange → Exchange
 waiting zero k = ended (outcome wait-limit-reached)
 waiting (suc n) k = strobe WAIT released (λ b. cond b k (waiting n k))
 
--- the exchange of the strobes of a frame, where n bits of value v are sampled already; what follows takes the byte sampled
+-- the exchange of the strobes of a frame, where n bits of value v are sampled already; what follows takes the
+-- byte sampled
 unfoldable pub strobes : (wait-limit : ℕ) → List Strobe → (n v : ℕ) → (ℕ → Exchange) → Exchange
 strobes l [] n v k = k v
 strobes l (plain f s ∷ ss) n v k = strobe f s (λ b. strobes l ss n v k)

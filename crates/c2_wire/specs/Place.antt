@@ -1,5 +1,5 @@
--- A place in a frame: the step there, what a reply makes of it, the exchange that is left there and the most strobes of it, and how far a place's
--- numbers go.
+-- A place in a frame: the step there, what a reply makes of it, the exchange that is left there and the most
+-- strobes of it, and how far a place's numbers go.
 use mathlib.Core.Bool.{Bool, cond}
 use mathlib.Core.List.{List, [], _∷_}
 use Prim.Native.Nat.{ℕ, suc, _+_, _-_, _*_, _^_, _%_}
@@ -22,14 +22,14 @@ place i c v = record { strobe = i; count = c; bits = v }
 abbrev pub strobe-at : List Strobe → ℕ → Strobe
 strobe-at ss i = getD ss i (plain STOP released)
 
-unfoldable pub step-of : Strobe → Step
-step-of (plain f s) = s
-step-of (sampled f) = released
-step-of waits = released
+unfoldable pub strobe-step : Strobe → Step
+strobe-step (plain f s) = s
+strobe-step (sampled f) = released
+strobe-step waits = released
 
 -- the byte of the step at a place
 unfoldable pub step-at : List Strobe → ℕ → ℕ
-step-at ss i = code (step-of (strobe-at ss i))
+step-at ss i = code (strobe-step (strobe-at ss i))
 
 -- how many of the strobes are sampled
 unfoldable pub samples : List Strobe → ℕ
@@ -46,7 +46,8 @@ passes p = Within (place (p .strobe + 1) (p .count) (p .bits))
 abbrev pub takes-bit : (weight : ℕ) → Place → Bool → Moved
 takes-bit i p b = Within (place (p .strobe + 1) (p .count) ((p .bits + bit b * 2 ^ i) % 256))
 
--- or, in a WAIT, the next strobe after a 1, and after a 0 the same strobe again, until the zero that reaches the limit.
+-- or, in a WAIT, the next strobe after a 1, and after a 0 the same strobe again, until the zero that reaches
+-- the limit.
 abbrev pub waits-on : (wait-limit : ℕ) → Place → Bool → Moved
 waits-on l p b =
     cond b (Within (place (p .strobe + 1) 0 (p .bits)))
@@ -58,7 +59,8 @@ follows l ss (plain f s) p b = passes p
 follows l ss (sampled f) p b = takes-bit (samples (take (p .strobe) ss)) p b
 follows l ss waits p b = waits-on l p b
 
--- what a reply makes of a place in a frame: a place, the byte sampled once the STOP is answered, or the WAIT's limit
+-- what a reply makes of a place in a frame: a place, the byte sampled once the STOP is answered, or the
+-- WAIT's limit
 unfoldable pub followed : (wait-limit : ℕ) → List Strobe → Place → Bool → Moved
 followed l ss p b = cond (ltb (p .strobe + 1) (length ss)) (follows l ss (strobe-at ss (p .strobe)) p b) (Stopped (p .bits))
 

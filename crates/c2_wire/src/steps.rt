@@ -114,7 +114,8 @@ fn role_step(kind: Frame, byte: u8, role: Role) -> u8
     }
 }
 
-// The step at a strobe of a frame; the byte is the one that a write sends. Past the frame's end it is a STOP's.
+// The step at a strobe of a frame; the byte is the one that a write sends. Past the frame's end it is a
+// STOP's.
 pub fn step(kind: Frame, byte: u8, strobe: usize) -> u8
     ensures { λ r. ⌜ r ≡ step-at (frame kind byte) strobe ⌝ }
 {

@@ -1,5 +1,5 @@
-// The frames for a caller in another language, so that they can be compared with a second implementation: frames by INS code, places and
-// moves as numbers.
+// The frames for a caller in another language, so that they can be compared with a second implementation:
+// frames by INS code, places and moves as numbers.
 ghost use mathlib.Core.Path.{_≡_};
 ghost use mathlib.Core.Bool.{not};
 ghost use Prim.Native.Nat.{ℕ};
@@ -29,7 +29,8 @@ fn frame_of(ins: u8) -> Frame
     Frame::AddressWrite
 }
 
-// `Moved` as numbers, for callers in other languages: 0 another place, 1 the byte sampled, 2 the limit of the WAIT; what is not in use is 0.
+// `Moved` as numbers, for callers in other languages: 0 another place, 1 the byte sampled, 2 the limit of the
+// WAIT; what is not in use is 0.
 #[repr(C)]
 pub struct Followed {
     pub kind: usize,

@@ -1,5 +1,6 @@
--- A worked example, the smallest device: a session counts so many replies down, its record is the count, one byte, and a call writes the counts
--- into a buffer. It shows what a family of calls supplies, and that the shared claims are about something.
+-- A worked example, the smallest device: a session counts so many replies down, its record is the count, one
+-- byte, and a call writes the counts into a buffer. It shows what a family of calls supplies, and that the
+-- shared claims are about something.
 use mathlib.Core.Path.{_≡_}
 use mathlib.Core.Bool.{cond}
 use mathlib.Core.List.{List, [], _∷_, _++_, map}

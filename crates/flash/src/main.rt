@@ -1,9 +1,9 @@
-// Reads an image from standard input, programs a fresh modelled target with it from page 0, and writes how many pages were programmed, how many
-// replies that took, and the outcome.
+// Reads an image from standard input, programs a fresh modelled target with it from page 0, and writes how
+// many pages were programmed, how many replies that took, and the outcome.
+use c2_run::Run;
 use libc::STDIN_FILENO;
 use libc::STDOUT_FILENO;
 use numbers::PAST_LAST_PAGE;
-use c2_run::Run;
 use settings::Settings;
 
 const PAGE: usize = 512;

@@ -1,4 +1,5 @@
--- What two functions give below a bound: one computed list for each, and equal at every number where the lists are.
+-- What two functions give below a bound: one computed list for each, and equal at every number where the
+-- lists are.
 use mathlib.Core.Path.{_≡_}
 use mathlib.Core.List.{List, [], _∷_}
 use Prim.Native.Nat.{ℕ, zero, suc, _<_}

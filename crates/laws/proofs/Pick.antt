@@ -1,4 +1,5 @@
--- Laws of `cond` at a test, for `search`: a value is what a definition by tests gives, where the fact of the test is at hand.
+-- Laws of `cond` at a test, for `search`: a value is what a definition by tests gives, where the fact of the
+-- test is at hand.
 use Prim.Native.Nat.{ℕ, _<_, _≤_}
 use mathlib.Core.Path.{_≡_, sym, _∙_}
 use mathlib.Core.Bool.{Bool, true, false, cond}

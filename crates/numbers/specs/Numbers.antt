@@ -1,4 +1,5 @@
--- The numbers that come back (document 01, "Numbers that come back"), each given exactly if its comment holds.
+-- The numbers that come back (document 01, "Numbers that come back"), each given exactly if its comment
+-- holds.
 use Prim.Native.Nat.{ℕ}
 
 -- the session is running

@@ -1,4 +1,5 @@
-// The numbers that come back from a call (document 01, "Numbers that come back"), one name for each, with when it is given.
+// The numbers that come back from a call (document 01, "Numbers that come back"), one name for each, with
+// when it is given.
 
 // The session is running.
 pub const RUNNING: u32 = 0;

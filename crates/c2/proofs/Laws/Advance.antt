@@ -15,7 +15,7 @@ use Rattle.c2_record.specs.declared.Unpacked.the-variants.{Held, Refused}
 use Rattle.c2_record.specs.Record.{packed, unpacked}
 use Rattle.c2_record.proofs.Laws.Claims.{small, packed-whole, unpack-pack, unpacked-exactly}
 use Rattle.c2.specs.declared.Advanced.{Advanced}
-use Rattle.c2_opening.specs.Opened.{image-length, exchange-at, after-replies}
+use Rattle.c2_opening.specs.Opened.{image-length, exchange-at, session-fed}
 use Rattle.c2.specs.Calls.{taken-answer, refused-answer, steps-written, advance-answer, advance-steps, advance-record}
 use Rattle.c2_outcome.specs.Outcome.{number-of, offset-of}
 use Rattle.c2.specs.Code.Loop.{ran, wrote}
@@ -48,7 +48,7 @@ module _ (u : Unpacked) (image rs buffer : List ℕ) (place : ℕ) (r : List ℕ
     unfolding taken-answer steps-written Exchange.taken
     accepts l h x n b r₁ p q f g k =
         let w : wrote image s rs ≡ steps (exchange-at s image) rs = wrote-is s image rs l in
-        let y : x ≡ after-replies s image rs = p ∙ ran-is image s rs in
+        let y : x ≡ session-fed s image rs = p ∙ ran-is image s rs in
         rw (e, eq-eqb (length image) (image-length s) (l .whole), le-leb (place + length rs) (length buffer) h) (
           (λ t. record { number = number-same t; offset = offset-same t; taken = taken-same t }),
           (g ∙ ap (λ (z : List ℕ). take place buffer ++ (z ++ drop (length z) (drop place buffer))) w, k ∙ ap packed y),

@@ -8,37 +8,37 @@ use Rattle.c2_order.specs.Order.{order}
 use Rattle.c2_order.specs.Conversation.{session-limits}
 use Rattle.c2_order.specs.Point.{reached}
 use Rattle.c2_session.specs.declared.Session.{Session}
-use Rattle.c2_session.specs.Code.Machine.{advanced}
+use Rattle.c2_session.specs.Code.Advance.{advanced}
 use Rattle.c2_position.specs.Position.{position}
 use Rattle.c2_position.proofs.Laws.Advanced.{advances}
 use Rattle.c2_record.proofs.Laws.Claims.{small, pack-unpack, unpacked-exactly}
-use Rattle.c2_opening.specs.Opened.{opened-session, after-replies}
+use Rattle.c2_opening.specs.Opened.{opened-session, session-fed}
 use Rattle.c2.specs.Claims.{session-after, Replies-follow, Records-stay, Parts-join}
 use Rattle.c2_opening.proofs.Laws.Opened.{begins-lent, begins-at, begins-so}
 use Rattle.c2_opening.proofs.Laws.Follows.{Lent, lent-advances, exchange-after, lent-after}
 use Rattle.c2_order.specs.Point
 
 -- a session stands at the point of the order that the replies reach
-point-reached : (s : Session) (image rs : List ℕ) → Lent s image → position (after-replies s image rs) image ≡ reached session-limits (position s image) rs
-unfolding after-replies reached
+point-reached : (s : Session) (image rs : List ℕ) → Lent s image → position (session-fed s image rs) image ≡ reached session-limits (position s image) rs
+unfolding session-fed reached
 point-reached s image [] h = refl
 point-reached s image (r ∷ rs) h =
     point-reached (advanced 20 256 s r image) image rs (lent-advances s image r h)
     ∙ ap (λ (x : Point.Point). reached session-limits x rs) (advances 20 256 s image (h .range) (h .whole) r)
 
 -- and replies leave its settings and pages alone
-settings-stay : (s : Session) (image rs : List ℕ) → after-replies s image rs .settings ≡ s .settings
-unfolding after-replies advanced
+settings-stay : (s : Session) (image rs : List ℕ) → session-fed s image rs .settings ≡ s .settings
+unfolding session-fed advanced
 settings-stay s image [] = refl
 settings-stay s image (r ∷ rs) = settings-stay (advanced 20 256 s r image) image rs
 
-first-stays : (s : Session) (image rs : List ℕ) → after-replies s image rs .first ≡ s .first
-unfolding after-replies advanced
+first-stays : (s : Session) (image rs : List ℕ) → session-fed s image rs .first ≡ s .first
+unfolding session-fed advanced
 first-stays s image [] = refl
 first-stays s image (r ∷ rs) = first-stays (advanced 20 256 s r image) image rs
 
-pages-stay : (s : Session) (image rs : List ℕ) → after-replies s image rs .pages ≡ s .pages
-unfolding after-replies advanced
+pages-stay : (s : Session) (image rs : List ℕ) → session-fed s image rs .pages ≡ s .pages
+unfolding session-fed advanced
 pages-stay s image [] = refl
 pages-stay s image (r ∷ rs) = pages-stay (advanced 20 256 s r image) image rs
 
@@ -62,9 +62,9 @@ pub records-stay : Records-stay
 records-stay s r image rs e b w =
     let x = unpacked-exactly 20 256 small s r .0 e in
     let h = lent-after s image rs (record { id = x .id; bytes = b; range = x .ranges; whole = w }) in
-    pack-unpack 20 256 small (after-replies s image rs) (h .id) (rw (settings-stay s image rs) (x .fpdat)) (h .range)
+    pack-unpack 20 256 small (session-fed s image rs) (h .id) (rw (settings-stay s image rs) (x .fpdat)) (h .range)
 
 pub parts-join : Parts-join
-unfolding after-replies
+unfolding session-fed
 parts-join s image [] rs = refl
 parts-join s image (q ∷ qs) rs = parts-join (advanced 20 256 s q image) image qs rs

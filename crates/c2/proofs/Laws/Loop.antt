@@ -10,8 +10,10 @@ use lib.ListN.{length, getD, set, take, drop, length-set, take-append-drop, drop
 use lib.Seq.{drop-cons, take-suc-set, drop-set-lt, drop-drop, length-take-le, take-all}
 use Rattle.c2_session.specs.declared.Session.{Session}
 use Rattle.c2_acts.specs.declared.Task.{Task}
-use Rattle.c2_session.specs.Code.Machine.{advanced, step-of, advanced-by, step-by}
-use Rattle.c2_outcome.specs.Outcome.{is-running, task-next}
+use Rattle.c2_session.specs.Code.Step.{session-step, step-by}
+use Rattle.c2_session.specs.Code.Advance.{advanced, advanced-by}
+use Rattle.c2_outcome.specs.Outcome.{is-running}
+use Rattle.c2_outcome.specs.Code.Task.{task-next}
 use Rattle.c2_outcome.proofs.Laws.Task.{Knows, advanced-known, step-known, known-next}
 use Rattle.c2.specs.Code.Loop.{ran, wrote}
 
@@ -44,9 +46,9 @@ module _ (image replies steps₀ : List ℕ) (s₀ : Session) where
 
   module _ (steps : List ℕ) (s : Session) (i : ℕ) (k : Sofar image replies steps₀ s₀ steps s i) where
     pub goes : i < length replies → is-running (s .point) ≡ true
-        → Sofar image replies steps₀ s₀ (set steps i (step-of (advanced 20 256 s (getD replies i 0) image) image)) (advanced 20 256 s (getD replies i 0) image) (i + 1)
+        → Sofar image replies steps₀ s₀ (set steps i (session-step (advanced 20 256 s (getD replies i 0) image) image)) (advanced 20 256 s (getD replies i 0) image) (i + 1)
     goes h run =
-        let v : ℕ = step-of (advanced 20 256 s (getD replies i 0) image) image in
+        let v : ℕ = session-step (advanced 20 256 s (getD replies i 0) image) image in
         let hs : i < length steps = omega (arith, k .long, k .room) in
         let hi : i < suc i = omega arith in
         record {
@@ -67,7 +69,7 @@ module _ (image replies steps₀ : List ℕ) (s₀ : Session) where
         let n : Knows (task-next (advanced 20 256 s (getD replies i 0) image .point) t) (advanced 20 256 s (getD replies i 0) image .point)
         = known-next 20 256 s t image (getD replies i 0) m in
         let k₁ : Knows t₁ (s₁ .point) = rw (et, e) n in
-        let f : v ≡ step-of (advanced 20 256 s (getD replies i 0) image) image = ev ∙ step-known 20 256 s₁ t₁ image k₁ ∙ ap (λ (z : Session). step-of z image) e in
+        let f : v ≡ session-step (advanced 20 256 s (getD replies i 0) image) image = ev ∙ step-known 20 256 s₁ t₁ image k₁ ∙ ap (λ (z : Session). session-step z image) e in
         (rw (f, e) (goes h run), k₁)
 
     -- the steps written so far are all
@@ -89,7 +91,8 @@ module _ (image replies steps₀ : List ℕ) (s₀ : Session) where
     pub stops : is-running (s .point) ≡ false → Due image replies steps₀ s₀ steps s i
     stops p = ends (wrote-stops image s (drop i replies) p) (sym (ran-stops image s (drop i replies) p))
 
--- a part from a place to the end, written, is back: what stood before the place, what was written, and what stood after it
+-- a part from a place to the end, written, is back: what stood before the place, what was written, and what
+-- stood after it
 pub put-back : (place : ℕ) (xs ys w : List ℕ) (n : ℕ) → n ≡ length w → ys ≡ w ++ drop n (take (length xs - place) (drop place xs))
     → take place xs ++ (ys ++ drop (length xs - place) (drop place xs)) ≡ take place xs ++ (w ++ drop (length w) (drop place xs))
 put-back place xs ys w n e f =

@@ -1,4 +1,4 @@
--- `c2::c2_open` meets its contract: each return by the laws of Starting.
+-- `c2::c2_open` meets its contract: each return by the laws of Open.
 use mathlib.Core.Path.{sym, ap, _∙_}
 use borrow.Author.Needs.{needs}
 use Rattle.c2_opening.proofs.Laws.Opened.{started-is}

@@ -1,4 +1,4 @@
--- `c2::c2_steps_left` meets its contract: each return by the laws of Asking.
+-- `c2::c2_steps_left` meets its contract: each return by the laws of StepsLeft.
 use mathlib.Core.Path.{refl, sym, ap, _∙_}
 use borrow.Author.Needs.{needs}
 use Rattle.c2_outcome.specs.declared.Outcome.{Outcome}

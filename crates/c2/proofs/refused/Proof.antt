@@ -1,4 +1,3 @@
--- `c2::refused` meets its contract: each return by the tests on its way and what the calls give.
 use mathlib.Core.Path.{refl}
 use Rattle.c2.specs.Calls.{refused-answer}
 use Rattle.c2.proofs.refused.Statement.{statement}

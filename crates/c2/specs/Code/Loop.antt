@@ -1,10 +1,12 @@
--- For the code: the session reached and the steps written, reply by reply. Nothing here needs to be believed: `Meeting` in proofs/ has the laws
--- that these are the session after the replies and the steps of the exchange.
+-- For the code: the session reached and the steps written, reply by reply. Nothing here needs to be believed:
+-- `Meeting` in proofs/ has the laws that these are the session after the replies and the steps of the
+-- exchange.
 use mathlib.Core.Bool.{cond}
 use mathlib.Core.List.{List, [], _∷_}
 use Prim.Native.Nat.{ℕ}
 use Rattle.c2_session.specs.declared.Session.{Session}
-use Rattle.c2_session.specs.Code.Machine.{advanced, step-of}
+use Rattle.c2_session.specs.Code.Step.{session-step}
+use Rattle.c2_session.specs.Code.Advance.{advanced}
 use Rattle.c2_outcome.specs.Outcome.{is-running}
 
 abbrev pub ran : (image : List ℕ) → Session → List ℕ → Session
@@ -14,4 +16,4 @@ ran image s (r ∷ rs) = cond (is-running (s .point)) (ran image (advanced 20 25
 abbrev pub wrote : (image : List ℕ) → Session → List ℕ → List ℕ
 wrote image s [] = []
 wrote image s (r ∷ rs) =
-    cond (is-running (s .point)) (step-of (advanced 20 256 s r image) image ∷ wrote image (advanced 20 256 s r image) rs) []
+    cond (is-running (s .point)) (session-step (advanced 20 256 s r image) image ∷ wrote image (advanced 20 256 s r image) rs) []

@@ -1,4 +1,3 @@
--- `c2_acts::write_task` meets its contract: each return by the tests on its way and what the calls give.
 use borrow.Author.Needs.{needs}
 use Rattle.laws.proofs.Pick.{picks}
 use Rattle.c2_acts.proofs.write_task.Statement.{statement}

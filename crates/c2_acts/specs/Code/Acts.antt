@@ -1,5 +1,5 @@
--- The act of a number, by arithmetic: what it does. Nothing here needs to be believed: `Finding` of the crate position has the law that these are
--- the acts of the session's order.
+-- The act of a number, by arithmetic: what it does. Nothing here needs to be believed: `Finding` of the crate
+-- position has the law that these are the acts of the session's order.
 use mathlib.Core.Bool.{cond}
 use Prim.Native.Nat.{ℕ, _%_}
 use lib.Dec.{eqb, ltb}
@@ -40,7 +40,8 @@ task-of Write act = write-task act
 task-of Read act = read-task act
 task-of Close act = Reset
 
--- how many acts a stage has: for each page those of its erase, for each block those of its write and of its read
+-- how many acts a stage has: for each page those of its erase, for each block those of its write and of its
+-- read
 abbrev pub acts-in : Stage → ℕ
 acts-in Lead = 8
 acts-in Erase = 13

@@ -22,7 +22,7 @@ use Rattle.c2_record.specs.declared.Unpacked.the-variants.{Held}
 use Rattle.c2_record.specs.Record.{packed, unpacked}
 use Rattle.c2.specs.declared.Advanced.{Advanced}
 use Rattle.c2.specs.declared.Remaining.{Remaining}
-use Rattle.c2_opening.specs.Opened.{opened-session, image-length, exchange-at, after-replies}
+use Rattle.c2_opening.specs.Opened.{opened-session, image-length, exchange-at, session-fed}
 use Rattle.c2.specs.Calls.{held-number, taken-answer, steps-written, advance-answer, advance-steps, advance-record, blank, remaining-answer}
 use Rattle.c2.specs.Claims.{session-after, Follows}
 use Rattle.c2_opening.proofs.Laws.Follows.{outcome-now}
@@ -56,7 +56,7 @@ module _ (r image rs buffer : List ℕ) (place : ℕ) (s : Session) (e : unpacke
   writes : advance-steps (unpacked 20 256 r) image rs buffer place ≡ steps-written (exchange-at s image) rs place buffer
   writes = rw (e, eq-eqb _ 0 ok)
 
-  keeps : advance-record (unpacked 20 256 r) image rs buffer place r ≡ packed (after-replies s image rs)
+  keeps : advance-record (unpacked 20 256 r) image rs buffer place r ≡ packed (session-fed s image rs)
   keeps = rw (e, eq-eqb _ 0 ok)
 
 -- the session after replies to an accepted opening

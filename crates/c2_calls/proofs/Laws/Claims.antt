@@ -14,7 +14,7 @@ use Rattle.c2_order.specs.Claims.{Opening}
 use Rattle.c2_record.specs.declared.Unpacked.{Unpacked}
 use Rattle.c2_record.specs.declared.Unpacked.the-variants.{Held, Refused}
 use Rattle.c2_record.specs.Record.{packed, unpacked}
-use Rattle.c2_opening.specs.Opened.{opened-session, after-replies}
+use Rattle.c2_opening.specs.Opened.{opened-session, session-fed}
 use Rattle.c2.specs.Calls.{opening-number, opening-answer, record-opened, held-number, refused-answer, advance-answer, advance-steps, advance-record, asked-number, remaining-answer}
 use Rattle.c2.specs.Claims.{session-after}
 use Rattle.c2_opening.proofs.Laws.Follows.{outcome-now}
@@ -29,7 +29,7 @@ module _ (t : Settings) (first : ℕ) (image : List ℕ) (o : Opening t first im
 
   -- an accepted opening tells what no replies do
   pub opens : (held : List ℕ) → length held ≡ 32 → opened held image t first ≡ by []
-  unfolding opened by-replies opening-number opened-session record-opened opening-answer after-replies fed steps taken outcome-of
+  unfolding opened by-replies opening-number opened-session record-opened opening-answer session-fed fed steps taken outcome-of
   opens held e =
       let s = session-after t first image [] in
       let f = after t first image o [] in
@@ -38,7 +38,8 @@ module _ (t : Settings) (first : ℕ) (image : List ℕ) (o : Opening t first im
       let left = left-told t first image o [] in
       rw (e, o .accepted) (λ i. record { held = packed s; steps = []; taken = 0; outcome = said i; left = left i })
 
-  -- an accepted call that may follow, and any that may follow, tells what its replies, in a row with those before, do
+  -- an accepted call that may follow, and any that may follow, tells what its replies, in a row with those
+  -- before, do
   takes-on : (c : Call) (qs : List ℕ) → refusal c ≡ 0 → As-left image (packed (session-after t first image qs)) c → accepted (by qs) c ≡ by (qs ++ replies-of c)
   unfolding accepted refusal replies-of
   takes-on (opening r i u n) qs e h = absurd h

@@ -1,4 +1,5 @@
--- The target in C and the target of the definitions: replies, states and flash are the same for one that exists.
+-- The target in C and the target of the definitions: replies, states and flash are the same for one that
+-- exists.
 use mathlib.Core.Path.{_≡_, refl, sym, ap, _∙_}
 use mathlib.Core.Bool.{Bool, true, false}
 use mathlib.Core.List.{List, [], _∷_}

@@ -19,8 +19,8 @@ use Rattle.c2_order.specs.Conversation.{conversation}
 use Rattle.c2_target.specs.declared.Target.{Target}
 use Rattle.c2_target.specs.Delays.{Setup}
 use Rattle.c2_target.specs.Strobes.{Turn}
-use Rattle.c2_target.specs.Target.{stepped, step-of, refusal, answer, flash-after}
-use Rattle.c2_play.specs.Playing.{State, replies-of, whole-step, own-replies, left-by, answered, Own-replies}
+use Rattle.c2_target.specs.Target.{stepped, step-coded, refusal, answer, flash-after}
+use Rattle.c2_play.specs.Playing.{State, run-replies, whole-step, own-replies, left-by, answered, Own-replies}
 use Rattle.c2_play.proofs.Laws.Interface.{Fit}
 use Rattle.c2_play.proofs.Laws.Known.{Lent, Exists, known-says}
 use Rattle.c2_play.proofs.Laws.OwnReplies.{reply-small, after-small}
@@ -48,7 +48,7 @@ reply-again (suc zero) h = refl
 reply-again (suc (suc n)) h = absurd (omega arith)
 
 off-keeps : (u : Setup) (t : Target) (f : List ℕ) → left-by u t f (6 ∷ []) ≡ record { target = t; flash = f }
-unfolding left-by answer flash-after stepped step-of
+unfolding left-by answer flash-after stepped step-coded
 off-keeps u t f = by-test (eqb (refusal u t f 6) 0) (λ e. rw e) (λ e. rw e)
 
 none-taken : (o : Outcome) (rs : List ℕ) → taken (ended o) rs ≡ 0
@@ -82,8 +82,8 @@ given-walk u (suc n) (ask (at g s) k) t f (r ∷ rs) h hn =
 
 -- and the replies are the run's
 pub own-take : (u : Setup) (m : ℕ) (e : Exchange) (t : Target) (f rs : List ℕ) → Own-replies u t f e rs → m ≤ taken e rs
-    → take m rs ≡ take m (replies-of (whole-step u) e t f)
-unfolding taken steps asks answered own-replies whole-step after replies-of
+    → take m rs ≡ take m (run-replies (whole-step u) e t f)
+unfolding taken steps asks answered own-replies whole-step after run-replies
 own-take u zero e t f rs h hm = refl
 own-take u (suc m) (ended o) t f [] h hm = absurd (omega arith)
 own-take u (suc m) (ended o) t f (r ∷ rs) h hm = absurd (omega arith)
@@ -95,7 +95,7 @@ own-take u (suc m) (ask (at g s) k) t f (r ∷ rs) h hm =
     ap (λ (y : ℕ). y ∷ take m rs) (same ∙ sym (reply-again (x .reply) (reply-small u t f (code s))))
     ∙ ap (λ (ys : List ℕ). bit (eqb (x .reply) 1) ∷ ys)
     (own-take u m (after (strobe g s k) r) (x .target) (flash-after u t f (code s)) rs (tail-is r (x .reply) _ _ h) (omega arith)
-    ∙ ap (λ (y : Exchange). take m (replies-of (whole-step u) y (x .target) (flash-after u t f (code s)))) next)
+    ∙ ap (λ (y : Exchange). take m (run-replies (whole-step u) y (x .target) (flash-after u t f (code s)))) next)
 
 -- replies that are not all taken have ended the exchange
 stops : (e : Exchange) (rs : List ℕ) → taken e rs < length rs → (o : Outcome) × (fed e (take (taken e rs) rs) ≡ ended o)
@@ -107,13 +107,13 @@ stops (ask (at g s) k) (r ∷ rs) h = stops (after (strobe g s k) r) rs (omega a
 
 -- once its own replies have ended it, they are as many as its run takes
 lasts-by : (step : Target → List ℕ → Step → Turn) (m : ℕ) (e : Exchange) (t : Target) (f : List ℕ) (o : Outcome)
-    → fed e (take m (replies-of step e t f)) ≡ ended o → lasts step e t f ≤ m
-unfolding lasts replies-of fed
+    → fed e (take m (run-replies step e t f)) ≡ ended o → lasts step e t f ≤ m
+unfolding lasts run-replies fed
 lasts-by step m (ended p) t f o q = omega arith
 lasts-by step zero (ask (at g s) k) t f o q = absurd (let z : _≡_ {A = ℕ} 0 1 = cc in omega arith)
 lasts-by step (suc m) (ask (at g s) k) t f o q =
     let h = lasts-by step m (k (step t f s .reply)) (step t f s .target) (step t f s .flash) o
-    (sym (ap (λ (y : Exchange). fed y (take m (replies-of step (k (step t f s .reply)) (step t f s .target) (step t f s .flash)))) (after-bit g s k (step t f s .reply))) ∙ q) in
+    (sym (ap (λ (y : Exchange). fed y (take m (run-replies step (k (step t f s .reply)) (step t f s .target) (step t f s .flash)))) (after-bit g s k (step t f s .reply))) ∙ q) in
     omega (arith, h)
 
 -- an ended exchange stays so
@@ -168,7 +168,7 @@ cuts-by-replies l u ps t f rs h own n hn =
     rises = reach-rises u (l .wait) (l .reads) fit B (x .size) some (x .bytes) ps t f (h .met .unmarked) fits (k .flash)
 
     mine : List ℕ
-    mine = replies-of (stepped u) e t f
+    mine = run-replies (stepped u) e t f
 
     agree : (m : ℕ) → m ≤ taken e rs → take m rs ≡ take m mine
     agree m q = own-take u m e t f rs own q ∙ ap (take m) (replies-same u lent (h .accepted) e t f (h .met .flash) k)

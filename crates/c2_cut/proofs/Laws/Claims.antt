@@ -12,7 +12,7 @@ use Rattle.c2_order.specs.Conversation.{conversation}
 use Rattle.c2_target.specs.declared.Target.{Target}
 use Rattle.c2_target.specs.Delays.{Setup}
 use Rattle.c2_target.specs.Target.{stepped}
-use Rattle.c2_play.specs.Playing.{replies-of, whole-step}
+use Rattle.c2_play.specs.Playing.{run-replies, whole-step}
 use Rattle.c2_play.proofs.Laws.Interface.{Fit}
 use Rattle.c2_play.proofs.Laws.Known.{Lent, Exists, known-says, known-is, stepped-known}
 use Rattle.c2_play.proofs.Laws.WholeStep.{whole-is-stepped}
@@ -32,8 +32,8 @@ walked-same u lent a (suc n) (ask (at g s) k) t f hf x =
     (walked-same u lent a n (k (stepped u t f s .reply)) (stepped u t f s .target) (stepped u t f s .flash) (y .bytes) (y .exists))
 
 pub replies-same : (u : Setup) → Lent u → settings-refusal (u .settings) ≡ 0 → (e : Exchange) (t : Target) (f : List ℕ) → Bytes f → Exists u t f
-    → replies-of (whole-step u) e t f ≡ replies-of (stepped u) e t f
-unfolding replies-of
+    → run-replies (whole-step u) e t f ≡ run-replies (stepped u) e t f
+unfolding run-replies
 replies-same u lent a (ended o) t f hf k = refl
 replies-same u lent a (ask (at g s) k) t f hf x =
     let y = stepped-known u lent t f s hf x in
@@ -51,6 +51,6 @@ cuts l u ps t f h n =
     record { low = x .fpdat; high = h .fpdat; id = h .id; delays = met .delays; some = met .some; wait = met .wait; reads = met .reads } in
     let k : Exists u t f = known-says u t f (met .state) in
     let e : Exchange = conversation l (order (u .settings) ps) in
-    subst⁻¹ (λ (w : Walk). Cut l (u .settings) ps (replies-of (whole-step u) e t f) n f (w .flash)) (walked-same u lent a n e t f (met .flash) k)
+    subst⁻¹ (λ (w : Walk). Cut l (u .settings) ps (run-replies (whole-step u) e t f) n f (w .flash)) (walked-same u lent a n e t f (met .flash) k)
     (subst⁻¹ (λ (rs : List ℕ). Cut l (u .settings) ps rs n f (walked (stepped u) n e t f .flash)) (replies-same u lent a e t f (met .flash) k)
     (cut-stepped u (l .wait) (l .reads) fit (x .blocks) (x .size) (omega (arith, x .some)) (x .bytes) ps t f (h .named) (met .unmarked) (k .flash) n))

@@ -15,7 +15,7 @@ use Rattle.c2_order.specs.Conversation.{Limits, limits, conversation}
 use Rattle.c2_target.specs.declared.Target.{Target}
 use Rattle.c2_target.specs.Delays.{Setup}
 use Rattle.c2_target.specs.Target.{stepped}
-use Rattle.c2_play.specs.Playing.{replies-of}
+use Rattle.c2_play.specs.Playing.{run-replies}
 use Rattle.c2_play.proofs.Laws.Interface.{Fit}
 use Rattle.c2_cut.specs.Walk.{walked}
 use Rattle.c2_play.specs.Pages.{page-of, with-pages, At, Fits, Named}
@@ -149,7 +149,7 @@ module _ (u : Setup) (l r : ℕ) (fit : Fit u l r) (B : ℕ) (whole : u .setting
   -- request h against the steps that are not refused
   pub cut-stepped : (ps : List Page) (t : Target) (f : List ℕ) → Named (u .settings) ps → t .collision ≡ false
       → length f ≡ u .settings .size * u .settings .count → (n : ℕ)
-      → Cut (limits l r) (u .settings) ps (replies-of (stepped u) (conversation (limits l r) (order (u .settings) ps)) t f) n f
+      → Cut (limits l r) (u .settings) ps (run-replies (stepped u) (conversation (limits l r) (order (u .settings) ps)) t f) n f
       (walked (stepped u) n (conversation (limits l r) (order (u .settings) ps)) t f .flash)
   cut-stepped ps t f named hm ef n =
       let s = u .settings in
@@ -160,5 +160,5 @@ module _ (u : Setup) (l r : ℕ) (fit : Fit u l r) (B : ℕ) (whole : u .setting
       let to = over-to u l r fit B whole some few ps t f hm fits ef in
       let from = over-from u l r fit B whole some few ps t f hm fits ef in
       let x = order-stands u l r fit B whole some few ps t f hm fits ef n in
-      cut-by s ps named f _ R n ef mono rises (limits l r) (replies-of (stepped u) (conversation (limits l r) (order s ps)) t f) x
+      cut-by s ps named f _ R n ef mono rises (limits l r) (run-replies (stepped u) (conversation (limits l r) (order s ps)) t f) x
       (λ i h. from (n - 1) i h) (λ i h. to (n - 1) i h) (λ i h. from n i h) (λ i h. to n i (omega arith))

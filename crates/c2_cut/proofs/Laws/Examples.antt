@@ -12,12 +12,12 @@ use Rattle.settings.specs.declared.Settings.{Settings}
 use Rattle.c2_order.specs.Acts.{coded-length, length-code, input-taken, output-ready, put, get, status, puts, compares, erase, block-command, block-write, block-read}
 use Rattle.c2_order.specs.Order.{Page, pages, rising, blocks, joined, lead, page-acts, order, session-order}
 use Rattle.c2_order.specs.Conversation.{session-limits, polling, conversation}
-use Rattle.c2_target.specs.Delays.{Setup, within, delay, onward}
+use Rattle.c2_target.specs.Delays.{Setup, list-place, delay, next-place}
 use Rattle.c2_target.specs.Commands.{erased, stored, in-flash, opens, takes, some-output, first-byte, other-bytes}
 use Rattle.c2_target.specs.Interface.{in-busy, out-ready, status-bits, linked, shown, given, late-of, place-after, put-byte, get-byte, counted, next-keys, begun, does}
-use Rattle.c2_target.specs.Strobes.{line, marked, sending, begins, after-ins, after-write-length, after-read-length, after-address, after-data, after-long-data, value-sent, after-wait, strobed-at}
+use Rattle.c2_target.specs.Strobes.{line, marked, sending, frame-begins, after-ins, after-write-length, after-read-length, after-address, after-data, after-long-data, value-sent, after-wait, strobed-at}
 use Rattle.c2_target.specs.Target.{cleared, fresh, after-reset, between-frames, keyed, after-pause, stepped}
-use Rattle.c2_play.specs.Playing.{replies-of}
+use Rattle.c2_play.specs.Playing.{run-replies}
 use Rattle.c2_play.specs.Pages.{up-to}
 use Rattle.c2_cut.specs.Walk.{walked}
 
@@ -38,13 +38,14 @@ whole = conversation session-limits (order settings (page ∷ []))
 
 -- the number of the order up to some pages, after n of the target's replies
 abbrev number-after : List Page → ℕ → ℕ
-number-after ps n = outcome-of (fed (conversation session-limits (up-to settings ps)) (take n (replies-of (stepped setup) whole fresh blank))) .number
+number-after ps n = outcome-of (fed (conversation session-limits (up-to settings ps)) (take n (run-replies (stepped setup) whole fresh blank))) .number
 
 abbrev flash-at : ℕ → List ℕ
 flash-at n = walked (stepped setup) n whole fresh blank .flash
 
--- The lead takes 75 steps. The page is erased at its 135th step, the 210th of all; its read-back ends with the 28,593rd.
+-- The lead takes 75 steps. The page is erased at its 135th step, the 210th of all; its read-back ends with
+-- the 28,593rd.
 pub one-page : ((number-after [] 74 ≡ running) × (number-after [] 75 ≡ done) × (flash-at 209 ≡ blank) × (flash-at 210 ≡ replicate 512 0xff)
     × (number-after (page ∷ []) 28592 ≡ running) × (number-after (page ∷ []) 28593 ≡ done))
-unfolding bits bit odd drives sends ins-code frame waiting strobes coded-length length-code input-taken output-ready put get status puts compares erase block-command block-write block-read pages rising blocks joined lead page-acts order session-order polling conversation within delay onward erased stored in-flash opens takes some-output first-byte other-bytes in-busy out-ready status-bits linked shown given late-of place-after put-byte get-byte counted next-keys begun does line marked sending begins after-ins after-write-length after-read-length after-address after-data after-long-data value-sent after-wait strobed-at cleared fresh after-reset between-frames keyed after-pause stepped replies-of walked fed after outcome-of
+unfolding bits bit odd drives sends ins-code frame waiting strobes coded-length length-code input-taken output-ready put get status puts compares erase block-command block-write block-read pages rising blocks joined lead page-acts order session-order polling conversation list-place delay next-place erased stored in-flash opens takes some-output first-byte other-bytes in-busy out-ready status-bits linked shown given late-of place-after put-byte get-byte counted next-keys begun does line marked sending frame-begins after-ins after-write-length after-read-length after-address after-data after-long-data value-sent after-wait strobed-at cleared fresh after-reset between-frames keyed after-pause stepped run-replies walked fed after outcome-of
 one-page = (refl, refl, refl, refl, refl, refl)

@@ -16,7 +16,7 @@ use Rattle.c2_order.specs.Conversation.{limits, conversation}
 use Rattle.c2_target.specs.declared.Target.{Target}
 use Rattle.c2_target.specs.Delays.{Setup}
 use Rattle.c2_target.specs.Target.{stepped}
-use Rattle.c2_play.specs.Playing.{Played, against, replies-of}
+use Rattle.c2_play.specs.Playing.{Played, against, run-replies}
 use Rattle.c2_play.proofs.Laws.Interface.{Fit}
 use Rattle.c2_cut.specs.Walk.{lasts}
 use Rattle.c2_play.specs.Pages.{At, up-to}
@@ -77,7 +77,7 @@ module _ (u : Setup) (l r : ℕ) (fit : Fit u l r) where
       reaches i = full-reach u l r fit B whole some few ps t f i
 
       abbrev own : List ℕ
-      own = replies-of (stepped u) (conv (order (u .settings) ps)) t f
+      own = run-replies (stepped u) (conv (order (u .settings) ps)) t f
 
       done-by : (i : ℕ) → run (up-to (u .settings) (take i ps)) t f .outcome ≡ outcome done
       done-by i = up-to-run u l r fit B whole some few (take i ps) t f hm (all-fit-take (u .settings) i ps fits) ef .ended
@@ -87,16 +87,17 @@ module _ (u : Setup) (l r : ℕ) (fit : Fit u l r) where
           ap conv (split-order ps i)
           ∙ onto-acts (limits l r) (up-to (u .settings) (take i ps)) (acts-of (drop i ps) ++ reset-pulse ∷ []) (refuses-up-to (take i ps))
 
-      -- the replies have brought the order to the end of the first i pages exactly if they are as many as its steps up to there
+      -- the replies have brought the order to the end of the first i pages exactly if they are as many as its
+      -- steps up to there
       pub over-to : (n i : ℕ) → reaches i ≤ n → Over (limits l r) (u .settings) (take i ps) (take n own)
       over-to n i h =
-          ap (λ (e : Exchange). fed (conv (up-to (u .settings) (take i ps))) (take n (replies-of (stepped u) e t f))) (whole-is i)
+          ap (λ (e : Exchange). fed (conv (up-to (u .settings) (take i ps))) (take n (run-replies (stepped u) e t f))) (whole-is i)
           ∙ over-is (stepped u) n (conv (up-to (u .settings) (take i ps))) (conv (acts-of (drop i ps) ++ reset-pulse ∷ [])) t f (done-by i) h
 
       pub over-from : (n i : ℕ) → Over (limits l r) (u .settings) (take i ps) (take n own) → reaches i ≤ n
       over-from n i h =
           over-says (stepped u) n (conv (up-to (u .settings) (take i ps))) (conv (acts-of (drop i ps) ++ reset-pulse ∷ [])) t f (outcome done)
-          (ap (λ (e : Exchange). fed (conv (up-to (u .settings) (take i ps))) (take n (replies-of (stepped u) e t f))) (sym (whole-is i)) ∙ h)
+          (ap (λ (e : Exchange). fed (conv (up-to (u .settings) (take i ps))) (take n (run-replies (stepped u) e t f))) (sym (whole-is i)) ∙ h)
 
       -- more pages take more steps
       more-pages : (i k : ℕ) → up-to (u .settings) (take (i + k) ps) ≡ up-to (u .settings) (take i ps) ++ acts-of (take k (drop i ps))

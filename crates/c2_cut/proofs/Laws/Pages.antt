@@ -28,8 +28,9 @@ use Rattle.c2_play.proofs.Laws.Refuses.{refuses-page}
 use Rattle.c2_play.proofs.Laws.Run.{All-fit, with-page-length}
 use Rattle.c2_play.proofs.Laws.Page.{Between, Mid, Held, page-leads}
 
--- Where n steps fall among pages of which the first i, with the lead, take `reach i` steps, and the flash F then: in the lead; between two pages,
--- or after the last, where the pages before hold the image; or a page is under way.
+-- Where n steps fall among pages of which the first i, with the lead, take `reach i` steps, and the flash F
+-- then: in the lead; between two pages, or after the last, where the pages before hold the image; or a page
+-- is under way.
 pub data Standing (size : ℕ) (ps : List Page) (f : List ℕ) (reach : ℕ → ℕ) (n : ℕ) (F : List ℕ) : Type 0 where
   leading : n < reach 0 → F ≡ f → Standing size ps f reach n F
   between : (j : ℕ) → j ≤ length ps → reach j ≤ n → (j < length ps → (n ≤ reach j) × (n < reach (suc j)))

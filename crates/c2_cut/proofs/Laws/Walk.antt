@@ -1,4 +1,5 @@
--- The run of an exchange, and of one that goes on with another: how many steps each takes, and what it has come to after any number of them.
+-- The run of an exchange, and of one that goes on with another: how many steps each takes, and what it has
+-- come to after any number of them.
 use mathlib.Core.Path.{_≡_, refl, sym, ap, _∙_}
 use mathlib.Core.List.{List}
 use Prim.Native.Nat.{ℕ, zero, suc, _+_, _<_, _≤_}
@@ -10,7 +11,7 @@ use Rattle.c2_wire.specs.Exchange.{Exchange, ended, ask, at, Outcome, outcome, 
 use Rattle.c2_wire.proofs.Laws.Exchange.{fed-ended, after-bit}
 use Rattle.c2_target.specs.declared.Target.{Target}
 use Rattle.c2_target.specs.Strobes.{Turn}
-use Rattle.c2_play.specs.Playing.{against, replies-of}
+use Rattle.c2_play.specs.Playing.{against, run-replies}
 use Rattle.c2_cut.specs.Walk.{walked, lasts}
 use Rattle.c2_play.proofs.Laws.Onto.{onto}
 use Rattle.c2_play.proofs.Laws.Leads.{onto-done, Leads}
@@ -54,22 +55,23 @@ module _ (step : Target → List ℕ → Step → Turn) where
       let h = onto-lasts (k (step t f s .reply)) x (step t f s .target) (step t f s .flash) d in
       omega (arith, h)
 
-  -- Fed the first n replies of the whole run, e has ended done exactly if they are as many as its own run takes.
+  -- Fed the first n replies of the whole run, e has ended done exactly if they are as many as its own run
+  -- takes.
   pub over-is : (n : ℕ) (e x : Exchange) (t : Target) (f : List ℕ) → against step e t f .outcome ≡ outcome done → lasts step e t f ≤ n
-      → fed e (take n (replies-of step (onto e x) t f)) ≡ ended (outcome done)
-  unfolding onto lasts against replies-of fed
-  over-is n (ended o) x t f d m = fed-ended o (take n (replies-of step (onto (ended o) x) t f)) ∙ ap ended d
+      → fed e (take n (run-replies step (onto e x) t f)) ≡ ended (outcome done)
+  unfolding onto lasts against run-replies fed
+  over-is n (ended o) x t f d m = fed-ended o (take n (run-replies step (onto (ended o) x) t f)) ∙ ap ended d
   over-is zero (ask (at g s) k) x t f d m = absurd (omega arith)
   over-is (suc n) (ask (at g s) k) x t f d m =
-      ap (λ (y : Exchange). fed y (take n (replies-of step (onto (k (step t f s .reply)) x) (step t f s .target) (step t f s .flash)))) (after-bit g s k (step t f s .reply))
+      ap (λ (y : Exchange). fed y (take n (run-replies step (onto (k (step t f s .reply)) x) (step t f s .target) (step t f s .flash)))) (after-bit g s k (step t f s .reply))
       ∙ over-is n (k (step t f s .reply)) x (step t f s .target) (step t f s .flash) d (omega arith)
 
   pub over-says : (n : ℕ) (e x : Exchange) (t : Target) (f : List ℕ) (o : Outcome)
-      → fed e (take n (replies-of step (onto e x) t f)) ≡ ended o → lasts step e t f ≤ n
-  unfolding onto lasts replies-of fed
+      → fed e (take n (run-replies step (onto e x) t f)) ≡ ended o → lasts step e t f ≤ n
+  unfolding onto lasts run-replies fed
   over-says n (ended p) x t f o q = omega arith
   over-says zero (ask (at g s) k) x t f o q = absurd (let z : _≡_ {A = ℕ} 0 1 = cc in omega arith)
   over-says (suc n) (ask (at g s) k) x t f o q =
       let m = over-says n (k (step t f s .reply)) x (step t f s .target) (step t f s .flash) o
-      (sym (ap (λ (y : Exchange). fed y (take n (replies-of step (onto (k (step t f s .reply)) x) (step t f s .target) (step t f s .flash)))) (after-bit g s k (step t f s .reply))) ∙ q) in
+      (sym (ap (λ (y : Exchange). fed y (take n (run-replies step (onto (k (step t f s .reply)) x) (step t f s .target) (step t f s .flash)))) (after-bit g s k (step t f s .reply))) ∙ q) in
       omega (arith, m)

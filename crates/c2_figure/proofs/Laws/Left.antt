@@ -1,4 +1,5 @@
--- The most steps to come by arithmetic are the figure at the point of the order that the session's numbers name.
+-- The most steps to come by arithmetic are the figure at the point of the order that the session's numbers
+-- name.
 pub mod Costs
 use mathlib.Core.Path.{_≡_, refl}
 use mathlib.Core.Bool.{true}
@@ -23,8 +24,8 @@ use Rattle.c2_acts.specs.declared.Task.the-variants.{Reset, Pause, Address, Sen
 use Rattle.c2_session.specs.declared.Point.the-variants.{Running, Ended}
 use Rattle.c2_session.specs.declared.Session.{Session}
 use Rattle.c2_acts.specs.Code.Acts.{task-of}
-use Rattle.c2_session.specs.Code.Sent.{compared-offset}
-use Rattle.c2_session.specs.Code.Machine.{at}
+use Rattle.c2_session.specs.Code.Bytes.{compared-offset}
+use Rattle.c2_session.specs.Code.Next.{at}
 use Rattle.c2_range.specs.Range.{strobes-in, place-in-range, point-in-range, in-range}
 use Rattle.c2_position.specs.Position.{stage-acts, after-stage, point-position, position}
 use Rattle.c2_position.proofs.Laws.Acts.{task-act}

@@ -1,5 +1,6 @@
--- For the code: the most steps still to come, by arithmetic on a session's numbers. Nothing here needs to be believed: `Counting` in proofs/ has
--- the law that this is the figure at the point of the order that the numbers name.
+-- For the code: the most steps still to come, by arithmetic on a session's numbers. Nothing here needs to be
+-- believed: `Counting` in proofs/ has the law that this is the figure at the point of the order that the
+-- numbers name.
 use mathlib.Core.Bool.{cond}
 use Prim.Native.Nat.{ℕ, _+_, _-_, _*_, _/_, _%_}
 use lib.Dec.{eqb, ltb}
@@ -63,7 +64,8 @@ lead-left w k =
     (cond (eqb k 3) (43 + 3 * w)
     (cond (eqb k 4) (29 + 2 * w) (cond (eqb k 5) (15 + w) (cond (eqb k 6) 1 0))))))
 
--- and of a command, whose acts after its first are bytes put or got: whole bytes, and the second act of a byte whose first this is
+-- and of a command, whose acts after its first are bytes put or got: whole bytes, and the second act of a
+-- byte whose first this is
 abbrev pub bytes-left : (wait-limit poll-limit last : ℕ) → Task → (act : ℕ) → ℕ
 bytes-left w r n t k = (n - k) / 2 * byte-cost w r + cond (eqb (k % 2) 1) (byte-cost w r - task-cost w r t) 0
 
@@ -82,14 +84,14 @@ pages-left w r s i = (s .pages - i - 1) * page-cost w r (s .settings .size / 256
 abbrev pub blocks-left : (wait-limit poll-limit size block : ℕ) → ℕ
 blocks-left w r size j = (size / 256 - j - 1) * block-cost w r
 
-abbrev pub page-blocks : (wait-limit poll-limit size : ℕ) → ℕ
-page-blocks w r size = size / 256 * block-cost w r
+abbrev pub blocks-by-size : (wait-limit poll-limit size : ℕ) → ℕ
+blocks-by-size w r size = size / 256 * block-cost w r
 
 -- and by the stage
 abbrev pub after-left : (wait-limit poll-limit : ℕ) → Stage → Session → (page block : ℕ) → ℕ
 after-left w r Lead s i j = s .pages * page-cost w r (s .settings .size / 256) + 1
-after-left w r Erase s i j = 2 * page-blocks w r (s .settings .size) + pages-left w r s i
-after-left w r Write s i j = blocks-left w r (s .settings .size) j + page-blocks w r (s .settings .size) + pages-left w r s i
+after-left w r Erase s i j = 2 * blocks-by-size w r (s .settings .size) + pages-left w r s i
+after-left w r Write s i j = blocks-left w r (s .settings .size) j + blocks-by-size w r (s .settings .size) + pages-left w r s i
 after-left w r Read s i j = blocks-left w r (s .settings .size) j + pages-left w r s i
 after-left w r Close s i j = 0
 

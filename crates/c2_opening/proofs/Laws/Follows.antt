@@ -1,4 +1,5 @@
--- A session in range, lent its image, follows the exchange of its order: what it asks for, its number and offset, and what replies make of it.
+-- A session in range, lent its image, follows the exchange of its order: what it asks for, its number and
+-- offset, and what replies make of it.
 use mathlib.Core.Path.{_≡_, refl, sym, ap, _∙_}
 use mathlib.Core.Bool.{Bool, true, false}
 use mathlib.Core.List.{List, [], _∷_}
@@ -15,14 +16,14 @@ use Rattle.c2_order.specs.Point.{left-to-say, follow-up, strobes-of}
 use Rattle.c2_order.proofs.Laws.Valid.{reads-of, Valid}
 use Rattle.c2_session.specs.declared.Point.the-variants.{Running, Ended}
 use Rattle.c2_session.specs.declared.Session.{Session}
-use Rattle.c2_session.specs.Code.Machine.{point-advanced, advanced}
+use Rattle.c2_session.specs.Code.Advance.{point-advanced, advanced}
 use Rattle.c2_range.specs.Range.{in-range, point-in-range}
 use Rattle.c2_position.specs.Position.{position, point-position}
 use Rattle.c2_position.proofs.Laws.Advanced.{SessionPoint, exists-of, fits-of, point-of}
 use Rattle.c2_position.proofs.Laws.Onward.{acts-here}
 use Rattle.c2_position.proofs.Laws.Range.{advanced-in-range}
 use Rattle.c2_position.proofs.Laws.Exchange.{position-valid, exchange-advances}
-use Rattle.c2_opening.specs.Opened.{image-length, exchange-at, after-replies}
+use Rattle.c2_opening.specs.Opened.{image-length, exchange-at, session-fed}
 use Rattle.c2_outcome.specs.Outcome.{is-running, number-of, offset-of}
 use Rattle.c2_wire.specs.Exchange
 use Rattle.c2_order.specs.Point
@@ -37,8 +38,8 @@ advanced-ended s r image e = λ t. record { settings = s .settings; first = s .f
     same (Running g i j k q c v) f = absurd (let z : _≡_ {A = ℕ} 0 1 = cc in omega arith)
     same (Ended n o) f = refl
 
-pub after-ended : (s : Session) (image rs : List ℕ) → is-running (s .point) ≡ false → after-replies s image rs ≡ s
-unfolding after-replies
+pub after-ended : (s : Session) (image rs : List ℕ) → is-running (s .point) ≡ false → session-fed s image rs ≡ s
+unfolding session-fed
 after-ended s image [] e = refl
 after-ended s image (r ∷ rs) e = rw (advanced-ended s r image e) (after-ended s image rs e)
 
@@ -117,22 +118,22 @@ outcome-now s image h = go (is-running (s .point)) refl
     go false p = rw (ended-over s image p)
 
 pub outcome-is : (s : Session) (image rs : List ℕ) → Lent s image
-    → outcome-of (fed (exchange-at s image) rs) ≡ record { number = number-of (after-replies s image rs .point); offset = offset-of (after-replies s image rs .point) }
-unfolding fed after-replies
+    → outcome-of (fed (exchange-at s image) rs) ≡ record { number = number-of (session-fed s image rs .point); offset = offset-of (session-fed s image rs .point) }
+unfolding fed session-fed
 outcome-is s image [] h = outcome-now s image h
 outcome-is s image (r ∷ rs) h =
     let a = exchange-advances 20 256 (omega arith) (omega arith) s image (h .id) (h .bytes) (h .range) (h .whole) r in
     ap (λ (e : Exchange). outcome-of (fed e rs)) (sym a) ∙ outcome-is (advanced 20 256 s r image) image rs (lent-advances s image r h)
 
 -- what is left to say after the replies is what the session reached leaves
-pub exchange-after : (s : Session) (image rs : List ℕ) → Lent s image → fed (exchange-at s image) rs ≡ exchange-at (after-replies s image rs) image
-unfolding fed after-replies
+pub exchange-after : (s : Session) (image rs : List ℕ) → Lent s image → fed (exchange-at s image) rs ≡ exchange-at (session-fed s image rs) image
+unfolding fed session-fed
 exchange-after s image [] h = refl
 exchange-after s image (r ∷ rs) h =
     let a = exchange-advances 20 256 (omega arith) (omega arith) s image (h .id) (h .bytes) (h .range) (h .whole) r in
     ap (λ (e : Exchange). fed e rs) (sym a) ∙ exchange-after (advanced 20 256 s r image) image rs (lent-advances s image r h)
 
-pub lent-after : (s : Session) (image rs : List ℕ) → Lent s image → Lent (after-replies s image rs) image
-unfolding after-replies
+pub lent-after : (s : Session) (image rs : List ℕ) → Lent s image → Lent (session-fed s image rs) image
+unfolding session-fed
 lent-after s image [] h = h
 lent-after s image (r ∷ rs) h = lent-after (advanced 20 256 s r image) image rs (lent-advances s image r h)

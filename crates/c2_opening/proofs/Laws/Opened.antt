@@ -1,4 +1,5 @@
--- The session of an accepted opening: in range, at the first act of its order, with the whole exchange to come.
+-- The session of an accepted opening: in range, at the first act of its order, with the whole exchange to
+-- come.
 use mathlib.Core.Path.{_≡_, refl, sym, ap, _∙_}
 use mathlib.Core.List.{List}
 use Prim.Native.Nat.{ℕ, _*_, _/_, _%_, _<_, _≤_}
@@ -18,7 +19,8 @@ use Rattle.settings.proofs.Laws.Opening.{opened}
 use Rattle.c2_order.proofs.Laws.Point.{begin-says}
 use Rattle.c2_position.specs.Position.{position, point-position, page-list, pages-from}
 use Rattle.c2_range.proofs.Laws.Range.{opening-passes, ranges-are}
-use Rattle.c2_opening.specs.Opened.{opened-session, started, exchange-at}
+use Rattle.c2_opening.specs.Opened.{opened-session, exchange-at}
+use Rattle.c2_opening.specs.Code.Started.{started}
 use Rattle.c2_opening.proofs.Laws.Follows.{Lent}
 
 -- the numbers of an accepted opening fit into 16 bits

@@ -1,6 +1,5 @@
--- `c2_opening::start` meets its contract: each return by the tests on its way and what the calls give.
 use borrow.Author.Needs.{needs}
-use Rattle.c2_opening.specs.Opened.{started}
+use Rattle.c2_opening.specs.Code.Started.{started}
 use Rattle.c2_opening.proofs.start.Statement.{statement}
 use Rattle.c2_opening.proofs.start.Tie as tie
 

@@ -1,4 +1,5 @@
--- Laws of the figure of the most steps to come: it is 0 exactly at an end, each reply taken lowers it, and no replies take more.
+-- Laws of the figure of the most steps to come: it is 0 exactly at an end, each reply taken lowers it, and no
+-- replies take more.
 pub mod Start
 pub mod Reached
 use mathlib.Core.Path.{_≡_, refl, sym, ap}

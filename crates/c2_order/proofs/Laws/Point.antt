@@ -1,4 +1,5 @@
--- A reply takes what is left to say at a point to what is left at the next: the point moves as the exchange does.
+-- A reply takes what is left to say at a point to what is left at the next: the point moves as the exchange
+-- does.
 use mathlib.Core.Path.{_≡_, refl, sym, ap, _∙_}
 use mathlib.Core.Bool.{Bool, true, false, cond}
 use mathlib.Core.List.{List, [], _∷_}

@@ -1,4 +1,5 @@
--- A session of which it is known what its act does: it goes on as it does, and what the next act does is then known too.
+-- A session of which it is known what its act does: it goes on as it does, and what the next act does is then
+-- known too.
 use mathlib.Core.Path.{_≡_, refl, sym, _∙_}
 use mathlib.Core.Bool.{Bool, true, false, cond}
 use mathlib.Core.List.{List}
@@ -22,9 +23,12 @@ use Rattle.c2_session.specs.declared.Point.the-variants.{Running, Ended}
 use Rattle.c2_session.specs.declared.Session.{Session}
 use Rattle.c2_session.specs.declared.Wanted.{Wanted}
 use Rattle.c2_session.specs.declared.Wanted.the-variants.{Byte, Missing}
-use Rattle.c2_session.specs.Code.Sent.{image-byte, sent-offset, compared-offset}
-use Rattle.c2_session.specs.Code.Machine.{at, begins, next-write, next-page, next-read, next-stage, onward, again, differs, compared, compares, judged, drives-image, wants, stays, settled, alone, frame-of, replied, point-advanced, advanced, point-advanced-by, advanced-by, point-step, step-of, point-step-by, step-by}
-use Rattle.c2_outcome.specs.Outcome.{task-at, task-next}
+use Rattle.c2_session.specs.Code.Bytes.{image-byte, sent-offset, compared-offset}
+use Rattle.c2_session.specs.Code.Next.{at, first-strobe, next-write, next-page, next-read, next-stage, next-act}
+use Rattle.c2_session.specs.Code.Judge.{read-again, differs, compared, wanted-compared, frame-judged, drives-image, wants, stays, frame-answered}
+use Rattle.c2_session.specs.Code.Step.{alone, task-frame, point-step, session-step, point-step-by, step-by}
+use Rattle.c2_session.specs.Code.Advance.{point-replied, point-advanced, advanced, point-advanced-by, advanced-by}
+use Rattle.c2_outcome.specs.Code.Task.{task-at, task-next}
 
 -- what the act at a point does is known, if there is an act
 abbrev pub Knows : Task → Point → Type 0
@@ -33,7 +37,7 @@ Knows t (Ended n o) = Unit {0}
 
 module _ (w r : ℕ) (s : Session) (t : Task) (image : List ℕ) where
   pub advanced-known : (reply : ℕ) → Knows t (s .point) → advanced-by w r t s reply image ≡ advanced w r s reply image
-  unfolding advanced advanced-by replied
+  unfolding advanced advanced-by point-replied
   advanced-known reply e =
       λ j. record { settings = s .settings; first = s .first; pages = s .pages; point = same (s .point) e j }
     where
@@ -41,8 +45,8 @@ module _ (w r : ℕ) (s : Session) (t : Task) (image : List ℕ) where
       same (Running g i j k q c v) e = rw e
       same (Ended n o) e = refl
 
-  pub step-known : Knows t (s .point) → step-by t s image ≡ step-of s image
-  unfolding step-of step-by
+  pub step-known : Knows t (s .point) → step-by t s image ≡ session-step s image
+  unfolding session-step step-by
   step-known e = same (s .point) e
     where
       same : (y : Point) → Knows t y → point-step-by t y s image ≡ point-step y s image
@@ -59,8 +63,8 @@ module _ (w r : ℕ) (s : Session) (image : List ℕ) (a : At) where
   either true x y p q = p
   either false x y p q = q
 
-  onward-after : After a (onward s a)
-  unfolding onward next-write next-read next-page
+  onward-after : After a (next-act s a)
+  unfolding next-act next-write next-read next-page
   onward-after = either (ltb (a .act + 1) (acts-in (a .stage))) _ _ (inl refl) (go (a .stage))
     where
       page-after : (page : ℕ) → After a (next-page s page)
@@ -73,11 +77,11 @@ module _ (w r : ℕ) (s : Session) (image : List ℕ) (a : At) where
       go Read = either (ltb (a .block + 1) (s .settings .size / 256)) _ _ (inl refl) (page-after (a .page))
       go Close = tt
 
-  again-after : (n : ℕ) → After a (again r a n)
-  unfolding again
+  again-after : (n : ℕ) → After a (read-again r a n)
+  unfolding read-again
   again-after n = either (ltb (n + 1) r) _ _ (inl refl) tt
 
-  judged-after : (k : Task) (n x : ℕ) → After a (judged r k s a n x image)
+  judged-after : (k : Task) (n x : ℕ) → After a (frame-judged r k s a n x image)
   unfolding compared differs
   judged-after Reset n x = onward-after
   judged-after Pause n x = onward-after
@@ -89,7 +93,7 @@ module _ (w r : ℕ) (s : Session) (image : List ℕ) (a : At) where
   judged-after Status n x = either (eqb x 13) _ _ onward-after tt
   judged-after Compare n x = go (image-byte image (compared-offset s a))
     where
-      go : (b : Wanted) → After a (compares b s a x)
+      go : (b : Wanted) → After a (wanted-compared b s a x)
       go (Byte b) = either (eqb x b) _ _ onward-after tt
       go Missing = tt
 
@@ -104,16 +108,16 @@ module _ (w r : ℕ) (s : Session) (image : List ℕ) (a : At) where
   stays-after Read p = inr refl
   stays-after Close p = inr refl
 
-  settled-after : (m : Moved) (k : Task) (n : ℕ) → After a (settled r m k s a n image)
+  settled-after : (m : Moved) (k : Task) (n : ℕ) → After a (frame-answered r m k s a n image)
   settled-after (Within p) k n = stays-after (a .stage) p
   settled-after (Stopped x) k n = judged-after k n x
   settled-after WaitLimit k n = tt
 
-  replied-after : (p : Place) (x : ℕ) → After a (replied w r s a p x image)
-  unfolding replied
+  replied-after : (p : Place) (x : ℕ) → After a (point-replied w r s a p x image)
+  unfolding point-replied
   replied-after p x =
       either (ltb 1 x) _ _ tt
-      (either (eqb (alone (task-of (a .stage) (a .act))) 0) _ _ (settled-after (followed w (frame (frame-of (task-of (a .stage) (a .act))) 0) p (eqb x 1)) (task-of (a .stage) (a .act)) (p .count)) onward-after)
+      (either (eqb (alone (task-of (a .stage) (a .act))) 0) _ _ (settled-after (followed w (frame (task-frame (task-of (a .stage) (a .act))) 0) p (eqb x 1)) (task-of (a .stage) (a .act)) (p .count)) onward-after)
 
 -- what the act does is known after a reply
 pub known-next : (w r : ℕ) (s : Session) (t : Task) (image : List ℕ) (x : ℕ) → Knows t (s .point)
@@ -127,7 +131,7 @@ known-next w r s t image x e = go (s .point) e
     told a (Ended n o) e z = tt
 
     go : (y : Point) → Knows t y → Knows (task-next (point-advanced w r y s x image) t) (point-advanced w r y s x image)
-    go (Running g i j k q c v) e = told (at g i j k) (replied w r s (at g i j k) (place q c v) x image) e (replied-after w r s image (at g i j k) (place q c v) x)
+    go (Running g i j k q c v) e = told (at g i j k) (point-replied w r s (at g i j k) (place q c v) x image) e (replied-after w r s image (at g i j k) (place q c v) x)
     go (Ended n o) e = tt
 
 -- and at a point it is what the point says

@@ -1,4 +1,3 @@
--- `c2_outcome::outcome_of` meets its contract: each return by the tests on its way and what the calls give.
 use mathlib.Core.Path.{refl}
 use borrow.Author.Needs.{needs}
 use Rattle.c2_outcome.proofs.outcome_of.Statement.{statement}

@@ -1,4 +1,3 @@
--- `c2_outcome::task_at` meets its contract: each return by the tests on its way and what the calls give.
 use borrow.Author.Needs.{needs}
 use Rattle.c2_outcome.proofs.task_at.Statement.{statement}
 use Rattle.c2_outcome.proofs.task_at.Tie as tie

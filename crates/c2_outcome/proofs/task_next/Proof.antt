@@ -1,4 +1,3 @@
--- `c2_outcome::task_next` meets its contract: each return by the tests on its way and what the calls give.
 use borrow.Author.Needs.{needs}
 use Rattle.laws.proofs.Pick.{picks}
 use Rattle.c2_outcome.proofs.task_next.Statement.{statement}

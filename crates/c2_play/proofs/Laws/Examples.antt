@@ -1,4 +1,5 @@
--- The target of the definitions, computed: a whole session, and corners of document 01's section "The modelled target".
+-- The target of the definitions, computed: a whole session, and corners of document 01's section "The
+-- modelled target".
 use mathlib.Core.Path.{_≡_, refl}
 use mathlib.Core.Bool.{true, false}
 use mathlib.Core.List.{List, [], _∷_, _++_, map}
@@ -9,7 +10,7 @@ use Rattle.c2_wire.specs.Bits.{bits, bit, odd}
 use Rattle.c2_wire.specs.Step.{code, drives}
 use Rattle.c2_wire.specs.Exchange.{outcome}
 use Rattle.c2_wire.specs.Frames.{sends, ins-code, frame, waiting, strobes}
-use Rattle.c2_wire.specs.Place.{step-of}
+use Rattle.c2_wire.specs.Place.{strobe-step}
 use Rattle.c2_wire.specs.declared.Frame.{Frame}
 use Rattle.c2_wire.specs.declared.Frame.the-variants.{AddressWrite, AddressRead, DataWrite, DataRead}
 use Rattle.settings.specs.Accepted.{is-fpdat, is-page-size, is-page-count, settings-refusal}
@@ -22,13 +23,13 @@ use Rattle.c2_target.specs.declared.Output.the-variants.{Empty}
 use Rattle.c2_target.specs.declared.Effect.the-variants.{Nothing, SetAddress, Write, Read}
 use Rattle.c2_target.specs.declared.Point.the-variants.{Start, Ins, Address, Wait, Waiting, Stop}
 use Rattle.c2_target.specs.declared.Target.{Target}
-use Rattle.c2_target.specs.Delays.{Setup, within, delay, onward}
+use Rattle.c2_target.specs.Delays.{Setup, list-place, delay, next-place}
 use Rattle.c2_target.specs.Commands.{taken, passed, failed, erased, stored, in-flash, opens, takes, some-output, first-byte, other-bytes}
 use Rattle.c2_target.specs.Interface.{link, device, acted, in-busy, out-ready, status-bits, linked, shown, given, late-of, place-after, put-byte, get-byte, counted, next-keys, begun, does}
-use Rattle.c2_target.specs.Strobes.{target, line, marked, sending, begins, after-ins, after-write-length, after-read-length, after-address, after-data, after-long-data, value-sent, after-wait, strobed-at}
+use Rattle.c2_target.specs.Strobes.{target, line, marked, sending, frame-begins, after-ins, after-write-length, after-read-length, after-address, after-data, after-long-data, value-sent, after-wait, strobed-at}
 use Rattle.c2_target.specs.Known.{hearing, is-byte, known-effect, after-its-wait, is-sent, known-point, is-count, known-block, known-command, known-output, known-link, known}
 use Rattle.c2_target.specs.Target.{cleared, fresh, after-reset, between-frames, keyed, after-pause, stepped, is-step, refusal, answer, flash-after}
-use Rattle.c2_play.specs.Playing.{Played, against, replies-of, own-replies, left-by}
+use Rattle.c2_play.specs.Playing.{Played, against, run-replies, own-replies, left-by}
 
 -- one page of 512 bytes
 abbrev settings : Settings
@@ -46,16 +47,16 @@ image = replicate 512 0x5a
 session : Played × ℕ
 session =
     let e = conversation session-limits (session-order settings 0 image) in
-    (against (stepped (setup [])) e fresh blank, length (replies-of (stepped (setup [])) e fresh blank))
+    (against (stepped (setup [])) e fresh blank, length (run-replies (stepped (setup [])) e fresh blank))
 
 -- A fresh target without delays: done after 28,594 replies, and the flash holds the image.
 one-page : ((session .0 .outcome ≡ outcome done) × (session .0 .flash ≡ image) × (session .1 ≡ 28594))
-unfolding session bits bit odd drives sends ins-code frame waiting strobes coded-length length-code input-taken output-ready put get status puts compares erase block-command block-write block-read pages rising blocks joined lead page-acts order session-order polling conversation within delay onward erased stored in-flash opens takes some-output first-byte other-bytes in-busy out-ready status-bits linked shown given late-of place-after put-byte get-byte counted next-keys begun does line marked sending begins after-ins after-write-length after-read-length after-address after-data after-long-data value-sent after-wait strobed-at cleared fresh after-reset between-frames keyed after-pause stepped against replies-of
+unfolding session bits bit odd drives sends ins-code frame waiting strobes coded-length length-code input-taken output-ready put get status puts compares erase block-command block-write block-read pages rising blocks joined lead page-acts order session-order polling conversation list-place delay next-place erased stored in-flash opens takes some-output first-byte other-bytes in-busy out-ready status-bits linked shown given late-of place-after put-byte get-byte counted next-keys begun does line marked sending frame-begins after-ins after-write-length after-read-length after-address after-data after-long-data value-sent after-wait strobed-at cleared fresh after-reset between-frames keyed after-pause stepped against run-replies
 one-page = (refl, refl, refl)
 
 -- The steps of a frame whose WAIT has no zeros.
 abbrev bytes : Frame → ℕ → List ℕ
-bytes k a = map (λ x. code (step-of x)) (frame k a)
+bytes k a = map (λ x. code (strobe-step x)) (frame k a)
 
 -- what the target replies to steps, and the target then
 abbrev told : (delays : List ℕ) → Target → (steps : List ℕ) → List ℕ
@@ -76,7 +77,8 @@ pub record Corners : Type 0 where
   -- the device ID at address 0, and zeros with LENGTH 1
   pub device-id : told [] fresh (bytes DataRead 0) ≡ 1 ∷ 0 ∷ 0 ∷ 0 ∷ 0 ∷ 1 ∷ 0 ∷ 0 ∷ 1 ∷ 0 ∷ 0 ∷ 0 ∷ 0 ∷ 0 ∷ 1 ∷ []
   pub long-read : told [] fresh (0 ∷ 2 ∷ 2 ∷ 3 ∷ 2 ∷ 0 ∷ replicate 17 0) ≡ 1 ∷ 0 ∷ 0 ∷ 1 ∷ 0 ∷ 1 ∷ replicate 16 0 ++ 1 ∷ []
-  -- other frames may stand between the key writes; a frame that began after them spoils them, and so does a write elsewhere among them
+  -- other frames may stand between the key writes; a frame that began after them spoils them, and so does a
+  -- write elsewhere among them
   pub keys :
       then [] fresh (bytes AddressWrite 2 ++ bytes DataWrite 2 ++ bytes AddressRead 0 ++ bytes DataWrite 4 ++ bytes DataRead 0 ++ bytes DataWrite 1 ++ 5 ∷ []) .device
       ≡ device 2 true 3 (link Ready Empty 0 0)
@@ -118,7 +120,7 @@ pub record Corners : Type 0 where
       × (refusal (setup []) fresh blank 1 ≡ 16) × (refusal (setup []) fresh blank 7 ≡ 16) × (refusal (setup []) fresh blank 6 ≡ 0)
 
 corners : Corners
-unfolding bits bit odd drives code sends ins-code frame step-of coded-length within delay onward erased stored in-flash opens takes some-output first-byte other-bytes in-busy out-ready status-bits linked shown given late-of place-after put-byte get-byte counted next-keys begun does line marked sending begins after-ins after-write-length after-read-length after-address after-data after-long-data value-sent after-wait strobed-at cleared fresh after-reset between-frames keyed after-pause stepped hearing is-byte known-effect after-its-wait is-sent known-point is-count known-block known-command known-output known-link known Rattle.c2_target.specs.Target.step-of is-step is-fpdat is-page-size is-page-count settings-refusal refusal answer flash-after own-replies left-by
+unfolding bits bit odd drives code sends ins-code frame strobe-step coded-length list-place delay next-place erased stored in-flash opens takes some-output first-byte other-bytes in-busy out-ready status-bits linked shown given late-of place-after put-byte get-byte counted next-keys begun does line marked sending frame-begins after-ins after-write-length after-read-length after-address after-data after-long-data value-sent after-wait strobed-at cleared fresh after-reset between-frames keyed after-pause stepped hearing is-byte known-effect after-its-wait is-sent known-point is-count known-block known-command known-output known-link known Rattle.c2_target.specs.Target.step-of is-step is-fpdat is-page-size is-page-count settings-refusal refusal answer flash-after own-replies left-by
 corners =
     record {
       driven-start = (refl, refl);

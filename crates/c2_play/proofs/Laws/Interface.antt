@@ -1,4 +1,5 @@
--- The Programming Interface against its bytes: a put and a get, with every delay, and the flash in J all the while.
+-- The Programming Interface against its bytes: a put and a get, with every delay, and the flash in J all the
+-- while.
 use mathlib.Core.Path.{_≡_, refl}
 use mathlib.Core.Bool.{Bool, true, false, not, cond, _&&_}
 use mathlib.Core.List.{List, [], _∷_, _++_}
@@ -21,7 +22,7 @@ use Rattle.c2_target.specs.declared.Output.the-variants.{Empty, Status}
 use Rattle.c2_target.specs.declared.Link.{Link}
 use Rattle.c2_target.specs.declared.Device.{Device}
 use Rattle.c2_target.specs.declared.Target.{Target}
-use Rattle.c2_target.specs.Delays.{Setup, within, delay, onward}
+use Rattle.c2_target.specs.Delays.{Setup, list-place, delay, next-place}
 use Rattle.c2_target.specs.Commands.{takes, some-output, first-byte, other-bytes}
 use Rattle.c2_target.specs.Interface.{link, device, in-busy, out-ready, status-bits, linked, shown, given, late-of, place-after, put-byte, get-byte, counted, next-keys, begun, does}
 use Rattle.c2_target.specs.Target.{stepped}
@@ -45,7 +46,7 @@ getD-byte (d ∷ ds) (suc i) h = getD-byte ds i (h .1)
 
 pub delay-byte : (ds : List ℕ) (p : ℕ) → Bytes ds → delay ds p < 256
 unfolding delay
-delay-byte ds p h = getD-byte ds (within ds p) h
+delay-byte ds p h = getD-byte ds (list-place ds p) h
 
 pub late-byte : (ds : List ℕ) (o : Output) (p : ℕ) → Bytes ds → late-of ds o p < 256
 unfolding late-of
@@ -109,7 +110,8 @@ late-status : (c : Command) (o : Output) (t : ℕ) → output-ready (status-bits
 unfolding output-ready status-bits out-ready in-busy bit odd
 late-status c o t = rw (eqb·suc-zero t)
 
--- What the run is to keep: the flash is in J until it ends, and then the target and the flash are in Z, which J has.
+-- What the run is to keep: the flash is in J until it ends, and then the target and the flash are in Z, which
+-- J has.
 pub record Kept (J : List ℕ → Type 0) (Z : Target → List ℕ → Type 0) : Type 0 where
   pub last : (t : Target) (f : List ℕ) → Z t f → J f
 
@@ -124,8 +126,8 @@ module _ (u : Setup) (l r : ℕ) (fit : Fit u l r) (J : List ℕ → Type 0) (Z 
   fpdat-address x k p f g = address-write-leads u J Z l (u .settings .fpdat) k p false (at-fpdat u x) f (fit .high) (now _ _ _ g) g
 
   pub fpdat-write : (x : Link) (b : ℕ) (k : ℕ → Exchange) (p : ℕ) (f : List ℕ) → b < 256 → J f
-      → leads u J Z (k 0) (idle (put-byte u x b (onward (u .delays) p) f .place) false (at-fpdat u (put-byte u x b (onward (u .delays) p) f .link)))
-      (put-byte u x b (onward (u .delays) p) f .flash)
+      → leads u J Z (k 0) (idle (put-byte u x b (next-place (u .delays) p) f .place) false (at-fpdat u (put-byte u x b (next-place (u .delays) p) f .link)))
+      (put-byte u x b (next-place (u .delays) p) f .flash)
       → leads u J Z (framed l (frame DataWrite b) k) (idle p false (at-fpdat u x)) f
   unfolding does begun next-keys
   fpdat-write x b k p f h j g =
@@ -139,8 +141,8 @@ module _ (u : Setup) (l r : ℕ) (fit : Fit u l r) (J : List ℕ → Type 0) (Z 
       address-read-leads u J Z l k p false (at-fpdat u x) f (rw (linked-at-fpdat u x) (status-small x)) (now _ _ _ g) (rw (linked-at-fpdat u x) g)
 
   pub fpdat-read : (x : Link) (k : ℕ → Exchange) (p : ℕ) (f : List ℕ) → out-ready x ≡ true → first-byte (x .output) f < 256 → J f
-      → leads u J Z (k (first-byte (x .output) f)) (idle (get-byte u x (onward (u .delays) p) f .place) false (at-fpdat u (get-byte u x (onward (u .delays) p) f .link)))
-      (get-byte u x (onward (u .delays) p) f .flash)
+      → leads u J Z (k (first-byte (x .output) f)) (idle (get-byte u x (next-place (u .delays) p) f .place) false (at-fpdat u (get-byte u x (next-place (u .delays) p) f .link)))
+      (get-byte u x (next-place (u .delays) p) f .flash)
       → leads u J Z (framed l (frame DataRead 0) k) (idle p false (at-fpdat u x)) f
   unfolding does begun given
   fpdat-read x k p f o h j g =
@@ -181,11 +183,11 @@ module _ (u : Setup) (l r : ℕ) (fit : Fit u l r) (J : List ℕ → Type 0) (Z 
       → Good (put b ++ acts) c o f
   unfolding Good put put-byte conversation
   put-good b acts c o f h j g t p ht =
-      let q = onward (u .delays) p in
+      let q = next-place (u .delays) p in
       let x = takes (u .settings) c b f in
       fpdat-write _ b _ p f h j
       (polls-busy r (delay (u .delays) q) (conversation (limits l r) acts) (x .command) (x .output)
-      (late-of (u .delays) (x .output) (onward (u .delays) q)) (place-after (u .delays) (x .output) (onward (u .delays) q)) (x .flash)
+      (late-of (u .delays) (x .output) (next-place (u .delays) q)) (place-after (u .delays) (x .output) (next-place (u .delays) q)) (x .flash)
       (omega (arith, delay-byte (u .delays) q (fit .delays), fit .reads)) (late-byte (u .delays) (x .output) _ (fit .delays)) (λ t ht. g t _ ht))
 
   -- a byte got: the first of the output

@@ -19,7 +19,7 @@ use Rattle.c2_target.specs.Delays.{Setup}
 use Rattle.c2_target.specs.Commands.{opens, takes}
 use Rattle.c2_target.specs.Interface.{out-ready, linked, put-byte, get-byte, does}
 use Rattle.c2_target.specs.Strobes.{marked, strobed-at}
-use Rattle.c2_target.specs.Target.{after-reset, after-pause, step-of, stepped, refusal, answer, flash-after}
+use Rattle.c2_target.specs.Target.{after-reset, after-pause, step-coded, stepped, refusal, answer, flash-after}
 use Rattle.c2_play.specs.Playing.{against, whole-step, play}
 use Rattle.c2_play.proofs.Laws.KnownPoint.{not-both}
 
@@ -139,7 +139,7 @@ step-unmarked u t f off h = h
 
 pub answer-unmarked : (u : Setup) (t : Target) (f : List ℕ) (x : ℕ) → answer u t f x .target .collision ≡ false → t .collision ≡ false
 unfolding answer
-answer-unmarked u t f x h = by-test (eqb (refusal u t f x) 0) (λ e. step-unmarked u t f (step-of x) (rw e at h)) (λ e. rw e at h)
+answer-unmarked u t f x h = by-test (eqb (refusal u t f x) 0) (λ e. step-unmarked u t f (step-coded x) (rw e at h)) (λ e. rw e at h)
 
 -- an exchange that ends without a mark began without one
 pub play-unmarked : (u : Setup) (e : Exchange) (t : Target) (f : List ℕ) → play u e t f .target .collision ≡ false → t .collision ≡ false

@@ -1,4 +1,5 @@
--- A step that is not refused leads from a state that exists to another, and keeps the flash's length and its bytes.
+-- A step that is not refused leads from a state that exists to another, and keeps the flash's length and its
+-- bytes.
 use mathlib.Core.Path.{_≡_, refl, _∙_}
 use mathlib.Core.Bool.{true, false, _&&_}
 use mathlib.Core.List.{List, [], _∷_, _++_}

@@ -19,7 +19,7 @@ use Rattle.c2_target.specs.declared.Point.the-variants.{LongData, Send}
 use Rattle.c2_target.specs.declared.Device.{Device}
 use Rattle.c2_target.specs.Delays.{Setup}
 use Rattle.c2_target.specs.Interface.{shown, given}
-use Rattle.c2_target.specs.Strobes.{sending, begins, after-ins, after-write-length, after-read-length, after-address, after-data, after-long-data, value-sent, after-wait}
+use Rattle.c2_target.specs.Strobes.{sending, frame-begins, after-ins, after-write-length, after-read-length, after-address, after-data, after-long-data, value-sent, after-wait}
 use Rattle.c2_target.specs.Known.{hearing, is-byte, known-effect, after-its-wait, is-sent, known-point}
 
 pub and-true : {a b : Bool} → a ≡ true → b ≡ true → (a && b) ≡ true
@@ -53,8 +53,8 @@ more-heard : (w n v : ℕ) (b : Bool) → hearing w n v ≡ true → ltb (n + 1)
 more-heard w n v b k e = hearing-is w (n + 1) (v + bit b * 2 ^ n) (ltb-true (n + 1) w e) (one-more n v b (hearing-says w n v k .1))
 
 module _ (l : ℕ) where
-  begins-known : (s : Settings) (d : Device) (v : ℕ) → shown s d < 256 → known-point l (begins s d v) ≡ true
-  unfolding begins sending known-point is-sent hearing
+  begins-known : (s : Settings) (d : Device) (v : ℕ) → shown s d < 256 → known-point l (frame-begins s d v) ≡ true
+  unfolding frame-begins sending known-point is-sent hearing
   begins-known s d v h =
       by-test (eqb v (ins-code DataRead)) (λ e. rw e)
       (λ e. rw e (by-test (eqb v (ins-code DataWrite)) (λ e. rw e)

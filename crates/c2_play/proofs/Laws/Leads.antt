@@ -1,4 +1,5 @@
--- The run of an exchange, and of one that goes on with another: how many steps each takes, and what it has come to after any number of them.
+-- The run of an exchange, and of one that goes on with another: how many steps each takes, and what it has
+-- come to after any number of them.
 use mathlib.Core.Path.{_≡_, ap}
 use mathlib.Core.List.{List}
 use Prim.Native.Nat.{ℕ}

@@ -1,5 +1,6 @@
--- The target as its own replies leave it: however many they are, it exists and is unmarked, so that another session would program it; and where
--- they are as many as the most steps to come at the opening, it is programmed.
+-- The target as its own replies leave it: however many they are, it exists and is unmarked, so that another
+-- session would program it; and where they are as many as the most steps to come at the opening, it is
+-- programmed.
 use mathlib.Core.Path.{_≡_, ap, _∙_}
 use mathlib.Core.Bool.{true, false}
 use mathlib.Core.List.{List, [], _∷_}
@@ -18,7 +19,7 @@ use Rattle.c2_order.proofs.Laws.Claims.{points-follow, figure-bounds}
 use Rattle.c2_target.specs.declared.Target.{Target}
 use Rattle.c2_target.specs.Delays.{Setup}
 use Rattle.c2_target.specs.Known.{known}
-use Rattle.c2_target.specs.Target.{step-of, refusal, answer, flash-after}
+use Rattle.c2_target.specs.Target.{step-coded, refusal, answer, flash-after}
 use Rattle.c2_play.specs.Playing.{Played, play, left-by, answered}
 use Rattle.c2_play.specs.Programmed.{Own-replies-program, Own-replies-leave}
 use Rattle.c2_play.proofs.Laws.Known.{Lent, known-says, known-is, stepped-known}
@@ -34,7 +35,7 @@ pub record Lasts (u : Setup) (t : Target) (f : List ℕ) : Type 0 where
 pub answer-lasts : (u : Setup) → Lent u → (t : Target) (f : List ℕ) (x : ℕ) → Lasts u t f → Lasts u (answer u t f x .target) (flash-after u t f x)
 unfolding answer flash-after
 answer-lasts u lent t f x k =
-    let y = stepped-known u lent t f (step-of x) (k .bytes) (known-says u t f (k .exists)) in
+    let y = stepped-known u lent t f (step-coded x) (k .bytes) (known-says u t f (k .exists)) in
     by-test (eqb (refusal u t f x) 0) (λ e. rw e (record { bytes = y .bytes; exists = known-is u _ _ (y .exists) })) (λ e. rw e k)
 
 -- after any bytes for steps

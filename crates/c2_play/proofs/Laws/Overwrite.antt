@@ -1,5 +1,5 @@
--- A page that is written without an erase (request n): over old bytes that need no bit raised. On the way it is the first k bytes of the new page
--- and the old ones after them, and these again need no bit raised.
+-- A page that is written without an erase (request n): over old bytes that need no bit raised. On the way it
+-- is the first k bytes of the new page and the old ones after them, and these again need no bit raised.
 use mathlib.Core.Path.{_≡_, refl, sym, ap, _∙_, subst, subst⁻¹}
 use mathlib.Core.List.{List, [], _∷_, _++_, map, append-assoc, append-nil}
 use Prim.Native.Nat.{ℕ, zero, suc, _+_, _-_, _*_, _/_, _≤_}

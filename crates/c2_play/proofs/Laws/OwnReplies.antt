@@ -1,5 +1,5 @@
--- Replies that are the target's own, each to the step before: the exchange that they lead to, played on from the target as they left it, comes to
--- the same end. So an exchange that they end has ended as it is played.
+-- Replies that are the target's own, each to the step before: the exchange that they lead to, played on from
+-- the target as they left it, comes to the same end. So an exchange that they end has ended as it is played.
 use mathlib.Core.Path.{_≡_, refl, sym, ap, _∙_}
 use mathlib.Core.Bool.{Bool}
 use mathlib.Core.List.{List, [], _∷_, _++_}
@@ -16,14 +16,14 @@ use Rattle.c2_wire.proofs.Laws.Bits.{bit-small}
 use Rattle.c2_wire.proofs.Laws.Exchange.{fed-ended, taken-append, after-bit}
 use Rattle.c2_target.specs.declared.Target.{Target}
 use Rattle.c2_target.specs.Delays.{Setup}
-use Rattle.c2_target.specs.Target.{stepped, step-of, refusal, answer, flash-after}
-use Rattle.c2_play.specs.Playing.{against, replies-of, whole-step, play, own-replies, left-by, answered, Own-replies, after-replies}
+use Rattle.c2_target.specs.Target.{stepped, step-coded, refusal, answer, flash-after}
+use Rattle.c2_play.specs.Playing.{against, run-replies, whole-step, play, own-replies, left-by, answered, Own-replies, played-after}
 
 -- a reply is 0 or 1, a refused step's too
 pub reply-small : (u : Setup) (t : Target) (f : List ℕ) (x : ℕ) → answer u t f x .reply ≤ 1
 unfolding answer
 reply-small u t f x =
-    by-test (eqb (refusal u t f x) 0) (λ e. rw e (bit-small (stepped u t f (step-of x) .reply))) (λ e. rw e (omega arith))
+    by-test (eqb (refusal u t f x) 0) (λ e. rw e (bit-small (stepped u t f (step-coded x) .reply))) (λ e. rw e (omega arith))
 
 pub after-small : (g : Field) (s : Step) (k : Bool → Exchange) (n : ℕ) → n ≤ 1 → after (strobe g s k) n ≡ k (eqb n 1)
 unfolding after
@@ -52,7 +52,7 @@ own-play u (ask (at g s) k) t f (r ∷ rs) h =
 
 -- an exchange that the target's own replies end has ended as it is played
 pub own-ends : (u : Setup) (e : Exchange) (t : Target) (f : List ℕ) (rs : List ℕ) (o : Outcome) → Own-replies u t f e rs → fed e rs ≡ ended o
-    → play u e t f ≡ after-replies u e t f rs
+    → play u e t f ≡ played-after u e t f rs
 unfolding against outcome-of
 own-ends u e t f rs o h q =
     sym (own-play u e t f rs h)
@@ -76,7 +76,8 @@ enough-end e n rs h m = go (fed e rs) refl
         let one : taken (fed e rs) (0 ∷ []) ≡ 1 = ap (λ (x : Exchange). taken x (0 ∷ [])) q in
         absurd (omega (arith, h (rs ++ 0 ∷ []), taken-append e rs (0 ∷ []), running-takes e rs g s k q))
 
--- There are such replies: those that the exchange is given as it is played. All are taken, they are the target's own, and they end it.
+-- There are such replies: those that the exchange is given as it is played. All are taken, they are the
+-- target's own, and they end it.
 pub record Given (u : Setup) (e : Exchange) (t : Target) (f : List ℕ) (rs : List ℕ) : Type 0 where
   pub all-taken : taken e rs ≡ length rs
   pub own : Own-replies u t f e rs
@@ -97,19 +98,20 @@ own-head : (u : Setup) (t : Target) (f : List ℕ) (s : Step) (xs ys : List ℕ)
 unfolding whole-step own-replies
 own-head u t f s xs ys h = rw (reply-again (answer u t f (code s) .reply) (reply-small u t f (code s)), h)
 
-pub played-replies : (u : Setup) (e : Exchange) (t : Target) (f : List ℕ) → Given u e t f (replies-of (whole-step u) e t f)
-unfolding replies-of taken steps answered own-replies fed against asks
+pub played-replies : (u : Setup) (e : Exchange) (t : Target) (f : List ℕ) → Given u e t f (run-replies (whole-step u) e t f)
+unfolding run-replies taken steps answered own-replies fed against asks
 played-replies u (ended o) t f = record { all-taken = refl; own = refl; ends = refl }
 played-replies u (ask (at g s) k) t f =
     let w = whole-step u t f s in
     let x = played-replies u (k (w .reply)) (w .target) (w .flash) in
     record {
       all-taken = rw (given-after u g s k t f) (ap suc (x .all-taken));
-      own = rw (given-after u g s k t f) (own-head u t f s _ (answered (k (w .reply)) (replies-of (whole-step u) (k (w .reply)) (w .target) (w .flash))) (x .own));
-      ends = ap (λ (y : Exchange). fed y (replies-of (whole-step u) (k (w .reply)) (w .target) (w .flash))) (given-after u g s k t f) ∙ x .ends;
+      own = rw (given-after u g s k t f) (own-head u t f s _ (answered (k (w .reply)) (run-replies (whole-step u) (k (w .reply)) (w .target) (w .flash))) (x .own));
+      ends = ap (λ (y : Exchange). fed y (run-replies (whole-step u) (k (w .reply)) (w .target) (w .flash))) (given-after u g s k t f) ∙ x .ends;
     }
 
--- The target gets the first step and every step written. The last is 6 where the exchange has ended, and changes nothing.
+-- The target gets the first step and every step written. The last is 6 where the exchange has ended, and
+-- changes nothing.
 pub all-steps : (e : Exchange) (rs : List ℕ) → asks e ∷ steps e rs ≡ answered e rs ++ asks (fed e rs) ∷ []
 unfolding answered taken steps fed after
 all-steps e [] = refl
@@ -117,7 +119,7 @@ all-steps (ended o) (r ∷ rs) = rw (fed-ended o rs)
 all-steps (ask (at g s) k) (r ∷ rs) = ap (λ (xs : List ℕ). asks (strobe g s k) ∷ xs) (all-steps (after (strobe g s k) r) rs)
 
 off-keeps : (u : Setup) (t : Target) (f : List ℕ) → left-by u t f (6 ∷ []) ≡ record { target = t; flash = f }
-unfolding left-by answer flash-after stepped step-of
+unfolding left-by answer flash-after stepped step-coded
 off-keeps u t f = by-test (eqb (refusal u t f 6) 0) (λ e. rw e) (λ e. rw e)
 
 pub left-append : (u : Setup) (xs ys : List ℕ) (t : Target) (f : List ℕ)

@@ -1,4 +1,5 @@
--- A page's acts from where the session comes to them, and a list of pages: where a cut falls, and what the flash is then.
+-- A page's acts from where the session comes to them, and a list of pages: where a cut falls, and what the
+-- flash is then.
 use mathlib.Core.Path.{_≡_, refl, sym, ap, _∙_, subst}
 use mathlib.Core.Bool.{true, false, cond}
 use mathlib.Core.List.{List, [], _∷_, _++_, append-assoc, append-nil}
@@ -23,7 +24,8 @@ use Rattle.c2_play.specs.Pages.{with-page, Fits}
 use Rattle.c2_play.proofs.Laws.Leads.{Leads}
 use Rattle.c2_play.proofs.Laws.Pages.{page-good}
 
--- between two commands: no frame, no mark, the interface on, no command or output; no key write is counted once another frame has begun
+-- between two commands: no frame, no mark, the interface on, no command or output; no key write is counted
+-- once another frame has begun
 pub record Between (t : Target) : Type 0 where
   pub place : ℕ
   pub address : ℕ

@@ -1,5 +1,5 @@
--- A page against the target: it is erased, written block by block and read back. On the way it is the old page, or, from the erase on, the first k
--- bytes of the new one and 0xFF after them; every other byte stays.
+-- A page against the target: it is erased, written block by block and read back. On the way it is the old
+-- page, or, from the erase on, the first k bytes of the new one and 0xFF after them; every other byte stays.
 use mathlib.Core.Path.{_≡_, sym, ap, _∙_}
 use mathlib.Core.List.{List, [], _∷_, _++_, map, append-assoc}
 use Prim.Native.Nat.{ℕ, zero, suc, _+_, _*_, _/_, _<_, _≤_}

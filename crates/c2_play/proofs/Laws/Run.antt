@@ -1,4 +1,5 @@
--- The whole run: how the pages, the order up to some of them, and the order end; and where each of these ends among the steps.
+-- The whole run: how the pages, the order up to some of them, and the order end; and where each of these ends
+-- among the steps.
 use mathlib.Core.Path.{_≡_, refl, sym, ap, _∙_, subst, subst⁻¹}
 use mathlib.Core.Bool.{false}
 use mathlib.Core.List.{List, [], _∷_, _++_, map, append-assoc}

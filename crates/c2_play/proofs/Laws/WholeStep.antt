@@ -1,5 +1,5 @@
--- The target's whole step: from a state that exists it is never refused for a step of the session, so a session is played as against the steps
--- that are not refused.
+-- The target's whole step: from a state that exists it is never refused for a step of the session, so a
+-- session is played as against the steps that are not refused.
 use mathlib.Core.Path.{_≡_, refl, subst, subst⁻¹}
 use mathlib.Core.Bool.{Bool, true, false}
 use mathlib.Core.List.{List}
@@ -18,7 +18,7 @@ use Rattle.settings.proofs.Laws.Opening.{Opened, opened, settings-pass}
 use Rattle.c2_target.specs.declared.Target.{Target}
 use Rattle.c2_target.specs.Delays.{Setup}
 use Rattle.c2_target.specs.Known.{known, known-point, known-command, known-output, known-link, is-byte}
-use Rattle.c2_target.specs.Target.{stepped, is-step, step-of, refusal, answer, flash-after, fresh, cleared}
+use Rattle.c2_target.specs.Target.{stepped, is-step, step-coded, refusal, answer, flash-after, fresh, cleared}
 use Rattle.c2_play.specs.Playing.{against, whole-step, play}
 use Rattle.c2_play.specs.Programmed.{Programmed, Programs}
 use Rattle.c2_play.proofs.Laws.Interface.{Fit}
@@ -38,8 +38,8 @@ is-step-code reset = refl
 is-step-code pause = refl
 is-step-code off = refl
 
-step-of-code : (s : Step) → step-of (code s) ≡ s
-unfolding step-of code
+step-of-code : (s : Step) → step-coded (code s) ≡ s
+unfolding step-coded code
 step-of-code released = refl
 step-of-code (driven false) = refl
 step-of-code (driven true) = refl

@@ -20,7 +20,7 @@ use Rattle.c2_acts.specs.declared.Stage.the-variants.{Lead, Erase, Write, Read}
 use Rattle.c2_acts.specs.declared.Task.{Task}
 use Rattle.c2_acts.specs.declared.Task.the-variants.{Reset, Pause, Address, Send, Input, Output, Ident, Status, Compare}
 use Rattle.c2_acts.specs.Code.Acts.{task-of}
-use Rattle.c2_session.specs.Code.Sent.{lead-byte}
+use Rattle.c2_session.specs.Code.Bytes.{lead-byte}
 
 -- the act of a task that sends this byte, expects this one at this image offset, on a device with this ID
 abbrev pub task-act : Task → (byte id offset : ℕ) → Act

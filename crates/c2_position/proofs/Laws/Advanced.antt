@@ -35,15 +35,17 @@ use Rattle.c2_session.specs.declared.Point.the-variants.{Running, Ended}
 use Rattle.c2_session.specs.declared.Session.{Session}
 use Rattle.c2_session.specs.declared.Wanted.the-variants.{Byte}
 use Rattle.c2_acts.specs.Code.Acts.{task-of, acts-in}
-use Rattle.c2_session.specs.Code.Sent.{image-byte, sent-offset, compared-offset}
-use Rattle.c2_session.specs.Code.Machine.{at, running, onward, again, differs, compared, judged, sends-image, drives-image, wants, stays, settled, task-taken}
+use Rattle.c2_session.specs.Code.Bytes.{image-byte, sent-offset, compared-offset}
+use Rattle.c2_session.specs.Code.Next.{at, strobe-point, next-act}
+use Rattle.c2_session.specs.Code.Judge.{read-again, differs, compared, frame-judged, sends-image, drives-image, wants, stays, frame-answered}
+use Rattle.c2_session.specs.Code.Advance.{task-taken}
 use Rattle.c2_range.specs.Range.{pages-in, blocks-in, strobes-in, reads-in, place-in-range, running-in-range, point-in-range, in-range}
 use Rattle.c2_position.specs.Position.{page-list, pages-from, writes-from, reads-from, at-act, point-position, position}
 use Rattle.c2_position.proofs.Laws.Acts.{task-act}
 use Rattle.c2_position.proofs.Laws.Position.{Fits, act-here, act-byte, page-inside, block-inside, image-small}
 use Rattle.c2_position.proofs.Laws.Onward.{rest-from, acts-here, goes-on}
 use Rattle.c2_order.specs.Point
-use Rattle.c2_session.specs.Code.Machine
+use Rattle.c2_session.specs.Code.Advance
 
 input-test : (x : ℕ) → eqb (x / 2 % 2) 0 ≡ input-taken x
 unfolding input-taken odd
@@ -108,22 +110,22 @@ sends-inside k e =
     (ltb-false k 11 (a .0), ltb-true k 523 (b .0))
 
 writes-stay : (s : Session) (image : List ℕ) → Fits s image → (i j k : ℕ) → i < s .pages → j < s .settings .size / 256 → (p : Place)
-    → stays Write s (at Write i j k) p image ≡ running (at Write i j k) p
+    → stays Write s (at Write i j k) p image ≡ strobe-point (at Write i j k) p
 unfolding drives-image image-byte sent-offset
 writes-stay s image h i j k gi gj p = by-test (drives-image (at Write i j k) p) driving (λ e. rw e)
   where
-    driving : drives-image (at Write i j k) p ≡ true → stays Write s (at Write i j k) p image ≡ running (at Write i j k) p
+    driving : drives-image (at Write i j k) p ≡ true → stays Write s (at Write i j k) p image ≡ strobe-point (at Write i j k) p
     driving e =
         let a = not-first (ltb (p .strobe) 5) _ e in
         let b = not-second (ltb (p .strobe) 13) (sends-image k) (a .1) in
         rw e (there (sends-inside k (b .1)))
       where
-        there : (11 ≤ k) × (k < 523) → wants (image-byte image (sent-offset s (at Write i j k))) (at Write i j k) p ≡ running (at Write i j k) p
+        there : (11 ≤ k) × (k < 523) → wants (image-byte image (sent-offset s (at Write i j k))) (at Write i j k) p ≡ strobe-point (at Write i j k) p
         there c =
             rw (lt-ltb (i * s .settings .size + j * 256 + (k - 11) / 2) (length image) (omega (arith, page-inside s image h i gi, block-inside s image h j gj)))
 
 pub stays-same : (s : Session) (image : List ℕ) → Fits s image → (g : Stage) (i j k : ℕ) → i < pages-in g (s .pages) → j < blocks-in g (s .settings .size) → (p : Place)
-    → stays g s (at g i j k) p image ≡ running (at g i j k) p
+    → stays g s (at g i j k) p image ≡ strobe-point (at g i j k) p
 stays-same s image h Lead i j k gi gj p = refl
 stays-same s image h Erase i j k gi gj p = refl
 stays-same s image h Write i j k gi gj p = writes-stay s image h i j k gi gj p
@@ -147,11 +149,11 @@ module _ (s : Session) (image : List ℕ) (h : Fits s image) (w r : ℕ)
   after = rest-from s image h g i j k
 
   -- a point of the same act
-  stays-here : (p : Place) → point-position s image (running (at g i j k) p) ≡ Point.running here after p
+  stays-here : (p : Place) → point-position s image (strobe-point (at g i j k) p) ≡ Point.running here after p
   unfolding point-position
   stays-here p = ap (λ (x : List Act). at-act x p) (acts-here s image h g i j k gi gj gk)
 
-  onward-here : point-position s image (onward s (at g i j k)) ≡ begin after
+  onward-here : point-position s image (next-act s (at g i j k)) ≡ begin after
   onward-here = sym (goes-on s image h g i j k gi gj gk)
 
   cond-position : (t : Bool) (x y : Rattle.c2_session.specs.declared.Point.Point) (u v : Point.Point)
@@ -159,18 +161,18 @@ module _ (s : Session) (image : List ℕ) (h : Fits s image) (w r : ℕ)
   cond-position true x y u v p q = p
   cond-position false x y u v p q = q
 
-  again-here : (n : ℕ) → point-position s image (again r (at g i j k) n) ≡ Point.again (limits w r) here after n
-  unfolding again Point.again point-position
+  again-here : (n : ℕ) → point-position s image (read-again r (at g i j k) n) ≡ Point.again (limits w r) here after n
+  unfolding read-again Point.again point-position
   again-here n = cond-position (ltb (n + 1) r) _ _ _ _ (stays-here (place 0 (n + 1) 0)) refl
 
   again-as : (t : Task) → task-of g k ≡ t → (n : ℕ)
-      → point-position s image (again r (at g i j k) n) ≡ Point.again (limits w r) (task-act t (act-byte s image h g a) (s .settings .id) (compared-offset s a)) after n
+      → point-position s image (read-again r (at g i j k) n) ≡ Point.again (limits w r) (task-act t (act-byte s image h g a) (s .settings .id) (compared-offset s a)) after n
   again-as t q n =
       again-here n ∙ ap (λ (x : Task). Point.again (limits w r) (task-act x (act-byte s image h g a) (s .settings .id) (compared-offset s a)) after n) q
 
   -- a frame of the act has ended with a byte
   judged-here : (t : Task) → task-of g k ≡ t → (n x : ℕ)
-      → point-position s image (judged r t s (at g i j k) n x image) ≡ Point.judged (limits w r) (task-act t (act-byte s image h g a) (s .settings .id) (compared-offset s a)) after n x
+      → point-position s image (frame-judged r t s (at g i j k) n x image) ≡ Point.judged (limits w r) (task-act t (act-byte s image h g a) (s .settings .id) (compared-offset s a)) after n x
   unfolding Point.judged compared differs point-position output-ready odd
   judged-here Reset q n x = onward-here
   judged-here Pause q n x = onward-here
@@ -190,7 +192,7 @@ module _ (s : Session) (image : List ℕ) (h : Fits s image) (w r : ℕ)
   stays-on p = ap (λ (x : Rattle.c2_session.specs.declared.Point.Point). point-position s image x) (stays-same s image h g i j k gi gj p) ∙ stays-here p
 
   settled-here : (t : Task) → task-of g k ≡ t → (n : ℕ) (m : Moved)
-      → point-position s image (settled r m t s (at g i j k) n image) ≡ Point.settled (limits w r) (task-act t (act-byte s image h g a) (s .settings .id) (compared-offset s a)) after n m
+      → point-position s image (frame-answered r m t s (at g i j k) n image) ≡ Point.settled (limits w r) (task-act t (act-byte s image h g a) (s .settings .id) (compared-offset s a)) after n m
   unfolding Point.settled point-position
   settled-here t q n (Within p) =
       stays-on p ∙ ap (λ (x : Task). Point.running (task-act x (act-byte s image h g a) (s .settings .id) (compared-offset s a)) after p) q
@@ -200,7 +202,7 @@ module _ (s : Session) (image : List ℕ) (h : Fits s image) (w r : ℕ)
   -- a reply of 0 or 1
   framed-here : (t : Task) → task-of g k ≡ t → (p : Place) (b : Bool) (m : Moved)
       → followed w (strobes-of (task-act t (act-byte s image h g a) (s .settings .id) (compared-offset s a))) p b ≡ m
-      → point-position s image (settled r m t s (at g i j k) (p .count) image)
+      → point-position s image (frame-answered r m t s (at g i j k) (p .count) image)
       ≡ Point.settled (limits w r) (task-act t (act-byte s image h g a) (s .settings .id) (compared-offset s a)) after (p .count)
       (followed w (strobes-of (task-act t (act-byte s image h g a) (s .settings .id) (compared-offset s a))) p b)
   framed-here t q p b m e = rw e (settled-here t q (p .count) m)
@@ -222,8 +224,8 @@ module _ (s : Session) (image : List ℕ) (h : Fits s image) (w r : ℕ)
 
   -- the point that the session is at, and any reply
   pub replied-here : (p : Place) (x : ℕ)
-      → point-position s image (Machine.replied w r s (at g i j k) p x image) ≡ Point.next (limits w r) (point-position s image (running (at g i j k) p)) x
-  unfolding Machine.replied Point.next point-position
+      → point-position s image (Advance.point-replied w r s (at g i j k) p x image) ≡ Point.next (limits w r) (point-position s image (strobe-point (at g i j k) p)) x
+  unfolding Advance.point-replied Point.next point-position
   replied-here p zero = rw (acts-here s image h g i j k gi gj gk) (taken-here (task-of g k) refl p false)
   replied-here p (suc zero) = rw (acts-here s image h g i j k gi gj gk) (taken-here (task-of g k) refl p true)
   replied-here p (suc (suc x)) = rw (acts-here s image h g i j k gi gj gk, lt-ltb 1 (suc (suc x)) (omega arith))
@@ -280,14 +282,14 @@ point-of w r s e =
 
 -- the session after a reply stands at the next point
 pub advances : (w r : ℕ) (s : Session) (image : List ℕ) → in-range w r s ≡ true → length image ≡ s .settings .size * s .pages → (x : ℕ)
-    → position (Machine.advanced w r s x image) image ≡ Point.next (limits w r) (position s image) x
-unfolding Machine.advanced Point.next point-position
+    → position (Advance.advanced w r s x image) image ≡ Point.next (limits w r) (position s image) x
+unfolding Advance.advanced Point.next point-position
 advances w r s image e l x =
-    position-keeps s (Machine.point-advanced w r (s .point) s x image) image (Machine.point-advanced w r (s .point) s x image)
+    position-keeps s (Advance.point-advanced w r (s .point) s x image) image (Advance.point-advanced w r (s .point) s x image)
     ∙ go (s .point) (point-of w r s e)
   where
     go : (y : SessionPoint) → point-in-range w r (s .settings .size) (s .pages) y ≡ true
-        → point-position s image (Machine.point-advanced w r y s x image) ≡ Point.next (limits w r) (point-position s image y) x
+        → point-position s image (Advance.point-advanced w r y s x image) ≡ Point.next (limits w r) (point-position s image y) x
     go (Running g i j k q c v) f =
         let n = exists-of w r s g i j k q c v f in
         replied-here s image (fits-of w r s image e l) w r g i j k (n .page) (n .block) (n .act) (place q c v) x

@@ -27,7 +27,8 @@ use Rattle.c2_acts.specs.declared.Task.the-variants.{Reset, Pause, Address, Sen
 use Rattle.c2_session.specs.declared.Point.the-variants.{Running, Ended}
 use Rattle.c2_session.specs.declared.Session.{Session}
 use Rattle.c2_acts.specs.Code.Acts.{task-of}
-use Rattle.c2_session.specs.Code.Machine.{at, advanced}
+use Rattle.c2_session.specs.Code.Next.{at}
+use Rattle.c2_session.specs.Code.Advance.{advanced}
 use Rattle.c2_range.specs.Range.{strobes-in, reads-in, in-range, point-in-range}
 use Rattle.c2_position.specs.Position.{page-list, page-at, block-at, stage-acts, pages-from, writes-from, reads-from, after-stage, acts-from, point-position, position}
 use Rattle.c2_position.proofs.Laws.Acts.{task-act}

@@ -1,4 +1,4 @@
--- What follows an act in the order is what stands at the next point: `onward` goes through the order.
+-- What follows an act in the order is what stands at the next point: `next-act` goes through the order.
 use mathlib.Core.Path.{_≡_, refl, ap, _∙_}
 use mathlib.Core.List.{List, [], _∷_, _++_, append-assoc}
 use Prim.Native.Nat.{ℕ, suc, _+_, _*_, _/_, _<_, _≤_}
@@ -16,7 +16,7 @@ use Rattle.c2_acts.specs.declared.Stage.{Stage}
 use Rattle.c2_acts.specs.declared.Stage.the-variants.{Lead, Erase, Write, Read, Close}
 use Rattle.c2_session.specs.declared.Session.{Session}
 use Rattle.c2_acts.specs.Code.Acts.{acts-in}
-use Rattle.c2_session.specs.Code.Machine.{at, next-write, next-page, next-read, next-stage, onward}
+use Rattle.c2_session.specs.Code.Next.{at, next-write, next-page, next-read, next-stage, next-act}
 use Rattle.c2_range.specs.Range.{pages-in, blocks-in}
 use Rattle.c2_position.specs.Position.{page-list, page-at, blocks-at, block-at, stage-acts, pages-from, writes-from, reads-from, after-stage, acts-from, at-act, point-position}
 use Rattle.c2_position.proofs.Laws.Pages.{length-pages, length-blocks}
@@ -139,11 +139,11 @@ module _ (s : Session) (image : List ℕ) (h : Fits s image) where
 
   -- the next point stands where the order goes on
   pub goes-on : (g : Stage) (i j k : ℕ) → i < pages-in g (s .pages) → j < blocks-in g (s .settings .size) → k < acts-in g
-      → begin (rest-from g i j k) ≡ point-position s image (onward s (at g i j k))
-  unfolding onward point-position
+      → begin (rest-from g i j k) ≡ point-position s image (next-act s (at g i j k))
+  unfolding next-act point-position
   goes-on g i j k gi gj gk = go (decLt (k + 1) (acts-in g))
     where
-      go : Dec (k + 1 < acts-in g) → begin (rest-from g i j k) ≡ point-position s image (onward s (at g i j k))
+      go : Dec (k + 1 < acts-in g) → begin (rest-from g i j k) ≡ point-position s image (next-act s (at g i j k))
       go (yes y) = rw (lt-ltb (k + 1) (acts-in g) y, add-one k) (begin-at (rest-from g i j k))
       go (no y) =
           let e : drop (suc k) (stage-acts g s image i j) ≡ []

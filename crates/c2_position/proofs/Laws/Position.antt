@@ -1,4 +1,5 @@
--- The act at a point of a session, with the byte that it sends or expects: the session's numbers stand for the act of the order.
+-- The act at a point of a session, with the byte that it sends or expects: the session's numbers stand for
+-- the act of the order.
 use mathlib.Core.Path.{_≡_, refl, sym, ap, _∙_}
 use mathlib.Core.Bool.{Bool, true, false, cond}
 use mathlib.Core.List.{List, []}
@@ -18,8 +19,8 @@ use Rattle.c2_acts.specs.declared.Stage.the-variants.{Lead, Erase, Write, Read,
 use Rattle.c2_session.specs.declared.At.{At}
 use Rattle.c2_session.specs.declared.Session.{Session}
 use Rattle.c2_acts.specs.Code.Acts.{task-of, acts-in}
-use Rattle.c2_session.specs.Code.Sent.{erase-byte, block-byte, image-byte, sent-offset, compared-offset, write-byte, stage-byte, byte-of}
-use Rattle.c2_session.specs.Code.Machine.{at}
+use Rattle.c2_session.specs.Code.Bytes.{erase-byte, block-byte, image-byte, sent-offset, compared-offset, write-byte, stage-byte, byte-of}
+use Rattle.c2_session.specs.Code.Next.{at}
 use Rattle.c2_range.specs.Range.{pages-in, blocks-in}
 use Rattle.c2_position.specs.Position.{page-list, page-at, block-at, stage-acts}
 use Rattle.c2_position.proofs.Laws.Pages.{pages-at, blocks-at-number}

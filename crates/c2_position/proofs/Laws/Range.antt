@@ -29,8 +29,10 @@ use Rattle.c2_session.specs.declared.Point.{Point}
 use Rattle.c2_session.specs.declared.Point.the-variants.{Running, Ended}
 use Rattle.c2_session.specs.declared.Session.{Session}
 use Rattle.c2_acts.specs.Code.Acts.{task-of, acts-in}
-use Rattle.c2_session.specs.Code.Sent.{compared-offset}
-use Rattle.c2_session.specs.Code.Machine.{at, running, begins, next-write, next-page, next-read, next-stage, onward, again, differs, compared, judged, settled, task-taken, replied, point-advanced, advanced}
+use Rattle.c2_session.specs.Code.Bytes.{compared-offset}
+use Rattle.c2_session.specs.Code.Next.{at, strobe-point, first-strobe, next-write, next-page, next-read, next-stage, next-act}
+use Rattle.c2_session.specs.Code.Judge.{read-again, differs, compared, frame-judged, frame-answered}
+use Rattle.c2_session.specs.Code.Advance.{task-taken, point-replied, point-advanced, advanced}
 use Rattle.c2_range.specs.Range.{pages-in, blocks-in, strobes-in, reads-in, place-in-range, running-in-range, ends-session, offsets-of, ended-in-range, point-in-range, in-range}
 use Rattle.c2_position.proofs.Laws.Position.{Fits, image-small}
 use Rattle.c2_position.proofs.Laws.Advanced.{exists-of, fits-of, point-of, compares-late, wanted-there, stays-same}
@@ -95,12 +97,12 @@ module _ (w r : ℕ) (hw : 0 < w) (hr : 0 < r) (s : Session) (image : List ℕ) 
   cond-in false x y p q = q
 
   running-in : (g : Stage) (i j k : ℕ) (p : Place) → i < pages-in g (s .pages) → j < blocks-in g (s .settings .size) → k < acts-in g
-      → Exists w (reads-in r (task-of g k)) (strobes-in (task-of g k)) p → In (running (at g i j k) p)
+      → Exists w (reads-in r (task-of g k)) (strobes-in (task-of g k)) p → In (strobe-point (at g i j k) p)
   unfolding running-in-range
   running-in g i j k p gi gj gk e =
       rw (lt-ltb _ _ gi, lt-ltb _ _ gj, lt-ltb _ _ gk) (exists-place w (reads-in r (task-of g k)) (strobes-in (task-of g k)) p e)
 
-  begins-in : (g : Stage) (i j k : ℕ) → i < pages-in g (s .pages) → j < blocks-in g (s .settings .size) → k < acts-in g → In (begins g i j k)
+  begins-in : (g : Stage) (i j k : ℕ) → i < pages-in g (s .pages) → j < blocks-in g (s .settings .size) → k < acts-in g → In (first-strobe g i j k)
   begins-in g i j k gi gj gk =
       let t : Task = task-of g k in
       running-in g i j k (place 0 0 0) gi gj gk (first-exists w (reads-in r t) (strobes-in t) (whole-in r t) hw (reads-some r hr t) (some-in t))
@@ -134,48 +136,48 @@ module _ (w r : ℕ) (hw : 0 < w) (hr : 0 < r) (s : Session) (image : List ℕ) 
           rw (le-ltb (j + 1) (s .settings .size / 256) (omega arith), le-ltb (i + 1) (s .pages) (omega arith)) (begins-in Close 0 0 0 (omega arith) (omega arith) (omega arith))
   stage-in Close i j k gi gj = refl
 
-  onward-in : (g : Stage) (i j k : ℕ) → i < pages-in g (s .pages) → j < blocks-in g (s .settings .size) → k < acts-in g → In (onward s (at g i j k))
-  unfolding onward
+  onward-in : (g : Stage) (i j k : ℕ) → i < pages-in g (s .pages) → j < blocks-in g (s .settings .size) → k < acts-in g → In (next-act s (at g i j k))
+  unfolding next-act
   onward-in g i j k gi gj gk = go (decLt (k + 1) (acts-in g))
     where
-      go : Dec (k + 1 < acts-in g) → In (onward s (at g i j k))
+      go : Dec (k + 1 < acts-in g) → In (next-act s (at g i j k))
       go (yes y) = rw (lt-ltb _ _ y) (begins-in g i j (k + 1) gi gj y)
       go (no y) = rw (le-ltb (k + 1) (acts-in g) (omega arith)) (stage-in g i j k gi gj)
 
   module _ (g : Stage) (i j k : ℕ) (gi : i < pages-in g (s .pages)) (gj : j < blocks-in g (s .settings .size)) (gk : k < acts-in g) where
     -- a poll's next read
-    again-in : (t : Task) → task-of g k ≡ t → reads-in r t ≡ r → strobes-in t ≡ frame AddressRead 0 → (n : ℕ) → In (again r (at g i j k) n)
-    unfolding again ended-in-range ends-session offsets-of
+    again-in : (t : Task) → task-of g k ≡ t → reads-in r t ≡ r → strobes-in t ≡ frame AddressRead 0 → (n : ℕ) → In (read-again r (at g i j k) n)
+    unfolding read-again ended-in-range ends-session offsets-of
     again-in t q e f n = go (decLt (n + 1) r)
       where
-        go : Dec (n + 1 < r) → In (again r (at g i j k) n)
+        go : Dec (n + 1 < r) → In (read-again r (at g i j k) n)
         go (yes y) = rw (lt-ltb _ _ y) (running-in g i j k (place 0 (n + 1) 0) gi gj gk (rw (q, e, f) (read-exists w r (n + 1) y)))
         go (no y) = rw (le-ltb (n + 1) r (omega arith)) refl
 
-    judged-in : (t : Task) → task-of g k ≡ t → (n x : ℕ) → In (judged r t s (at g i j k) n x image)
+    judged-in : (t : Task) → task-of g k ≡ t → (n x : ℕ) → In (frame-judged r t s (at g i j k) n x image)
     unfolding ended-in-range ends-session offsets-of compared differs
     judged-in Reset q n x = onward-in g i j k gi gj gk
     judged-in Pause q n x = onward-in g i j k gi gj gk
     judged-in Address q n x = onward-in g i j k gi gj gk
     judged-in Send q n x = onward-in g i j k gi gj gk
-    judged-in Input q n x = cond-in (eqb (x / 2 % 2) 0) (onward s (at g i j k)) (again r (at g i j k) n) (onward-in g i j k gi gj gk) (again-in Input q refl refl n)
-    judged-in Output q n x = cond-in (eqb (x % 2) 1) (onward s (at g i j k)) (again r (at g i j k) n) (onward-in g i j k gi gj gk) (again-in Output q refl refl n)
-    judged-in Ident q n x = cond-in (eqb x (s .settings .id)) (onward s (at g i j k)) (Ended other-device 0) (onward-in g i j k gi gj gk) refl
-    judged-in Status q n x = cond-in (eqb x 13) (onward s (at g i j k)) (Ended bad-status 0) (onward-in g i j k gi gj gk) refl
+    judged-in Input q n x = cond-in (eqb (x / 2 % 2) 0) (next-act s (at g i j k)) (read-again r (at g i j k) n) (onward-in g i j k gi gj gk) (again-in Input q refl refl n)
+    judged-in Output q n x = cond-in (eqb (x % 2) 1) (next-act s (at g i j k)) (read-again r (at g i j k) n) (onward-in g i j k gi gj gk) (again-in Output q refl refl n)
+    judged-in Ident q n x = cond-in (eqb x (s .settings .id)) (next-act s (at g i j k)) (Ended other-device 0) (onward-in g i j k gi gj gk) refl
+    judged-in Status q n x = cond-in (eqb x 13) (next-act s (at g i j k)) (Ended bad-status 0) (onward-in g i j k gi gj gk) refl
     judged-in Compare q n x =
         let c = wanted-there s image h g i j k gi gj gk (compares-late g k gk q) in
         let m : compared-offset s (at g i j k) % 4294967296 ≡ compared-offset s (at g i j k) = mod-eq-of-lt (omega (arith, c .1, image-small s image h)) in
-        rw (c .0) (cond-in (eqb x _) (onward s (at g i j k)) (Ended compare-differs (compared-offset s (at g i j k) % 4294967296)) (onward-in g i j k gi gj gk)
+        rw (c .0) (cond-in (eqb x _) (next-act s (at g i j k)) (Ended compare-differs (compared-offset s (at g i j k) % 4294967296)) (onward-in g i j k gi gj gk)
         (rw m (lt-ltb (compared-offset s (at g i j k)) (s .settings .size * s .pages) (omega (arith, c .1, h .whole, mul-comm (s .settings .size) (s .pages))))))
 
-    settled-in : (t : Task) → task-of g k ≡ t → (n : ℕ) (m : Moved) → exists-after w (reads-in r t) (strobes-in t) m → In (settled r m t s (at g i j k) n image)
+    settled-in : (t : Task) → task-of g k ≡ t → (n : ℕ) (m : Moved) → exists-after w (reads-in r t) (strobes-in t) m → In (frame-answered r m t s (at g i j k) n image)
     unfolding ended-in-range ends-session offsets-of
     settled-in t q n (Within p) e = rw (stays-same s image h g i j k gi gj p) (running-in g i j k p gi gj gk (rw q e))
     settled-in t q n (Stopped x) e = judged-in t q n x
     settled-in t q n WaitLimit e = refl
 
     framed-in : (t : Task) → task-of g k ≡ t → (p : Place) (b : Bool) → Exists w (reads-in r t) (strobes-in t) p
-        → In (settled r (followed w (strobes-in t) p b) t s (at g i j k) (p .count) image)
+        → In (frame-answered r (followed w (strobes-in t) p b) t s (at g i j k) (p .count) image)
     framed-in t q p b e =
         settled-in t q (p .count) (followed w (strobes-in t) p b)
         (followed-exists w (reads-in r t) (strobes-in t) (whole-in r t) hw (reads-some r hr t) p b e)
@@ -191,8 +193,8 @@ module _ (w r : ℕ) (hw : 0 < w) (hr : 0 < r) (s : Session) (image : List ℕ) 
     taken-in Status q p b e = framed-in Status q p b e
     taken-in Compare q p b e = framed-in Compare q p b e
 
-    replied-in : (p : Place) (x : ℕ) → Exists w (reads-in r (task-of g k)) (strobes-in (task-of g k)) p → In (replied w r s (at g i j k) p x image)
-    unfolding replied ended-in-range ends-session offsets-of
+    replied-in : (p : Place) (x : ℕ) → Exists w (reads-in r (task-of g k)) (strobes-in (task-of g k)) p → In (point-replied w r s (at g i j k) p x image)
+    unfolding point-replied ended-in-range ends-session offsets-of
     replied-in p x e =
         cond-in (ltb 1 x) (Ended bad-reply 0) (task-taken w r (task-of g k) s (at g i j k) p (eqb x 1) image) refl (taken-in (task-of g k) refl p (eqb x 1) e)
 

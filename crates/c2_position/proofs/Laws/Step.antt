@@ -27,8 +27,9 @@ use Rattle.c2_acts.specs.declared.Task.the-variants.{Reset, Pause, Address, Sen
 use Rattle.c2_session.specs.declared.Point.the-variants.{Running, Ended}
 use Rattle.c2_session.specs.declared.Session.{Session}
 use Rattle.c2_acts.specs.Code.Acts.{task-of, read-task}
-use Rattle.c2_session.specs.Code.Sent.{stage-byte, byte-of, compared-offset}
-use Rattle.c2_session.specs.Code.Machine.{at, running, task-step, point-step, step-of}
+use Rattle.c2_session.specs.Code.Bytes.{stage-byte, byte-of, compared-offset}
+use Rattle.c2_session.specs.Code.Next.{at, strobe-point}
+use Rattle.c2_session.specs.Code.Step.{task-step, point-step, session-step}
 use Rattle.c2_range.specs.Range.{strobes-in, reads-in, in-range, point-in-range}
 use Rattle.c2_position.specs.Position.{point-position, position}
 use Rattle.c2_position.proofs.Laws.Acts.{task-act}
@@ -106,8 +107,8 @@ module _ (s : Session) (image : List ℕ) (h : Fits s image) (w r : ℕ) (g : St
 
 -- the step that a session in range waits at, lent its image
 pub asks-step : (w r : ℕ) (s : Session) (image : List ℕ) → in-range w r s ≡ true → length image ≡ s .settings .size * s .pages
-    → step-of s image ≡ asks (left-to-say (limits w r) (position s image))
-unfolding step-of point-position asks left-to-say code
+    → session-step s image ≡ asks (left-to-say (limits w r) (position s image))
+unfolding session-step point-position asks left-to-say code
 asks-step w r s image e l = go (s .point) (point-of w r s e)
   where
     h : Fits s image

@@ -14,7 +14,7 @@ use Rattle.c2_wire.specs.Place.{strobe-at, samples, count-limit}
 use Rattle.c2_acts.specs.declared.Task.{Task}
 use Rattle.c2_acts.specs.declared.Task.the-variants.{Reset, Pause, Address, Send, Input, Output, Ident, Status, Compare}
 use Rattle.c2_range.specs.Range.{strobes-in, reads-in, place-in-range}
-use Rattle.c2_range.specs.Code.Bounds.{strobes-by, limit-by, sampled-by, within}
+use Rattle.c2_range.specs.Code.Bounds.{strobes-by, limit-by, sampled-by, below-bounds}
 
 strobes-are : (t : Task) → length (strobes-in t) ≡ strobes-by t
 unfolding frame sends ins-code bits
@@ -55,12 +55,12 @@ samples-are Compare = refl
 
 -- a place in a frame, tested by these numbers
 pub place-by : (w r : ℕ) (t : Task) (q c v : ℕ)
-    → place-in-range w (reads-in r t) (strobes-in t) q c v ≡ within (strobes-by t) (limit-by w r t q) (sampled-by t q) q c v
+    → place-in-range w (reads-in r t) (strobes-in t) q c v ≡ below-bounds (strobes-by t) (limit-by w r t q) (sampled-by t q) q c v
 unfolding place-in-range
 place-by w r t q c v = rw (strobes-are t) (go (decLt q (strobes-by t)))
   where
     go : Dec (q < strobes-by t) → (ltb q (strobes-by t) && ltb c (count-limit w (reads-in r t) (strobe-at (strobes-in t) q)) && ltb v (2 ^ samples (take q (strobes-in t))))
-        ≡ within (strobes-by t) (limit-by w r t q) (sampled-by t q) q c v
+        ≡ below-bounds (strobes-by t) (limit-by w r t q) (sampled-by t q) q c v
     go (yes y) =
         rw (
           same-below (λ i. count-limit w (reads-in r t) (strobe-at (strobes-in t) i)) (limit-by w r t) (strobes-by t) (limits-are w r t) q y,
@@ -68,6 +68,6 @@ place-by w r t q c v = rw (strobes-are t) (go (decLt q (strobes-by t)))
         )
     go (no y) = rw (le-ltb q (strobes-by t) (omega arith))
 
-pub place-is : (w r : ℕ) (t u : Task) (q c v : ℕ) (b : Bool) → t ≡ u → b ≡ within (strobes-by u) (limit-by w r u q) (sampled-by u q) q c v
+pub place-is : (w r : ℕ) (t u : Task) (q c v : ℕ) (b : Bool) → t ≡ u → b ≡ below-bounds (strobes-by u) (limit-by w r u q) (sampled-by u q) q c v
     → b ≡ place-in-range w (reads-in r t) (strobes-in t) q c v
 place-is w r t u q c v b e h = rw e (h ∙ sym (place-by w r u q c v))

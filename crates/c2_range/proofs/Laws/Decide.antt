@@ -13,7 +13,7 @@ use Rattle.c2_session.specs.declared.At.{At}
 use Rattle.c2_session.specs.declared.Session.{Session}
 use Rattle.c2_acts.specs.Code.Acts.{task-of, acts-in}
 use Rattle.c2_range.specs.Range.{pages-in, blocks-in, strobes-in, reads-in, place-in-range, running-in-range, point-in-range, in-range}
-use Rattle.c2_range.specs.Code.Bounds.{within, inside}
+use Rattle.c2_range.specs.Code.Bounds.{below-bounds, inside}
 
 -- a power of two of up to eight bits is no remainder
 pub power-fits : (n : ℕ) → n ≤ 8 → (1 * 2 ^ n) % 18446744073709551616 ≡ 2 ^ n
@@ -24,13 +24,13 @@ power-fits n h =
 
 -- a place
 module _ (n m k q c v : ℕ) where
-  pub strobe-past : n ≤ q → false ≡ within n m k q c v
+  pub strobe-past : n ≤ q → false ≡ below-bounds n m k q c v
   strobe-past h = rw (le-ltb q n h)
 
-  pub count-past : q < n → m ≤ c → false ≡ within n m k q c v
+  pub count-past : q < n → m ≤ c → false ≡ below-bounds n m k q c v
   count-past h l = rw (lt-ltb q n h, le-ltb c m l)
 
-  pub bits-decide : q < n → c < m → (b : ℕ) → b ≡ 2 ^ k → ltb v b ≡ within n m k q c v
+  pub bits-decide : q < n → c < m → (b : ℕ) → b ≡ 2 ^ k → ltb v b ≡ below-bounds n m k q c v
   bits-decide h l b e = rw (← e, lt-ltb q n h, lt-ltb c m l)
 
 -- an act

@@ -1,5 +1,6 @@
--- For the code: the frame of an act as numbers, and tests of numbers below others. Nothing here needs to be believed: `Shapes` in proofs/ has the
--- law that these are the strobes, counts and sampled bits of the frames.
+-- For the code: the frame of an act as numbers, and tests of numbers below others. Nothing here needs to be
+-- believed: `Shapes` in proofs/ has the law that these are the strobes, counts and sampled bits of the
+-- frames.
 use mathlib.Core.Bool.{Bool, cond, _&&_}
 use Prim.Native.Nat.{ℕ, _-_, _^_}
 use lib.Dec.{eqb, ltb}
@@ -49,8 +50,8 @@ sampled-by Status q = sampled-from 6 q
 sampled-by Compare q = sampled-from 6 q
 
 -- a place below such numbers
-abbrev pub within : (strobes limit sampled : ℕ) → (strobe count bits : ℕ) → Bool
-within n m k q c v = ltb q n && ltb c m && ltb v (2 ^ k)
+abbrev pub below-bounds : (strobes limit sampled : ℕ) → (strobe count bits : ℕ) → Bool
+below-bounds n m k q c v = ltb q n && ltb c m && ltb v (2 ^ k)
 
 -- an act of so many, in one of so many blocks of so many pages
 abbrev pub inside : (pages blocks acts : ℕ) → (page block act : ℕ) → Bool

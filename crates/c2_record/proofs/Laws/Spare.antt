@@ -161,7 +161,8 @@ module _ (r : List ℕ) (n : length r ≡ 32) (b : (i : ℕ) → byte r i < 256)
         zeros-pass r 24 (at 24, at 25, at 26, at 27, at 28, at 29, at 30, at 31),
       )
 
-  -- The session read packs to these bytes exactly where the tests pass: its fields are then those read, and the record's pass.
+  -- The session read packs to these bytes exactly where the tests pass: its fields are then those read, and
+  -- the record's pass.
   decides : (p : Point) → (unused r ≡ true → fields-of p ≡ fields-read r) → (packed (session-read r p) ≡ r → unused r ≡ true)
       → same (packed (session-read r p)) r ≡ cond (unused r) (spare r) false
   unfolding packed

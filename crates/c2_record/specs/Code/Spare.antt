@@ -1,5 +1,6 @@
--- For the code: the bytes of a record that a session leaves at 0, tested several at once. Nothing here needs to be believed: `Sparing` in proofs/
--- has the law that a session read from a record passes these tests exactly where `checked` takes it.
+-- For the code: the bytes of a record that a session leaves at 0, tested several at once. Nothing here needs
+-- to be believed: `Sparing` in proofs/ has the law that a session read from a record passes these tests
+-- exactly where `checked` takes it.
 use mathlib.Core.Bool.{Bool, false, cond}
 use mathlib.Core.List.{List}
 use Prim.Native.Nat.{ℕ, _+_, _*_}

@@ -1,4 +1,5 @@
--- The session and the target, step by step, are the exchange played against the target; and what the function answers by them.
+-- The session and the target, step by step, are the exchange played against the target; and what the function
+-- answers by them.
 use mathlib.Core.Path.{_≡_, refl, sym, ap, _∙_}
 use mathlib.Core.Bool.{Bool, true, false}
 use mathlib.Core.List.{List}
@@ -16,7 +17,8 @@ use Rattle.c2_wire.specs.Exchange.{Exchange, Outcome, strobe, asks, outcome-of}
 use Rattle.settings.specs.declared.Settings.{Settings}
 use Rattle.settings.specs.Opening.{opening-refusal}
 use Rattle.c2_session.specs.declared.Session.{Session}
-use Rattle.c2_session.specs.Code.Machine.{advanced, step-of}
+use Rattle.c2_session.specs.Code.Step.{session-step}
+use Rattle.c2_session.specs.Code.Advance.{advanced}
 use Rattle.c2_outcome.specs.Outcome.{is-running, number-of, offset-of}
 use Rattle.c2_position.proofs.Laws.Step.{asks-step}
 use Rattle.c2_position.proofs.Laws.Exchange.{exchange-advances}
@@ -25,7 +27,8 @@ use Rattle.c2_target.specs.Delays.{Setup, setup}
 use Rattle.c2_target.specs.Target.{fresh, answer, flash-after}
 use Rattle.c2_target.specs.Target as target
 use Rattle.c2_play.proofs.Laws.OwnReplies.{reply-small}
-use Rattle.c2_opening.specs.Opened.{started, opened-session, exchange-at}
+use Rattle.c2_opening.specs.Opened.{opened-session, exchange-at}
+use Rattle.c2_opening.specs.Code.Started.{started}
 use Rattle.c2_opening.proofs.Laws.Opened.{started-is, begins-lent, begins-so}
 use Rattle.c2_opening.proofs.Laws.Follows.{Lent, lent-advances, still-asks, ended-over, outcome-now}
 use Rattle.c2_run.specs.Code.Closed.{Closed, closed}
@@ -49,11 +52,11 @@ played-on n u e y f p = rw p
 
 turn : (n : ℕ) (t : Settings) (ds image : List ℕ) (s : Session) (y : Target) (f : List ℕ) → Lent s image → is-running (s .point) ≡ true
     → played (suc n) (setup t ds) (exchange-at s image) y f
-    ≡ one-more (played n (setup t ds) (exchange-at (advanced 20 256 s (answer (setup t ds) y f (step-of s image) .reply % 256) image) image) (answer (setup t ds) y f (step-of s image) .target) (flash-after (setup t ds) y f (step-of s image)))
+    ≡ one-more (played n (setup t ds) (exchange-at (advanced 20 256 s (answer (setup t ds) y f (session-step s image) .reply % 256) image) image) (answer (setup t ds) y f (session-step s image) .target) (flash-after (setup t ds) y f (session-step s image)))
 turn n t ds image s y f h p =
     let u = setup t ds in
-    let r = answer u y f (step-of s image) .reply in
-    let small : r % 256 ≡ r = mod-eq-of-lt (omega (arith, reply-small u y f (step-of s image))) in
+    let r = answer u y f (session-step s image) .reply in
+    let small : r % 256 ≡ r = mod-eq-of-lt (omega (arith, reply-small u y f (session-step s image))) in
     let moves = exchange-advances 20 256 (omega arith) (omega arith) s image (h .id) (h .bytes) (h .range) (h .whole) r in
     played-on n u (exchange-at s image) y f (still-asks s image h p .3)
     ∙ rw (sym (asks-step 20 256 s image (h .range) (h .whole)), small, moves)
@@ -63,14 +66,14 @@ pub same : (n i : ℕ) (t : Settings) (ds image : List ℕ) (s : Session) (y : T
 unfolding played closed
 same zero i t ds image s y f h = record { exchange = refl; target = refl; flash = refl; replies = omega arith }
 same (suc n) i t ds image s y f h =
-    let a = answer (setup t ds) y f (step-of s image) in
+    let a = answer (setup t ds) y f (session-step s image) in
     go (is-running (s .point)) refl
-    (same n (i + 1) t ds image (advanced 20 256 s (a .reply % 256) image) (a .target) (flash-after (setup t ds) y f (step-of s image)) (lent-advances s image (a .reply % 256) h))
+    (same n (i + 1) t ds image (advanced 20 256 s (a .reply % 256) image) (a .target) (flash-after (setup t ds) y f (session-step s image)) (lent-advances s image (a .reply % 256) h))
   where
     go : (b : Bool) → is-running (s .point) ≡ b
         → Same image (i + 1)
-        (played n (setup t ds) (exchange-at (advanced 20 256 s (answer (setup t ds) y f (step-of s image) .reply % 256) image) image) (answer (setup t ds) y f (step-of s image) .target) (flash-after (setup t ds) y f (step-of s image)))
-        (closed n (i + 1) t ds image (advanced 20 256 s (answer (setup t ds) y f (step-of s image) .reply % 256) image) (answer (setup t ds) y f (step-of s image) .target) (flash-after (setup t ds) y f (step-of s image)))
+        (played n (setup t ds) (exchange-at (advanced 20 256 s (answer (setup t ds) y f (session-step s image) .reply % 256) image) image) (answer (setup t ds) y f (session-step s image) .target) (flash-after (setup t ds) y f (session-step s image)))
+        (closed n (i + 1) t ds image (advanced 20 256 s (answer (setup t ds) y f (session-step s image) .reply % 256) image) (answer (setup t ds) y f (session-step s image) .target) (flash-after (setup t ds) y f (session-step s image)))
         → Same image i (played (suc n) (setup t ds) (exchange-at s image) y f) (closed (suc n) i t ds image s y f)
     go true p k =
         rw (turn n t ds image s y f h p, p)
@@ -81,8 +84,8 @@ closed-lent : (n i : ℕ) (t : Settings) (ds image : List ℕ) (s : Session) (y 
 unfolding closed
 closed-lent zero i t ds image s y f h = h
 closed-lent (suc n) i t ds image s y f h =
-    let a = answer (setup t ds) y f (step-of s image) in
-    let k = closed-lent n (i + 1) t ds image (advanced 20 256 s (a .reply % 256) image) (a .target) (flash-after (setup t ds) y f (step-of s image)) (lent-advances s image (a .reply % 256) h) in
+    let a = answer (setup t ds) y f (session-step s image) in
+    let k = closed-lent n (i + 1) t ds image (advanced 20 256 s (a .reply % 256) image) (a .target) (flash-after (setup t ds) y f (session-step s image)) (lent-advances s image (a .reply % 256) h) in
     by-test (is-running (s .point)) (λ p. rw p k) (λ p. rw p h)
 
 -- what the function answers and leaves, at each of its returns

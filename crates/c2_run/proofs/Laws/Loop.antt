@@ -9,8 +9,10 @@ use Rattle.settings.specs.declared.Settings.{Settings}
 use Rattle.settings.specs.Accepted.{settings-refusal}
 use Rattle.c2_session.specs.declared.Session.{Session}
 use Rattle.c2_acts.specs.declared.Task.{Task}
-use Rattle.c2_session.specs.Code.Machine.{advanced, step-of, advanced-by, step-by}
-use Rattle.c2_outcome.specs.Outcome.{is-running, task-next}
+use Rattle.c2_session.specs.Code.Step.{session-step, step-by}
+use Rattle.c2_session.specs.Code.Advance.{advanced, advanced-by}
+use Rattle.c2_outcome.specs.Outcome.{is-running}
+use Rattle.c2_outcome.specs.Code.Task.{task-next}
 use Rattle.c2_outcome.proofs.Laws.Task.{Knows, advanced-known, step-known, known-next}
 use Rattle.c2_target.specs.declared.Target.{Target}
 use Rattle.c2_target.specs.Delays.{setup}
@@ -20,7 +22,7 @@ use Rattle.c2_target.specs.Code.StepOn.{answer-on, flash-on}
 use Rattle.c2_target.proofs.Laws.Target.{same-on}
 use Rattle.c2_play.proofs.Laws.Known.{Lent}
 use Rattle.c2_play.proofs.Laws.LeftBy.{Lasts, answer-lasts}
-use Rattle.c2_run.specs.Code.Closed.{Closed, stopped, closed}
+use Rattle.c2_run.specs.Code.Closed.{Closed, stops-at, closed}
 
 pub record Sofar (t : Settings) (image f₀ ds : List ℕ) (budget : ℕ) (s₀ : Session) (f : List ℕ) (s : Session) (y : Target) (n : ℕ) : Type 0 where
   pub small : n ≤ budget
@@ -32,9 +34,9 @@ module _ (t : Settings) (image f₀ ds : List ℕ) (budget : ℕ) (s₀ : Sessio
   starts = let z : budget - 0 ≡ budget = omega arith in record { small = omega arith; long = refl; same = rw z }
 
   module _ (f : List ℕ) (s : Session) (y : Target) (n : ℕ) (k : Sofar t image f₀ ds budget s₀ f s y n) where
-    pub goes : n < budget → is-running (s .point) ≡ true → length (flash-after (setup t ds) y f (step-of s image)) ≡ length f
-        → Sofar t image f₀ ds budget s₀ (flash-after (setup t ds) y f (step-of s image))
-        (advanced 20 256 s (answer (setup t ds) y f (step-of s image) .reply % 256) image) (answer (setup t ds) y f (step-of s image) .target) (n + 1)
+    pub goes : n < budget → is-running (s .point) ≡ true → length (flash-after (setup t ds) y f (session-step s image)) ≡ length f
+        → Sofar t image f₀ ds budget s₀ (flash-after (setup t ds) y f (session-step s image))
+        (advanced 20 256 s (answer (setup t ds) y f (session-step s image) .reply % 256) image) (answer (setup t ds) y f (session-step s image) .target) (n + 1)
     unfolding closed
     goes h run l =
         let z : budget - n ≡ suc (budget - (n + 1)) = omega arith in
@@ -50,25 +52,25 @@ module _ (t : Settings) (image f₀ ds : List ℕ) (budget : ℕ) (s₀ : Sessio
         let on = same-on (setup t ds) y f x accepted (lasts .exists) in
         let gives : a ≡ answer (setup t ds) y f x = ea ∙ on .0 in
         let leaves : f₁ ≡ flash-after (setup t ds) y f x = ef ∙ on .1 in
-        let asked : x ≡ step-of s image = ex ∙ step-known 20 256 s task image m in
+        let asked : x ≡ session-step s image = ex ∙ step-known 20 256 s task image m in
         let e : s₁ ≡ advanced 20 256 s r image = es ∙ advanced-known 20 256 s task image r m in
         let knows : Knows task₁ (s₁ .point) = rw (et, e) (known-next 20 256 s task image r m) in
         (rw (e, er, gives, leaves, asked) (goes h run (rw (leaves, asked) at l)), (knows, rw (gives, leaves) (answer-lasts (setup t ds) lent y f x lasts)))
 
-    pub done : budget ≤ n → closed budget 0 t ds image s₀ fresh f₀ ≡ stopped n s y f
+    pub done : budget ≤ n → closed budget 0 t ds image s₀ fresh f₀ ≡ stops-at n s y f
     unfolding closed
     done h = let z : budget - n ≡ 0 = omega arith in k .same ∙ rw z
 
-    pub stops : is-running (s .point) ≡ false → closed budget 0 t ds image s₀ fresh f₀ ≡ stopped n s y f
+    pub stops : is-running (s .point) ≡ false → closed budget 0 t ds image s₀ fresh f₀ ≡ stops-at n s y f
     unfolding closed
     stops p = k .same ∙ go (budget - n)
       where
-        go : (m : ℕ) → closed m n t ds image s y f ≡ stopped n s y f
+        go : (m : ℕ) → closed m n t ds image s y f ≡ stops-at n s y f
         go zero = refl
         go (suc m) = rw p
 
 -- what is due where the loop is left
-module _ {x : Closed} {s : Session} {y : Target} {f : List ℕ} {n : ℕ} (e : x ≡ stopped n s y f) where
+module _ {x : Closed} {s : Session} {y : Target} {f : List ℕ} {n : ℕ} (e : x ≡ stops-at n s y f) where
   pub session-at : s ≡ x .session
   session-at = sym (ap (λ (z : Closed). z .session) e)
 

@@ -16,22 +16,22 @@ use Rattle.c2_target.specs.declared.Replied.{Replied}
 use Rattle.c2_target.specs.Delays.{Setup}
 use Rattle.c2_target.specs.Strobes.{line, turn, strobed}
 use Rattle.c2_target.specs.Known.{known}
-use Rattle.c2_target.specs.Target.{after-reset, after-pause, stepped, is-step, step-of, refusal, answered, flash-left, answer, flash-after}
+use Rattle.c2_target.specs.Target.{after-reset, after-pause, stepped, is-step, step-coded, refusal, answered, flash-left, answer, flash-after}
 use Rattle.c2_target.specs.Code.StepOn.{known-on, refusal-on, answer-on, flash-on}
-use Rattle.c2_target.specs.Code.Parts.{replied, strobe-flash, still}
+use Rattle.c2_target.specs.Code.Parts.{turn-replied, strobe-flash, still}
 use Rattle.c2_target.proofs.Laws.Known.{exists-on}
 use Rattle.c2_target.proofs.Laws.Flash.{strobed-flash}
 
 -- only step 2 drives the line low
-pub line-high : (x : ℕ) → eqb x 2 ≡ false → line (step-of x) ≡ true
-unfolding line step-of
+pub line-high : (x : ℕ) → eqb x 2 ≡ false → line (step-coded x) ≡ true
+unfolding line step-coded
 line-high x e =
     by-test (eqb x 0) (λ a. rw a)
     (λ a. rw (a, e) (by-test (eqb x 3) (λ b. rw b) (λ b. rw b (by-test (eqb x 4) (λ d. rw d) (λ d. rw d (by-test (eqb x 5) (λ g. rw g) (λ g. rw g)))))))
 
 -- only steps 2 and 3 drive it
-pub not-driving : (x : ℕ) → eqb x 2 ≡ false → eqb x 3 ≡ false → drives (step-of x) ≡ false
-unfolding drives step-of
+pub not-driving : (x : ℕ) → eqb x 2 ≡ false → eqb x 3 ≡ false → drives (step-coded x) ≡ false
+unfolding drives step-coded
 not-driving x e h =
     by-test (eqb x 0) (λ a. rw a) (λ a. rw (a, e, h) (by-test (eqb x 4) (λ d. rw d) (λ d. rw d (by-test (eqb x 5) (λ g. rw g) (λ g. rw g)))))
 
@@ -40,8 +40,8 @@ at-most x k h e = omega arith
 
 -- a step that is neither 4, 5 nor 6 is a strobe
 pub is-strobe : (u : Setup) (t : Target) (f : List ℕ) (x : ℕ) → is-step x ≡ true → (x ≡ 4 → ⊥) → (x ≡ 5 → ⊥) → (x ≡ 6 → ⊥)
-    → stepped u t f (step-of x) ≡ strobed u t f (step-of x)
-unfolding stepped step-of is-step
+    → stepped u t f (step-coded x) ≡ strobed u t f (step-coded x)
+unfolding stepped step-coded is-step
 is-strobe u t f x k p q r =
     let h = both (leb x 6) (not (eqb x 1)) k in
     let m = at-most x 3 (at-most x 4 (at-most x 5 (leb-true x 6 (h .0)) r) q) p in
@@ -59,16 +59,16 @@ is-strobe u t f x k p q r =
 
 -- what a step gives by the number m of its refusal: a strobe,
 module _ (u : Setup) (t : Target) (f : List ℕ) (x n m : ℕ) (e : m ≡ n) where
-  pub strobe-answered : m ≡ 0 → is-step x ≡ true → x < 4 → (r : Replied) → r ≡ replied (strobed u t f (step-of x)) → (f₁ : List ℕ)
+  pub strobe-answered : m ≡ 0 → is-step x ≡ true → x < 4 → (r : Replied) → r ≡ turn-replied (strobed u t f (step-coded x)) → (f₁ : List ℕ)
       → f₁ ≡ strobe-flash (u .settings) (t .point) (t .device) f → (r ≡ answered n u t f x) × (f₁ ≡ flash-left n u t f x)
   strobe-answered h k l r er f₁ ef =
       let s = is-strobe u t f x k (λ z. omega arith) (λ z. omega arith) (λ z. omega arith) in
       let z = eq-eqb n 0 (sym e ∙ h) in
-      (rw (z, s) er, rw (z, s) (ef ∙ sym (strobed-flash u (t .point) t f (step-of x))))
+      (rw (z, s) er, rw (z, s) (ef ∙ sym (strobed-flash u (t .point) t f (step-coded x))))
 
   -- and any other, or a refused one
-  still-is : (x < 4 → ⊥) → stepped u t f (step-of x) ≡ turn true (cond (eqb x 4) (after-reset t) (cond (eqb x 5) (after-pause t) t)) f
-  unfolding stepped step-of
+  still-is : (x < 4 → ⊥) → stepped u t f (step-coded x) ≡ turn true (cond (eqb x 4) (after-reset t) (cond (eqb x 5) (after-pause t) t)) f
+  unfolding stepped step-coded
   still-is h =
       rw (ne-eqb x 0 (λ z. h (omega arith)), ne-eqb x 2 (λ z. h (omega arith)), ne-eqb x 3 (λ z. h (omega arith)))
       (by-test (eqb x 4) (λ a. rw a) (λ a. rw a (by-test (eqb x 5) (λ b. rw b) (λ b. rw b))))

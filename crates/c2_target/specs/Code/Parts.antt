@@ -1,5 +1,5 @@
--- For the code, which gives reply and target and writes the flash apart: parts of what the definitions give. Nothing here needs to be
--- believed.
+-- For the code, which gives reply and target and writes the flash apart: parts of what the definitions give.
+-- Nothing here needs to be believed.
 use mathlib.Core.Bool.{Bool, cond, _&&_}
 use mathlib.Core.List.{List}
 use Prim.Native.Nat.{ℕ, _*_}
@@ -25,8 +25,8 @@ use Rattle.c2_target.specs.Target.{after-reset, after-pause}
 abbrev pub replying : (reply : ℕ) → Target → Replied
 replying r t = record { number = 0; reply = r; target = t }
 
-abbrev pub replied : Turn → Replied
-replied r = replying (bit (r .reply)) (r .target)
+abbrev pub turn-replied : Turn → Replied
+turn-replied r = replying (bit (r .reply)) (r .target)
 
 -- a step that is no strobe, by the number of its refusal
 abbrev pub still : (number : ℕ) → Target → (step : ℕ) → Replied

@@ -1,6 +1,7 @@
--- For the code: a step of a target that is handed on from step to step. Settings are not tested; the state is at a STOP, where a frame acts on it,
--- and elsewhere only its point. Nothing here needs to be believed: `same-on` of Steps in proofs/ has the law that from a state that exists, with
--- settings that pass, it is the same step.
+-- For the code: a step of a target that is handed on from step to step. Settings are not tested; the state is
+-- at a STOP, where a frame acts on it, and elsewhere only its point. Nothing here needs to be believed:
+-- `same-on` of Steps in proofs/ has the law that from a state that exists, with settings that pass, it is the
+-- same step.
 use mathlib.Core.Bool.{Bool, true, false, cond}
 use mathlib.Core.List.{List}
 use Prim.Native.Nat.{ℕ}

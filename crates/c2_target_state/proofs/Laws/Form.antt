@@ -22,7 +22,7 @@ use Rattle.c2_target_state.specs.declared.PointFields.{PointFields}
 use Rattle.c2_target_state.specs.declared.CommandFields.{CommandFields}
 use Rattle.c2_target_state.specs.declared.OutputFields.{OutputFields}
 use Rattle.c2_target_state.specs.declared.Seen.the-variants as seen
-use Rattle.c2_target_state.specs.State.{effect-code, effect-byte, point-fields, command-fields, output-fields, state-of, effect-of, later-point, point-of, command-of, output-of, target-read, same-state, target-of}
+use Rattle.c2_target_state.specs.State.{effect-code, effect-byte, point-fields, command-fields, output-fields, state-of, effect-of, later-point, state-point, command-of, output-of, target-read, same-state, target-of}
 use Rattle.c2_target_state.specs.Code.Form.{none, effect-in-form, later-in-form, point-in-form, early-in-form, command-in-form, output-in-form, in-form}
 use Rattle.c2_target_state.proofs.Laws.State.{same-itself, same-says}
 use Rattle.c2_target_state.proofs.Laws.State.Fits.{not-so}
@@ -155,8 +155,8 @@ module _ (s : State) (m : Small s) where
   point-numbers = record { point = s .point; heard = s .heard; value = s .value; left = s .left; zeros = s .zeros; effect = s .effect; byte = s .byte }
 
   heard-said : s .point < 6 → None (s .left) (s .zeros) (s .effect) (s .byte) → (eqb (s .point) 0 ≡ true → None (s .heard) (s .value) 0 0)
-      → point-fields (point-of s) ≡ point-numbers
-  unfolding point-of point-fields effect-code effect-byte
+      → point-fields (state-point s) ≡ point-numbers
+  unfolding state-point point-fields effect-code effect-byte
   heard-said l o r =
       let i : s .heard % 256 ≡ s .heard = mod-eq-of-lt (m .heard) in
       let j : s .value % 256 ≡ s .value = mod-eq-of-lt (m .value) in
@@ -173,8 +173,8 @@ module _ (s : State) (m : Small s) where
       five p l a b c d e = omega arith
 
   later-said : s .heard ≡ 0 → later-in-form (s .point) (s .value) (s .left) (s .zeros) (s .effect) (s .byte) ≡ true
-      → point-fields (point-of s) ≡ point-numbers
-  unfolding later-in-form point-of later-point point-fields effect-code effect-byte
+      → point-fields (state-point s) ≡ point-numbers
+  unfolding later-in-form state-point later-point point-fields effect-code effect-byte
   later-said h k =
       let i : s .left % 256 ≡ s .left = mod-eq-of-lt (m .left) in
       let j : s .value % 256 ≡ s .value = mod-eq-of-lt (m .value) in
@@ -202,7 +202,7 @@ module _ (s : State) (m : Small s) where
       let o = none-says (s .value) (s .zeros) (s .effect) (s .byte) (q .1) in
       rw (eqb-true p 6 (q .0), h, i, o .first, o .second, o .third, o .fourth)))))
 
-  point-said : point-passes point-numbers ≡ true → point-fields (point-of s) ≡ point-numbers
+  point-said : point-passes point-numbers ≡ true → point-fields (state-point s) ≡ point-numbers
   unfolding point-in-form
   point-said k =
       by-test (ltb (s .point) 6)

@@ -1,5 +1,6 @@
--- For the code, which tells a state that some target has by its numbers: tags exist, truth values are 0 or 1, and numbers that are not in use are
--- 0. Nothing here needs to be believed: `form-decides` in proofs/ says that this is the test of `target-of`.
+-- For the code, which tells a state that some target has by its numbers: tags exist, truth values are 0 or 1,
+-- and numbers that are not in use are 0. Nothing here needs to be believed: `form-decides` in proofs/ says
+-- that this is the test of `target-of`.
 use mathlib.Core.Bool.{Bool, true, false, cond}
 use Prim.Native.Nat.{ℕ, _+_}
 use lib.Dec.{eqb, ltb, leb}

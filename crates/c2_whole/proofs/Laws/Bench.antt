@@ -1,4 +1,5 @@
--- The target along the steps that it is sent, the last one too. A mark stays: a target that is unmarked after all of them was unmarked on the way.
+-- The target along the steps that it is sent, the last one too. A mark stays: a target that is unmarked after
+-- all of them was unmarked on the way.
 use mathlib.Core.Path.{_≡_, refl, sym, ap, _∙_}
 use mathlib.Core.Bool.{true, false}
 use mathlib.Core.List.{List, [], _∷_, _++_}
@@ -15,7 +16,7 @@ use Rattle.c2_order.specs.Conversation.{session-limits}
 use Rattle.c2_order.specs.Claims.{Opening, exchange-of}
 use Rattle.c2_target.specs.declared.Target.{Target}
 use Rattle.c2_target.specs.Delays.{Setup}
-use Rattle.c2_target.specs.Target.{answer, flash-after, refusal, stepped, step-of}
+use Rattle.c2_target.specs.Target.{answer, flash-after, refusal, stepped, step-coded}
 use Rattle.c2_play.specs.Playing.{Played, State, play, against, whole-step, left-by, answered, Own-replies}
 use Rattle.c2_play.specs.Programmed.{Met}
 use Rattle.c2_play.proofs.Laws.Keeps.{answer-unmarked, play-unmarked}
@@ -29,7 +30,7 @@ left-unmarked u [] t f h = h
 left-unmarked u (x ∷ xs) t f h = answer-unmarked u t f x (left-unmarked u xs (answer u t f x .target) (flash-after u t f x) h)
 
 off-keeps : (u : Setup) (t : Target) (f : List ℕ) → left-by u t f (6 ∷ []) ≡ record { target = t; flash = f }
-unfolding left-by answer flash-after stepped step-of
+unfolding left-by answer flash-after stepped step-coded
 off-keeps u t f = by-test (eqb (refusal u t f 6) 0) (λ e. rw e) (λ e. rw e)
 
 -- one step more of an exchange that, played on, ends unmarked

@@ -1,4 +1,5 @@
--- The page's claim, from the landed ones and two laws: pages laid one by one are the image laid over, and the target is ready at every step.
+-- The page's claim, from the landed ones and two laws: pages laid one by one are the image laid over, and the
+-- target is ready at every step.
 use mathlib.Core.Path.{_≡_, refl, sym, ap, _∙_, subst⁻¹}
 use mathlib.Core.List.{List, [], _∷_, append-nil}
 use Prim.Native.Nat.{ℕ, zero, suc, _+_, _*_, _/_, _≤_}

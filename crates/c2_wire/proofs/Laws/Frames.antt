@@ -1,4 +1,5 @@
--- Laws of the four frames: each is whole, how long it takes at the most, and that its driven strobes are the master's.
+-- Laws of the four frames: each is whole, how long it takes at the most, and that its driven strobes are the
+-- master's.
 use mathlib.Core.Path.{_≡_, refl}
 use mathlib.Core.Bool.{Bool, true, false, not, cond, _&&_, _||_}
 use mathlib.Core.List.{List, [], _∷_}

@@ -1,5 +1,5 @@
--- A reply takes the exchange that is left at a place of a frame to the one that is left at the place after: `followed` moves as the tree does.
--- One proof for every list of strobes that is whole; the four frames are.
+-- A reply takes the exchange that is left at a place of a frame to the one that is left at the place after:
+-- `followed` moves as the tree does. One proof for every list of strobes that is whole; the four frames are.
 use mathlib.Core.Path.{_≡_, refl, sym, ap, _∙_}
 use mathlib.Core.Bool.{Bool, true, false, cond}
 use mathlib.Core.List.{List, [], _∷_, _++_}
@@ -17,7 +17,7 @@ use Rattle.c2_wire.specs.Step.{Step, released}
 use Rattle.c2_wire.specs.Field.{Field, STOP, WAIT}
 use Rattle.c2_wire.specs.Exchange.{Exchange, strobe, after}
 use Rattle.c2_wire.specs.Frames.{Strobe, plain, sampled, waits, waiting, strobes, framed}
-use Rattle.c2_wire.specs.Place.{place, strobe-at, count-limit, step-of, samples, follows, followed, rest-of, remaining, moved-to, longest, longest-rest, strobes-left}
+use Rattle.c2_wire.specs.Place.{place, strobe-at, count-limit, strobe-step, samples, follows, followed, rest-of, remaining, moved-to, longest, longest-rest, strobes-left}
 use Rattle.c2_wire.specs.declared.Place.{Place}
 use Rattle.c2_wire.specs.declared.Moved.{Moved}
 use Rattle.c2_wire.specs.declared.Moved.the-variants.{Within, Stopped, WaitLimit}
@@ -30,7 +30,8 @@ waits-in (plain f s ∷ ss) = waits-in ss
 waits-in (sampled f ∷ ss) = waits-in ss
 waits-in (waits ∷ ss) = suc (waits-in ss)
 
--- Strobes that end with one whose reply is not looked at, sample at most a byte, and count reads (below r) only where they have no WAIT.
+-- Strobes that end with one whose reply is not looked at, sample at most a byte, and count reads (below r)
+-- only where they have no WAIT.
 pub record Whole (r : ℕ) (ss : List Strobe) : Type 0 where
   pub ends : (i : ℕ) → suc i ≡ length ss → (f : Field) × (s : Step) × (strobe-at ss i ≡ plain f s)
   pub byte : samples ss ≤ 8
@@ -309,8 +310,8 @@ counted-reads l r ss p h e = go (strobe-at ss (p .strobe)) refl (e .counted)
 
 -- at a place that exists the exchange asks for the step of its strobe
 pub remaining-asks : (l r : ℕ) (ss : List Strobe) (p : Place) (k : ℕ → Exchange) → Exists l r ss p
-    → (f : Field) × (j : Bool → Exchange) × (remaining l ss p k ≡ strobe f (step-of (strobe-at ss (p .strobe))) j)
-unfolding remaining rest-of strobes step-of count-limit waiting
+    → (f : Field) × (j : Bool → Exchange) × (remaining l ss p k ≡ strobe f (strobe-step (strobe-at ss (p .strobe))) j)
+unfolding remaining rest-of strobes strobe-step count-limit waiting
 remaining-asks l r ss p k h = go (strobe-at ss (p .strobe)) refl (h .counted)
   where
     n : ℕ
@@ -320,7 +321,7 @@ remaining-asks l r ss p k h = go (strobe-at ss (p .strobe)) refl (h .counted)
     split = drop-cons ss (p .strobe) (plain STOP released) (h .inside)
 
     go : (x : Strobe) → strobe-at ss (p .strobe) ≡ x → p .count < count-limit l r x
-        → (f : Field) × (j : Bool → Exchange) × (rest-of l (drop (p .strobe) ss) (p .count) (samples (take (p .strobe) ss)) (p .bits) k ≡ strobe f (step-of x) j)
+        → (f : Field) × (j : Bool → Exchange) × (rest-of l (drop (p .strobe) ss) (p .count) (samples (take (p .strobe) ss)) (p .bits) k ≡ strobe f (strobe-step x) j)
     go (plain f s) e c = (f, λ _. strobes l (drop (suc (p .strobe)) ss) n (p .bits) k, rw (split, e))
     go (sampled f) e c = (f, λ b. strobes l (drop (suc (p .strobe)) ss) (suc n) (p .bits + bit b * 2 ^ n) k, rw (split, e))
     go waits e c =

@@ -12,7 +12,7 @@ use Rattle.c2_wire.specs.Bits.{odd, bits, bit}
 use Rattle.c2_wire.specs.Step.{driven, released, code}
 use Rattle.c2_wire.specs.Field.{STOP}
 use Rattle.c2_wire.specs.Frames.{plain, sends, ins-code, frame}
-use Rattle.c2_wire.specs.Place.{place, step-of, step-at, samples, follows, followed, strobe-at, count-limit}
+use Rattle.c2_wire.specs.Place.{place, strobe-step, step-at, samples, follows, followed, strobe-at, count-limit}
 use Rattle.c2_wire.specs.Code.Role.{body-role, role-at, drives-bit, role-step, role-follows, Role-fits}
 use Rattle.c2_wire.specs.declared.Frame.{Frame}
 use Rattle.c2_wire.specs.declared.Frame.the-variants.{AddressWrite, AddressRead, DataWrite, DataRead}
@@ -55,14 +55,14 @@ role-past DataRead i h =
 
 -- the step of a strobe's role is the step of the strobe
 steps-below : (f : Frame) (a : ℕ) → upto (λ i. role-step f a (role-at f i)) 15 ≡ upto (step-at (frame f a)) 15
-unfolding frame sends ins-code bits odd role-at drives-bit step-at step-of code
+unfolding frame sends ins-code bits odd role-at drives-bit step-at strobe-step code
 steps-below AddressWrite a = refl
 steps-below AddressRead a = refl
 steps-below DataWrite a = refl
 steps-below DataRead a = refl
 
 pub role-step-at : (f : Frame) (a i : ℕ) → role-step f a (role-at f i) ≡ step-at (frame f a) i
-unfolding step-at step-of code
+unfolding step-at strobe-step code
 role-step-at f a i = go (decLt i 15)
   where
     go : Dec (i < 15) → role-step f a (role-at f i) ≡ step-at (frame f a) i

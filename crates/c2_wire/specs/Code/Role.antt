@@ -1,5 +1,6 @@
--- For the code: what each strobe of a frame is, by arithmetic on its number. Nothing here needs to be believed: `Roles` in proofs/ has the
--- laws that these are the strobes of Frames.antt, and the public contracts cite those.
+-- For the code: what each strobe of a frame is, by arithmetic on its number. Nothing here needs to be
+-- believed: `Roles` in proofs/ has the laws that these are the strobes of Frames.antt, and the public
+-- contracts cite those.
 use mathlib.Core.Bool.{Bool, false, cond}
 use Prim.Native.Nat.{ℕ, _-_, _<_}
 use lib.Dec.{ltb, eqb}

@@ -1,4 +1,3 @@
--- `c2_wire_probe::numbers_of` meets its contract: each return by the tests on its way and what the calls give.
 use borrow.Author.Needs.{needs}
 use Rattle.c2_wire_probe.proofs.numbers_of.Statement.{statement}
 use Rattle.c2_wire_probe.proofs.numbers_of.Tie as tie

@@ -20,7 +20,7 @@ use Rattle.c2_acts.specs.declared.Task.{Task}
 use Rattle.c2_acts.specs.declared.Task.the-variants.{Reset, Pause, Address, Send, Input, Output, Ident, Status, Compare}
 use Rattle.c2_session.specs.declared.Session.{Session}
 use Rattle.c2_acts.specs.Code.Acts.{task-of, acts-in}
-use Rattle.c2_session.specs.Code.Machine.{at}
+use Rattle.c2_session.specs.Code.Next.{at}
 use Rattle.c2_range.specs.Range.{pages-in, blocks-in}
 use Rattle.c2_position.specs.Position.{page-at, block-at, stage-acts, pages-from, writes-from, reads-from, after-stage}
 use Rattle.c2_position.proofs.Laws.Acts.{task-act}

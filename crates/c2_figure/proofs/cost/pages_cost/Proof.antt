@@ -1,4 +1,3 @@
--- `c2_figure::cost::pages_cost` meets its contract: each return by the tests on its way and what the calls give.
 use borrow.Author.Needs.{needs}
 use native.Mathlib.Omega.{arith}
 use Rattle.laws.proofs.Products.{product-below}

@@ -1,4 +1,3 @@
--- `c2_figure::left::bytes_left` meets its contract: each return by the tests on its way and what the calls give.
 use borrow.Author.Needs.{needs}
 use native.Mathlib.Omega.{arith}
 use borrow.Author.Tests.{eq-eqb, ne-eqb}

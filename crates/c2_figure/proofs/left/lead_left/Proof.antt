@@ -1,4 +1,3 @@
--- `c2_figure::left::lead_left` meets its contract: each return by the tests on its way and what the calls give.
 use mathlib.Core.Path.{refl}
 use borrow.Author.Needs.{needs}
 use native.Mathlib.Omega.{arith}

@@ -1,4 +1,3 @@
--- `c2_figure::left::pages_left` meets its contract: each return by the tests on its way and what the calls give.
 use borrow.Author.Needs.{needs}
 use native.Mathlib.Omega.{arith}
 use mathlib.Core.Path.{_≡_}

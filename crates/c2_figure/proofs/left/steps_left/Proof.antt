@@ -1,4 +1,3 @@
--- `c2_figure::left::steps_left` meets its contract: each return by the tests on its way and what the calls give.
 use borrow.Author.Needs.{needs}
 use Rattle.c2_figure.specs.Code.Left.{steps-left}
 use Rattle.c2_figure.proofs.left.steps_left.Statement.{statement}

@@ -1,4 +1,5 @@
--- Some replies take as many steps as the figure: each WAIT to its last strobe, each poll to its last read, and every byte as expected.
+-- Some replies take as many steps as the figure: each WAIT to its last strobe, each poll to its last read,
+-- and every byte as expected.
 use mathlib.Core.Path.{_≡_, refl, sym, ap, _∙_}
 use mathlib.Core.Bool.{Bool, true, false, cond}
 use mathlib.Core.List.{List, [], _∷_}

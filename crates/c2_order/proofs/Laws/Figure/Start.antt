@@ -1,4 +1,5 @@
--- The figure at the start of a session: the sum of its acts' costs, over the limits, the pages and the blocks of a page.
+-- The figure at the start of a session: the sum of its acts' costs, over the limits, the pages and the blocks
+-- of a page.
 use mathlib.Core.Path.{_≡_, refl, ap, _∙_}
 use mathlib.Core.List.{List, [], _∷_, _++_, map}
 use Prim.Native.Nat.{ℕ, zero, suc, _+_, _*_, _/_, _≤_}

@@ -1,4 +1,3 @@
--- `c2_range::bounds::address_read` meets its contract: each return by the tests on its way and what the calls give.
 use borrow.Author.Needs.{needs}
 use Rattle.c2_range.proofs.bounds.address_read.Statement.{statement}
 use Rattle.c2_range.proofs.bounds.address_read.Tie as tie

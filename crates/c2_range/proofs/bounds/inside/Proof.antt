@@ -1,4 +1,4 @@
--- `c2_range::bounds::inside` meets its contract: by the laws of Deciding.
+-- `c2_range::bounds::inside` meets its contract: by the laws of Decide.
 use borrow.Author.Needs.{needs}
 use Rattle.c2_acts.specs.Code.Acts.{acts-in}
 use Rattle.c2_range.proofs.Laws.Decide.{page-past, block-past, act-decides}

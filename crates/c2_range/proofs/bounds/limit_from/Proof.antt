@@ -1,4 +1,3 @@
--- `c2_range::bounds::limit_from` meets its contract: each return by the tests on its way and what the calls give.
 use borrow.Author.Needs.{needs}
 use Rattle.laws.proofs.Pick.{picks}
 use Rattle.c2_range.proofs.bounds.limit_from.Statement.{statement}

@@ -1,4 +1,4 @@
--- `c2_range::bounds::place_in_range` meets its contract: by the law of Shapes.
+-- `c2_range::bounds::place_in_range` meets its contract: by the law of Bounds.
 use borrow.Author.Needs.{needs}
 use Rattle.c2_range.proofs.Laws.Bounds.{place-is}
 use Rattle.c2_acts.specs.declared.Task.the-variants.{Reset, Pause, Address, Send, Input, Output, Ident, Status, Compare}

@@ -1,4 +1,4 @@
--- `c2_range::bounds::within` meets its contract: by the laws of Deciding.
+-- `c2_range::bounds::within` meets its contract: by the laws of Decide.
 use borrow.Author.Needs.{needs}
 use Rattle.c2_range.proofs.Laws.Decide.{strobe-past, count-past, bits-decide}
 use Rattle.c2_range.proofs.bounds.within.Statement.{statement}

@@ -1,4 +1,4 @@
--- `c2_range::range::act_in_range` meets its contract: by the laws of Deciding.
+-- `c2_range::range::act_in_range` meets its contract: by the laws of Decide.
 use borrow.Author.Needs.{needs}
 use Rattle.c2_acts.specs.declared.Stage.the-variants.{Lead, Erase, Write, Read, Close}
 use Rattle.c2_range.proofs.Laws.Decide.{act-is}

@@ -1,4 +1,3 @@
--- `c2_range::range::ended_in_range` meets its contract: each return by the tests on its way and what the calls give.
 use mathlib.Core.Path.{sym, _∙_}
 use borrow.Author.Needs.{needs}
 use Rattle.c2_range.specs.Range.{ended-in-range}

@@ -1,4 +1,3 @@
--- `c2_range::range::ends_session` meets its contract: each return by the tests on its way and what the calls give.
 use borrow.Author.Tests.{le-leb, lt-leb, ne-eqb}
 use Rattle.c2_range.specs.Range.{ends-session}
 use Rattle.c2_wire.specs.Bits.{number}

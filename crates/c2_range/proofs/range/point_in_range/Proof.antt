@@ -1,4 +1,3 @@
--- `c2_range::range::point_in_range` meets its contract: each return by the tests on its way and what the calls give.
 use borrow.Author.Needs.{needs}
 use Rattle.c2_range.proofs.range.point_in_range.Statement.{statement}
 use Rattle.c2_range.proofs.range.point_in_range.Tie as tie

@@ -1,4 +1,4 @@
--- `c2_range::range::running_in_range` meets its contract: by the laws of Deciding.
+-- `c2_range::range::running_in_range` meets its contract: by the laws of Decide.
 use borrow.Author.Needs.{needs}
 use Rattle.c2_range.proofs.Laws.Decide.{act-fails, place-decides}
 use Rattle.c2_range.proofs.range.running_in_range.Statement.{statement}

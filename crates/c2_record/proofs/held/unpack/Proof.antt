@@ -1,4 +1,4 @@
--- `c2_record::held::unpack` meets its contract: by the laws of Records and Sparing.
+-- `c2_record::held::unpack` meets its contract: by the laws of Record and Spare.
 use mathlib.Core.Path.{sym, ap, _∙_}
 use borrow.Author.Needs.{needs}
 use Rattle.c2_record.specs.Record.{point-of}

@@ -1,4 +1,3 @@
--- `c2_record::read::read_fields` meets its contract: each return by the tests on its way and what the calls give.
 use borrow.Author.Needs.{needs}
 use Rattle.c2_record.specs.Record.{fields-read}
 use Rattle.c2_record.proofs.read.read_fields.Statement.{statement}

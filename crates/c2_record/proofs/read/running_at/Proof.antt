@@ -1,4 +1,3 @@
--- `c2_record::read::running_at` meets its contract: each return by the tests on its way and what the calls give.
 use borrow.Author.Needs.{needs}
 use Rattle.c2_record.proofs.read.running_at.Statement.{statement}
 use Rattle.c2_record.proofs.read.running_at.Tie as tie

@@ -1,4 +1,3 @@
--- `c2_record::write::pack` meets its contract: each return by the tests on its way and what the calls give.
 use borrow.Author.Needs.{needs}
 use Rattle.c2_record.specs.Record.{packed}
 use Rattle.c2_record.proofs.write.pack.Statement.{statement}

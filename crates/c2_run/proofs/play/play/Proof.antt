@@ -1,4 +1,5 @@
--- `c2_run::play::play` meets its contract: the loop keeps `Sofar`, by the laws of Looping, and what the session's act does, by those of Knowing.
+-- `c2_run::play::play` meets its contract: the loop keeps `Sofar`, by the laws of Loop, and what the
+-- session's act does, by those of Task.
 use mathlib.Core.Path.{sym, _∙_}
 use Prim.Native.Nat.{_-_}
 use native.Mathlib.Omega.{arith}

@@ -1,4 +1,4 @@
--- `c2_run::program::c2_program` meets its contract: each return by the laws of Running.
+-- `c2_run::program::c2_program` meets its contract: each return by the laws of Closed.
 use mathlib.Core.Path.{sym, _∙_}
 use borrow.Author.Needs.{needs}
 use Rattle.settings.proofs.Laws.Opening.{settings-pass}

@@ -1,4 +1,3 @@
--- `c2_run::program::flash_bytes` meets its contract: each return by the tests on its way and what the calls give.
 use native.Mathlib.Omega.{arith}
 use borrow.Author.Needs.{needs}
 use Rattle.laws.proofs.Products.{product-below}

@@ -1,6 +1,5 @@
--- `c2_session::Session::advance` meets its contract: each return by the tests on its way and what the calls give.
 use borrow.Author.Needs.{needs}
-use Rattle.c2_session.specs.Code.Machine.{advanced}
+use Rattle.c2_session.specs.Code.Advance.{advanced}
 use Rattle.c2_session.proofs.Session.advance.Statement.{statement}
 use Rattle.c2_session.proofs.Session.advance.Tie as tie
 

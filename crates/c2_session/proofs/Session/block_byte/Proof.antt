@@ -1,7 +1,6 @@
--- `c2_session::Session::block_byte` meets its contract: each return by the tests on its way and what the calls give.
 use borrow.Author.Needs.{needs}
 use Rattle.laws.proofs.Pick.{picks}
-use Rattle.c2_session.specs.Code.Sent.{block-byte}
+use Rattle.c2_session.specs.Code.Bytes.{block-byte}
 use Rattle.c2_session.proofs.Session.block_byte.Statement.{statement}
 use Rattle.c2_session.proofs.Session.block_byte.Tie as tie
 

@@ -1,7 +1,6 @@
--- `c2_session::Session::compared_offset` meets its contract: each return by the tests on its way and what the calls give.
 use borrow.Author.Needs.{needs}
 use Rattle.laws.proofs.Pick.{picks}
-use Rattle.c2_session.specs.Code.Sent.{compared-offset}
+use Rattle.c2_session.specs.Code.Bytes.{compared-offset}
 use Rattle.c2_session.proofs.Session.compared_offset.Statement.{statement}
 use Rattle.c2_session.proofs.Session.compared_offset.Tie as tie
 

@@ -1,6 +1,5 @@
--- `c2_session::Session::differs` meets its contract: each return by the tests on its way and what the calls give.
 use borrow.Author.Needs.{needs}
-use Rattle.c2_session.specs.Code.Machine.{differs}
+use Rattle.c2_session.specs.Code.Judge.{differs}
 use Rattle.c2_session.proofs.Session.differs.Statement.{statement}
 use Rattle.c2_session.proofs.Session.differs.Tie as tie
 

@@ -1,7 +1,6 @@
--- `c2_session::Session::erase_byte` meets its contract: each return by the tests on its way and what the calls give.
 use borrow.Author.Needs.{needs}
 use Rattle.laws.proofs.Pick.{picks}
-use Rattle.c2_session.specs.Code.Sent.{erase-byte}
+use Rattle.c2_session.specs.Code.Bytes.{erase-byte}
 use Rattle.c2_session.proofs.Session.erase_byte.Statement.{statement}
 use Rattle.c2_session.proofs.Session.erase_byte.Tie as tie
 

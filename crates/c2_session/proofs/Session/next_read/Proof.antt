@@ -1,7 +1,6 @@
--- `c2_session::Session::next_read` meets its contract: each return by the tests on its way and what the calls give.
 use borrow.Author.Needs.{needs}
 use Rattle.laws.proofs.Pick.{picks}
-use Rattle.c2_session.specs.Code.Machine.{next-read}
+use Rattle.c2_session.specs.Code.Next.{next-read}
 use Rattle.c2_session.proofs.Session.next_read.Statement.{statement}
 use Rattle.c2_session.proofs.Session.next_read.Tie as tie
 
@@ -14,11 +13,11 @@ add-if1 c = search needs
 cast-if1-2 : tie.Need-cast-if1-2
 cast-if1-2 c = search needs
 
-add-begins : tie.Need-add-begins
-add-begins c = search needs
+add-first-strobe : tie.Need-add-first-strobe
+add-first-strobe c = search needs
 
-begins-requires : tie.Need-begins-requires
-begins-requires c κs = search needs
+first-strobe-requires : tie.Need-first-strobe-requires
+first-strobe-requires c κs = search needs
 
 returns : tie.Need-returns
 unfolding next-read
@@ -38,8 +37,8 @@ next-read-spec =
     cast-if1
     add-if1
     cast-if1-2
-    add-begins
-    begins-requires
+    add-first-strobe
+    first-strobe-requires
     returns
     next-page-requires
     returns-2)

@@ -1,4 +1,3 @@
--- `c2_session::Session::next_stage` meets its contract: each return by the tests on its way and what the calls give.
 use borrow.Author.Needs.{needs}
 use Rattle.c2_session.proofs.Session.next_stage.Statement.{statement}
 use Rattle.c2_session.proofs.Session.next_stage.Tie as tie
@@ -6,14 +5,14 @@ use Rattle.c2_session.proofs.Session.next_stage.Tie as tie
 enum-told : tie.Need-enum-told
 enum-told c = search needs
 
-begins-requires : tie.Need-begins-requires
-begins-requires c κs = search needs
+first-strobe-requires : tie.Need-first-strobe-requires
+first-strobe-requires c κs = search needs
 
 enum-told-2 : tie.Need-enum-told-2
 enum-told-2 c = search needs
 
-begins-requires-2 : tie.Need-begins-requires-2
-begins-requires-2 c κs = search needs
+first-strobe-requires-2 : tie.Need-first-strobe-requires-2
+first-strobe-requires-2 c κs = search needs
 
 enum-told-3 : tie.Need-enum-told-3
 enum-told-3 c = search needs
@@ -30,14 +29,14 @@ next-read-requires c κs = search needs
 enum-told-5 : tie.Need-enum-told-5
 enum-told-5 c = search needs
 
-ended-requires : tie.Need-ended-requires
-ended-requires c κs = search needs
+end-point-requires : tie.Need-end-point-requires
+end-point-requires c κs = search needs
 
 returns : tie.Need-returns
-returns c = rw (c .before .enum-told .given .1) (c .begins .ensures)
+returns c = rw (c .before .enum-told .given .1) (c .first-strobe .ensures)
 
 returns-2 : tie.Need-returns-2
-returns-2 c = rw (c .before .enum-told2 .given .1) (c .begins2 .ensures)
+returns-2 c = rw (c .before .enum-told2 .given .1) (c .first-strobe2 .ensures)
 
 returns-3 : tie.Need-returns-3
 returns-3 c = rw (c .before .enum-told3 .given .1) (c .next-write .ensures)
@@ -46,22 +45,22 @@ returns-4 : tie.Need-returns-4
 returns-4 c = rw (c .before .enum-told4 .given .1) (c .next-read .ensures)
 
 returns-5 : tie.Need-returns-5
-returns-5 c = rw (c .before .enum-told5 .given .1) (c .ended .ensures)
+returns-5 c = rw (c .before .enum-told5 .given .1) (c .end-point .ensures)
 
 pub next-stage-spec : {M : Type 1} → statement M
 next-stage-spec =
     tie.close
     (tie.spec
     enum-told
-    begins-requires
+    first-strobe-requires
     enum-told-2
-    begins-requires-2
+    first-strobe-requires-2
     enum-told-3
     next-write-requires
     enum-told-4
     next-read-requires
     enum-told-5
-    ended-requires
+    end-point-requires
     returns
     returns-2
     returns-3

@@ -1,7 +1,6 @@
--- `c2_session::Session::next_write` meets its contract: each return by the tests on its way and what the calls give.
 use borrow.Author.Needs.{needs}
 use Rattle.laws.proofs.Pick.{picks}
-use Rattle.c2_session.specs.Code.Machine.{next-write}
+use Rattle.c2_session.specs.Code.Next.{next-write}
 use Rattle.c2_session.proofs.Session.next_write.Statement.{statement}
 use Rattle.c2_session.proofs.Session.next_write.Tie as tie
 
@@ -14,18 +13,18 @@ add-if1 c = search needs
 cast-if1-2 : tie.Need-cast-if1-2
 cast-if1-2 c = search needs
 
-add-begins : tie.Need-add-begins
-add-begins c = search needs
+add-first-strobe : tie.Need-add-first-strobe
+add-first-strobe c = search needs
 
-begins-requires : tie.Need-begins-requires
-begins-requires c κs = search needs
+first-strobe-requires : tie.Need-first-strobe-requires
+first-strobe-requires c κs = search needs
 
 returns : tie.Need-returns
 unfolding next-write
 returns c = search (needs, picks)
 
-begins-requires-2 : tie.Need-begins-requires-2
-begins-requires-2 c κs = search needs
+first-strobe-requires-2 : tie.Need-first-strobe-requires-2
+first-strobe-requires-2 c κs = search needs
 
 returns-2 : tie.Need-returns-2
 unfolding next-write
@@ -38,8 +37,8 @@ next-write-spec =
     cast-if1
     add-if1
     cast-if1-2
-    add-begins
-    begins-requires
+    add-first-strobe
+    first-strobe-requires
     returns
-    begins-requires-2
+    first-strobe-requires-2
     returns-2)

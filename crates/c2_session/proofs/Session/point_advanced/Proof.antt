@@ -1,6 +1,5 @@
--- `c2_session::Session::point_advanced` meets its contract: each return by the tests on its way and what the calls give.
 use borrow.Author.Needs.{needs}
-use Rattle.c2_session.specs.Code.Machine.{replied}
+use Rattle.c2_session.specs.Code.Advance.{point-replied}
 use Rattle.c2_session.proofs.Session.point_advanced.Statement.{statement}
 use Rattle.c2_session.proofs.Session.point_advanced.Tie as tie
 
@@ -17,7 +16,7 @@ enum-known-point-2 : tie.Need-enum-known-point-2
 enum-known-point-2 c = search needs
 
 returns : tie.Need-returns
-unfolding replied
+unfolding point-replied
 returns c = rw (c .before .before .before .point .given .1) (rw (c .before .task-of .ensures) at (c .taken .ensures))
 
 returns-2 : tie.Need-returns-2

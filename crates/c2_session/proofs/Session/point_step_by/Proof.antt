@@ -1,4 +1,3 @@
--- `c2_session::Session::point_step_by` meets its contract: each return by the tests on its way and what the calls give.
 use borrow.Author.Needs.{needs}
 use Rattle.c2_session.proofs.Session.point_step_by.Statement.{statement}
 use Rattle.c2_session.proofs.Session.point_step_by.Tie as tie

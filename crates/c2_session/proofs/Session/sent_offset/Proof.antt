@@ -1,7 +1,6 @@
--- `c2_session::Session::sent_offset` meets its contract: each return by the tests on its way and what the calls give.
 use borrow.Author.Needs.{needs}
 use Rattle.laws.proofs.Pick.{picks}
-use Rattle.c2_session.specs.Code.Sent.{sent-offset}
+use Rattle.c2_session.specs.Code.Bytes.{sent-offset}
 use Rattle.c2_session.proofs.Session.sent_offset.Statement.{statement}
 use Rattle.c2_session.proofs.Session.sent_offset.Tie as tie
 

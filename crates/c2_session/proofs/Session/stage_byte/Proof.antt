@@ -1,4 +1,3 @@
--- `c2_session::Session::stage_byte` meets its contract: each return by the tests on its way and what the calls give.
 use borrow.Author.Needs.{needs}
 use Rattle.c2_session.proofs.Session.stage_byte.Statement.{statement}
 use Rattle.c2_session.proofs.Session.stage_byte.Tie as tie

@@ -1,4 +1,3 @@
--- `c2_session::Session::stays` meets its contract: each return by the tests on its way and what the calls give.
 use borrow.Author.Needs.{needs}
 use Rattle.c2_session.proofs.Session.stays.Statement.{statement}
 use Rattle.c2_session.proofs.Session.stays.Tie as tie
@@ -12,41 +11,41 @@ writes-on-requires c κs = search needs
 enum-told-2 : tie.Need-enum-told-2
 enum-told-2 c = search needs
 
-running-requires : tie.Need-running-requires
-running-requires c κs = search needs
+strobe-point-requires : tie.Need-strobe-point-requires
+strobe-point-requires c κs = search needs
 
 enum-told-3 : tie.Need-enum-told-3
 enum-told-3 c = search needs
 
-running-requires-2 : tie.Need-running-requires-2
-running-requires-2 c κs = search needs
+strobe-point-requires-2 : tie.Need-strobe-point-requires-2
+strobe-point-requires-2 c κs = search needs
 
 enum-told-4 : tie.Need-enum-told-4
 enum-told-4 c = search needs
 
-running-requires-3 : tie.Need-running-requires-3
-running-requires-3 c κs = search needs
+strobe-point-requires-3 : tie.Need-strobe-point-requires-3
+strobe-point-requires-3 c κs = search needs
 
 enum-told-5 : tie.Need-enum-told-5
 enum-told-5 c = search needs
 
-running-requires-4 : tie.Need-running-requires-4
-running-requires-4 c κs = search needs
+strobe-point-requires-4 : tie.Need-strobe-point-requires-4
+strobe-point-requires-4 c κs = search needs
 
 returns : tie.Need-returns
 returns c = rw (c .before .enum-told .given .1) (c .writes-on .ensures)
 
 returns-2 : tie.Need-returns-2
-returns-2 c = rw (c .before .enum-told2 .given .1) (c .running .ensures)
+returns-2 c = rw (c .before .enum-told2 .given .1) (c .strobe-point .ensures)
 
 returns-3 : tie.Need-returns-3
-returns-3 c = rw (c .before .enum-told3 .given .1) (c .running2 .ensures)
+returns-3 c = rw (c .before .enum-told3 .given .1) (c .strobe-point2 .ensures)
 
 returns-4 : tie.Need-returns-4
-returns-4 c = rw (c .before .enum-told4 .given .1) (c .running3 .ensures)
+returns-4 c = rw (c .before .enum-told4 .given .1) (c .strobe-point3 .ensures)
 
 returns-5 : tie.Need-returns-5
-returns-5 c = rw (c .before .enum-told5 .given .1) (c .running4 .ensures)
+returns-5 c = rw (c .before .enum-told5 .given .1) (c .strobe-point4 .ensures)
 
 pub stays-spec : {M : Type 1} → statement M
 stays-spec =
@@ -55,13 +54,13 @@ stays-spec =
     enum-told
     writes-on-requires
     enum-told-2
-    running-requires
+    strobe-point-requires
     enum-told-3
-    running-requires-2
+    strobe-point-requires-2
     enum-told-4
-    running-requires-3
+    strobe-point-requires-3
     enum-told-5
-    running-requires-4
+    strobe-point-requires-4
     returns
     returns-2
     returns-3

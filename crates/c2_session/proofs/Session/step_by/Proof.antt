@@ -1,7 +1,6 @@
--- `c2_session::Session::step_by` meets its contract: each return by the tests on its way and what the calls give.
 use borrow.Author.Needs.{needs}
 use Rattle.laws.proofs.Pick.{picks}
-use Rattle.c2_session.specs.Code.Machine.{step-by}
+use Rattle.c2_session.specs.Code.Step.{step-by}
 use Rattle.c2_session.proofs.Session.step_by.Statement.{statement}
 use Rattle.c2_session.proofs.Session.step_by.Tie as tie
 

@@ -1,11 +1,10 @@
--- `c2_session::Session::taken` meets its contract: each return by the tests on its way and what the calls give.
 use borrow.Author.Needs.{needs}
 use Rattle.laws.proofs.Pick.{picks}
 use Rattle.c2_session.proofs.Session.taken.Statement.{statement}
 use Rattle.c2_session.proofs.Session.taken.Tie as tie
 
-ended-requires : tie.Need-ended-requires
-ended-requires c κs = search needs
+end-point-requires : tie.Need-end-point-requires
+end-point-requires c κs = search needs
 
 returns : tie.Need-returns
 returns c = search (needs, picks)
@@ -18,4 +17,4 @@ returns-2 c = search (needs, picks)
 
 pub taken-spec : {M : Type 1} → statement M
 taken-spec =
-    tie.close (tie.spec ended-requires returns task-taken-requires returns-2)
+    tie.close (tie.spec end-point-requires returns task-taken-requires returns-2)

@@ -1,11 +1,10 @@
--- `c2_session::Session::task_byte` meets its contract: each return by the tests on its way and what the calls give.
 use borrow.Author.Needs.{needs}
 use Rattle.laws.proofs.Pick.{picks}
 use Rattle.c2_session.proofs.Session.task_byte.Statement.{statement}
 use Rattle.c2_session.proofs.Session.task_byte.Tie as tie
 
-sends-requires : tie.Need-sends-requires
-sends-requires c κs = search needs
+task-sends-requires : tie.Need-task-sends-requires
+task-sends-requires c κs = search needs
 
 stage-byte-requires : tie.Need-stage-byte-requires
 stage-byte-requires c κs = search needs
@@ -21,4 +20,4 @@ returns-2 c = search (needs, picks)
 
 pub task-byte-spec : {M : Type 1} → statement M
 task-byte-spec =
-    tie.close (tie.spec sends-requires stage-byte-requires byte-of-requires returns returns-2)
+    tie.close (tie.spec task-sends-requires stage-byte-requires byte-of-requires returns returns-2)

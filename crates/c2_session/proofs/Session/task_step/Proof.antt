@@ -1,4 +1,3 @@
--- `c2_session::Session::task_step` meets its contract: each return by the tests on its way and what the calls give.
 use borrow.Author.Needs.{needs}
 use Rattle.laws.proofs.Pick.{picks}
 use Rattle.c2_session.proofs.Session.task_step.Statement.{statement}
@@ -10,8 +9,8 @@ alone-requires c κs = search needs
 returns : tie.Need-returns
 returns c = search (needs, picks)
 
-frame-of-requires : tie.Need-frame-of-requires
-frame-of-requires c κs = search needs
+task-frame-requires : tie.Need-task-frame-requires
+task-frame-requires c κs = search needs
 
 task-byte-requires : tie.Need-task-byte-requires
 task-byte-requires c κs = search needs
@@ -20,9 +19,9 @@ step-requires : tie.Need-step-requires
 step-requires c κs = search needs
 
 returns-2 : tie.Need-returns-2
-returns-2 c = rw (c .step .ensures, c .before .task-byte .ensures, c .before .before .frame-of .ensures) (search (needs, picks))
+returns-2 c = rw (c .step .ensures, c .before .task-byte .ensures, c .before .before .task-frame .ensures) (search (needs, picks))
 
 pub task-step-spec : {M : Type 1} → statement M
 task-step-spec =
     tie.close
-    (tie.spec alone-requires returns frame-of-requires task-byte-requires step-requires returns-2)
+    (tie.spec alone-requires returns task-frame-requires task-byte-requires step-requires returns-2)

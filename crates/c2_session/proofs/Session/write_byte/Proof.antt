@@ -1,7 +1,6 @@
--- `c2_session::Session::write_byte` meets its contract: each return by the tests on its way and what the calls give.
 use borrow.Author.Needs.{needs}
 use Rattle.laws.proofs.Pick.{picks}
-use Rattle.c2_session.specs.Code.Sent.{write-byte}
+use Rattle.c2_session.specs.Code.Bytes.{write-byte}
 use Rattle.c2_session.proofs.Session.write_byte.Statement.{statement}
 use Rattle.c2_session.proofs.Session.write_byte.Tie as tie
 

@@ -1,9 +1,8 @@
--- `c2_session::Session::writes_on` meets its contract: each return by the tests on its way and what the calls give.
 use mathlib.Core.Path.{sym, _∙_}
 use borrow.Author.Needs.{needs}
 use Rattle.laws.proofs.Pick.{picks}
-use Rattle.c2_session.specs.Code.Machine.{drives-image}
-use Rattle.c2_session.specs.Code.Sent.{image-byte, sent-offset}
+use Rattle.c2_session.specs.Code.Judge.{drives-image}
+use Rattle.c2_session.specs.Code.Bytes.{image-byte, sent-offset}
 use Rattle.c2_session.proofs.Session.writes_on.Statement.{statement}
 use Rattle.c2_session.proofs.Session.writes_on.Tie as tie
 
@@ -28,8 +27,8 @@ returns c =
       sym (c .before .before .before .before .drives-image .ensures) ∙ c .before .before .before .if1 .taken,
     )
 
-running-requires : tie.Need-running-requires
-running-requires c κs = search needs
+strobe-point-requires : tie.Need-strobe-point-requires
+strobe-point-requires c κs = search needs
 
 returns-2 : tie.Need-returns-2
 returns-2 c = search (needs, picks)
@@ -43,5 +42,5 @@ writes-on-spec =
     image-byte-requires
     wants-requires
     returns
-    running-requires
+    strobe-point-requires
     returns-2)

@@ -1,7 +1,6 @@
--- `c2_session::judge::drives_image` meets its contract: each return by the tests on its way and what the calls give.
 use borrow.Author.Needs.{needs}
 use Rattle.laws.proofs.Pick.{picks}
-use Rattle.c2_session.specs.Code.Machine.{drives-image}
+use Rattle.c2_session.specs.Code.Judge.{drives-image}
 use Rattle.c2_session.proofs.judge.drives_image.Statement.{statement}
 use Rattle.c2_session.proofs.judge.drives_image.Tie as tie
 

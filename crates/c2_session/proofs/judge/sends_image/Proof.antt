@@ -1,7 +1,6 @@
--- `c2_session::judge::sends_image` meets its contract: each return by the tests on its way and what the calls give.
 use borrow.Author.Needs.{needs}
 use Rattle.laws.proofs.Pick.{picks}
-use Rattle.c2_session.specs.Code.Machine.{sends-image}
+use Rattle.c2_session.specs.Code.Judge.{sends-image}
 use Rattle.c2_session.proofs.judge.sends_image.Statement.{statement}
 use Rattle.c2_session.proofs.judge.sends_image.Tie as tie
 

@@ -1,4 +1,3 @@
--- `c2_target::Device::begun` meets its contract: each return by the tests on its way and what the calls give.
 use borrow.Author.Tests.{eq-eqb, ne-eqb}
 use Rattle.c2_target.specs.Interface.{begun}
 use Rattle.c2_target.proofs.Device.begun.Statement.{statement}

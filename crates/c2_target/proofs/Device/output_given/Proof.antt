@@ -1,4 +1,3 @@
--- `c2_target::Device::output_given` meets its contract: each return by the tests on its way and what the calls give.
 use mathlib.Core.Path.{sym, _∙_}
 use borrow.Author.Needs.{needs}
 use Rattle.c2_target.proofs.Device.output_given.Statement.{statement}

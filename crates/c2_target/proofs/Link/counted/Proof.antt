@@ -1,4 +1,3 @@
--- `c2_target::Link::counted` meets its contract: each return by the tests on its way and what the calls give.
 use mathlib.Core.Path.{_≡_}
 use native.Mathlib.Omega.{arith}
 use borrow.Author.Tests.{lt-ltb, le-ltb}

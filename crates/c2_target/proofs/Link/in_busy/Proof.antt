@@ -1,4 +1,3 @@
--- `c2_target::Link::in_busy` meets its contract: each return by the tests on its way and what the calls give.
 use mathlib.Core.Path.{refl}
 use Rattle.c2_target.specs.Interface.{in-busy}
 use Rattle.c2_target.proofs.Link.in_busy.Statement.{statement}

@@ -1,4 +1,3 @@
--- `c2_target::Link::status_bits` meets its contract: each return by the tests on its way and what the calls give.
 use borrow.Author.Needs.{needs}
 use Rattle.c2_target.specs.Interface.{status-bits}
 use Rattle.c2_target.proofs.Link.status_bits.Statement.{statement}

@@ -1,4 +1,3 @@
--- `c2_target::Target::addressed` meets its contract: each return by the tests on its way and what the calls give.
 use borrow.Author.Needs.{needs}
 use Rattle.c2_target.specs.Interface.{does}
 use Rattle.c2_target.proofs.Target.addressed.Statement.{statement}

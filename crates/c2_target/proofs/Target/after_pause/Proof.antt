@@ -1,4 +1,3 @@
--- `c2_target::Target::after_pause` meets its contract: each return by the tests on its way and what the calls give.
 use mathlib.Core.Path.{sym, _∙_}
 use borrow.Author.Needs.{needs}
 use Rattle.c2_target.specs.Target.{after-pause, keyed}

@@ -1,4 +1,3 @@
--- `c2_target::Target::after_reset` meets its contract: each return by the tests on its way and what the calls give.
 use borrow.Author.Needs.{needs}
 use Rattle.c2_target.specs.Target.{after-reset}
 use Rattle.c2_target.proofs.Target.after_reset.Statement.{statement}

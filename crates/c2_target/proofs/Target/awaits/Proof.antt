@@ -1,4 +1,3 @@
--- `c2_target::Target::awaits` meets its contract: each return by the tests on its way and what the calls give.
 use mathlib.Core.Path.{sym, _∙_}
 use borrow.Author.Needs.{needs}
 use Rattle.c2_target.specs.Interface.{late-of, place-after}
@@ -11,15 +10,15 @@ some-output-requires c κs = search needs
 delay-requires : tie.Need-delay-requires
 delay-requires c κs = search needs
 
-onward-requires : tie.Need-onward-requires
-onward-requires c κs = search needs
+next-place-requires : tie.Need-next-place-requires
+next-place-requires c κs = search needs
 
 served-requires : tie.Need-served-requires
 served-requires c κs = search needs
 
 returns : tie.Need-returns
 unfolding late-of place-after
-returns c = rw (sym (c .before .before .before .before .some-output .ensures) ∙ c .before .before .before .if1 .taken, c .served .ensures, c .before .onward .ensures, c .before .before .delay .ensures)
+returns c = rw (sym (c .before .before .before .before .some-output .ensures) ∙ c .before .before .before .if1 .taken, c .served .ensures, c .before .next-place .ensures, c .before .before .delay .ensures)
 
 served-requires-2 : tie.Need-served-requires-2
 served-requires-2 c κs = search needs
@@ -34,7 +33,7 @@ awaits-spec =
     (tie.spec
     some-output-requires
     delay-requires
-    onward-requires
+    next-place-requires
     served-requires
     returns
     served-requires-2

@@ -1,4 +1,3 @@
--- `c2_target::Target::begins_wait` meets its contract: each return by the tests on its way and what the calls give.
 use borrow.Author.Needs.{needs}
 use Rattle.c2_target.specs.Strobes.{strobed-at}
 use Rattle.c2_target.proofs.Target.begins_wait.Statement.{statement}
@@ -13,15 +12,15 @@ ends-requires c κs = search needs
 after-wait-requires : tie.Need-after-wait-requires
 after-wait-requires c κs = search needs
 
-onward-requires : tie.Need-onward-requires
-onward-requires c κs = search needs
+next-place-requires : tie.Need-next-place-requires
+next-place-requires c κs = search needs
 
 shows-requires : tie.Need-shows-requires
 shows-requires c κs = search needs
 
 returns : tie.Need-returns
 unfolding strobed-at
-returns c = rw (c .shows .ensures, c .before .onward .ensures, c .before .before .after-wait .ensures (c .before .before .before .before .before .before .before .before .args .delays .now), c .before .before .before .ends .ensures, c .before .before .before .before .delay .ensures)
+returns c = rw (c .shows .ensures, c .before .next-place .ensures, c .before .before .after-wait .ensures (c .before .before .before .before .before .before .before .before .args .delays .now), c .before .before .before .ends .ensures, c .before .before .before .before .delay .ensures)
 
 pub begins-wait-spec : {M : Type 1} → statement M
 begins-wait-spec =
@@ -30,6 +29,6 @@ begins-wait-spec =
     delay-requires
     ends-requires
     after-wait-requires
-    onward-requires
+    next-place-requires
     shows-requires
     returns)

@@ -1,4 +1,3 @@
--- `c2_target::Target::counts_down` meets its contract: each return by the tests on its way and what the calls give.
 use mathlib.Core.Path.{sym, _∙_}
 use borrow.Author.Needs.{needs}
 use Rattle.c2_target.specs.Interface.{does}

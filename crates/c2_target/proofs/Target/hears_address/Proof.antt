@@ -1,4 +1,3 @@
--- `c2_target::Target::hears_address` meets its contract: each return by the tests on its way and what the calls give.
 use borrow.Author.Needs.{needs}
 use Rattle.c2_target.specs.Strobes.{strobed-at}
 use Rattle.c2_target.proofs.Target.hears_address.Statement.{statement}

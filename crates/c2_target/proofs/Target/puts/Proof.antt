@@ -1,4 +1,3 @@
--- `c2_target::Target::puts` meets its contract: each return by the tests on its way and what the calls give.
 use borrow.Author.Needs.{needs}
 use Rattle.c2_target.specs.Interface.{put-byte}
 use Rattle.c2_target.proofs.Target.puts.Statement.{statement}
@@ -10,16 +9,16 @@ takes-requires c κs = search needs
 delay-requires : tie.Need-delay-requires
 delay-requires c κs = search needs
 
-onward-requires : tie.Need-onward-requires
-onward-requires c κs = search needs
+next-place-requires : tie.Need-next-place-requires
+next-place-requires c κs = search needs
 
 awaits-requires : tie.Need-awaits-requires
 awaits-requires c κs = search needs
 
 returns : tie.Need-returns
 unfolding put-byte
-returns c = rw (c .awaits .ensures, c .before .onward .ensures, c .before .before .delay .ensures, c .before .before .before .takes .ensures)
+returns c = rw (c .awaits .ensures, c .before .next-place .ensures, c .before .before .delay .ensures, c .before .before .before .takes .ensures)
 
 pub puts-spec : {M : Type 1} → statement M
 puts-spec =
-    tie.close (tie.spec takes-requires delay-requires onward-requires awaits-requires returns)
+    tie.close (tie.spec takes-requires delay-requires next-place-requires awaits-requires returns)

@@ -1,4 +1,3 @@
--- `c2_target::Target::shows` meets its contract: each return by the tests on its way and what the calls give.
 use borrow.Author.Needs.{needs}
 use Rattle.c2_target.proofs.Target.shows.Statement.{statement}
 use Rattle.c2_target.proofs.Target.shows.Tie as tie

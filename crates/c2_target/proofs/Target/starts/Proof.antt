@@ -1,4 +1,3 @@
--- `c2_target::Target::starts` meets its contract: each return by the tests on its way and what the calls give.
 use borrow.Author.Needs.{needs}
 use Rattle.c2_wire.specs.Bits.{bit}
 use Rattle.c2_target.specs.Strobes.{strobed-at}

@@ -1,4 +1,3 @@
--- `c2_target::Target::strobed` meets its contract: each return by the tests on its way and what the calls give.
 use native.Mathlib.Omega.{arith}
 use borrow.Author.Needs.{needs}
 use Rattle.c2_target.specs.Strobes.{strobed-at}

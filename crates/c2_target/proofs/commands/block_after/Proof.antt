@@ -1,4 +1,3 @@
--- `c2_target::commands::block_after` meets its contract: each return by the tests on its way and what the calls give.
 use borrow.Author.Tests.{lt-ltb, le-ltb}
 use borrow.Author.Needs.{needs}
 use Rattle.c2_target.specs.Commands.{other-bytes}

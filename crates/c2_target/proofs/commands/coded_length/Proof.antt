@@ -1,4 +1,3 @@
--- `c2_target::commands::coded_length` meets its contract: each return by the tests on its way and what the calls give.
 use borrow.Author.Tests.{eq-eqb, ne-eqb}
 use Rattle.c2_order.specs.Acts.{coded-length}
 use Rattle.c2_target.proofs.commands.coded_length.Statement.{statement}

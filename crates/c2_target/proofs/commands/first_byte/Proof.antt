@@ -1,4 +1,3 @@
--- `c2_target::commands::first_byte` meets its contract: each return by the tests on its way and what the calls give.
 use borrow.Author.Needs.{needs}
 use Rattle.c2_target.specs.Commands.{first-byte}
 use Rattle.c2_target.proofs.commands.first_byte.Statement.{statement}

@@ -1,4 +1,3 @@
--- `c2_target::commands::low_taken` meets its contract: each return by the tests on its way and what the calls give.
 use mathlib.Core.Path.{refl}
 use borrow.Author.Needs.{needs}
 use Rattle.c2_target.specs.Commands.{takes}

@@ -1,4 +1,3 @@
--- `c2_target::commands::takes` meets its contract: each return by the tests on its way and what the calls give.
 use borrow.Author.Needs.{needs}
 use Rattle.c2_target.specs.Commands.{takes}
 use Rattle.c2_target.specs.Known.{known-command}

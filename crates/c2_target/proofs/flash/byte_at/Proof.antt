@@ -1,4 +1,3 @@
--- `c2_target::flash::byte_at` meets its contract: each return by the tests on its way and what the calls give.
 use mathlib.Core.Path.{sym}
 use borrow.Author.Needs.{needs}
 use lib.ListN.{List·getD-eq-default}

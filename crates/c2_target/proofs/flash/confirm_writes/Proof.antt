@@ -1,4 +1,3 @@
--- `c2_target::flash::confirm_writes` meets its contract: each return by the tests on its way and what the calls give.
 use borrow.Author.Needs.{needs}
 use borrow.Author.Tests.{eq-eqb, ne-eqb}
 use Rattle.c2_target.specs.Commands.{takes}

@@ -1,4 +1,3 @@
--- `c2_target::flash::in_flash` meets its contract: each return by the tests on its way and what the calls give.
 use borrow.Author.Needs.{needs}
 use Rattle.c2_target.specs.Commands.{in-flash}
 use Rattle.c2_target.proofs.Laws.Known.{room, no-room}

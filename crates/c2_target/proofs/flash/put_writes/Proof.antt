@@ -1,4 +1,3 @@
--- `c2_target::flash::put_writes` meets its contract: each return by the tests on its way and what the calls give.
 use mathlib.Core.Path.{sym}
 use native.Mathlib.Omega.{arith}
 use borrow.Author.Needs.{needs}

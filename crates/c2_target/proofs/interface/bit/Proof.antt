@@ -1,4 +1,3 @@
--- `c2_target::interface::bit` meets its contract: each return by the tests on its way and what the calls give.
 use native.Mathlib.Omega.{arith}
 use Rattle.c2_wire.specs.Bits.{bit}
 use Rattle.c2_target.proofs.interface.bit.Statement.{statement}

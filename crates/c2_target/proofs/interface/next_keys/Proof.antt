@@ -1,4 +1,3 @@
--- `c2_target::interface::next_keys` meets its contract: each return by the tests on its way and what the calls give.
 use borrow.Author.Tests.{eq-eqb, ne-eqb}
 use Rattle.c2_target.specs.Interface.{next-keys}
 use Rattle.c2_target.proofs.interface.next_keys.Statement.{statement}

@@ -1,4 +1,3 @@
--- `c2_target::known::after_its_wait` meets its contract: each return by the tests on its way and what the calls give.
 use borrow.Author.Needs.{needs}
 use Rattle.c2_target.specs.Known.{after-its-wait}
 use Rattle.c2_target.proofs.known.after_its_wait.Statement.{statement}

@@ -1,4 +1,3 @@
--- `c2_target::known::after_write` meets its contract: each return by the tests on its way and what the calls give.
 use borrow.Author.Tests.{eq-eqb, ne-eqb}
 use Rattle.c2_target.specs.Known.{after-its-wait, is-byte}
 use Rattle.c2_target.proofs.known.after_write.Statement.{statement}

@@ -1,4 +1,3 @@
--- `c2_target::known::is_count` meets its contract: each return by the tests on its way and what the calls give.
 use borrow.Author.Tests.{le-leb, lt-leb}
 use Rattle.c2_target.specs.Known.{is-count}
 use Rattle.c2_target.proofs.known.is_count.Statement.{statement}

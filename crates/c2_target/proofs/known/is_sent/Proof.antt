@@ -1,4 +1,3 @@
--- `c2_target::known::is_sent` meets its contract: each return by the tests on its way and what the calls give.
 use borrow.Author.Needs.{needs}
 use Rattle.c2_target.specs.Known.{is-sent}
 use Rattle.c2_target.proofs.known.is_sent.Statement.{statement}

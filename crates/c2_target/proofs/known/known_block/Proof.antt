@@ -1,4 +1,3 @@
--- `c2_target::known::known_block` meets its contract: each return by the tests on its way and what the calls give.
 use mathlib.Core.Path.{sym, _∙_}
 use borrow.Author.Needs.{needs}
 use Rattle.c2_target.specs.Known.{known-block}

@@ -1,4 +1,3 @@
--- `c2_target::known::known_command` meets its contract: each return by the tests on its way and what the calls give.
 use borrow.Author.Needs.{needs}
 use Rattle.c2_target.specs.Known.{known-command, is-byte}
 use Rattle.c2_target.proofs.known.known_command.Statement.{statement}

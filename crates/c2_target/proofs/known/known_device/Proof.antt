@@ -1,4 +1,3 @@
--- `c2_target::known::known_device` meets its contract: each return by the tests on its way and what the calls give.
 use borrow.Author.Tests.{lt-ltb, le-ltb, le-leb, lt-leb}
 use borrow.Author.Needs.{needs}
 use Rattle.c2_target.specs.Code.Parts.{known-device}

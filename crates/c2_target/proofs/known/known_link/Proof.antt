@@ -1,4 +1,3 @@
--- `c2_target::known::known_link` meets its contract: each return by the tests on its way and what the calls give.
 use mathlib.Core.Path.{sym, _∙_}
 use borrow.Author.Tests.{lt-ltb, le-ltb}
 use borrow.Author.Needs.{needs}

@@ -1,4 +1,4 @@
--- `c2_target::known::known_on` meets its contract: each return by the laws of Ranges.
+-- `c2_target::known::known_on` meets its contract: each return by the laws of Range.
 use mathlib.Core.Path.{sym, _∙_}
 use borrow.Author.Needs.{needs}
 use Rattle.c2_target.specs.Delays.{setup}

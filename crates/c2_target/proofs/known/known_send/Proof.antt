@@ -1,4 +1,3 @@
--- `c2_target::known::known_send` meets its contract: each return by the tests on its way and what the calls give.
 use borrow.Author.Tests.{le-leb, lt-leb}
 use borrow.Author.Needs.{needs}
 use Rattle.c2_target.specs.Known.{known-point}

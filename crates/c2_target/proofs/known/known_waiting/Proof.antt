@@ -1,4 +1,3 @@
--- `c2_target::known::known_waiting` meets its contract: each return by the tests on its way and what the calls give.
 use Prim.Native.Nat.{_+_}
 use native.Mathlib.Omega.{arith}
 use borrow.Author.Tests.{lt-ltb, le-ltb}

@@ -1,4 +1,3 @@
--- `c2_target::known::long_bits` meets its contract: each return by the tests on its way and what the calls give.
 use borrow.Author.Tests.{eq-eqb, ne-eqb}
 use Rattle.c2_target.specs.Known.{after-its-wait}
 use Rattle.c2_target.proofs.known.long_bits.Statement.{statement}

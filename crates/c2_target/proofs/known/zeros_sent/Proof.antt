@@ -1,4 +1,3 @@
--- `c2_target::known::zeros_sent` meets its contract: each return by the tests on its way and what the calls give.
 use borrow.Author.Tests.{le-leb, lt-leb}
 use Rattle.c2_target.specs.Known.{is-sent}
 use Rattle.c2_target.proofs.known.zeros_sent.Statement.{statement}

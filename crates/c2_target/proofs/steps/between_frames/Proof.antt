@@ -1,4 +1,3 @@
--- `c2_target::steps::between_frames` meets its contract: each return by the tests on its way and what the calls give.
 use borrow.Author.Needs.{needs}
 use Rattle.c2_target.specs.Target.{between-frames}
 use Rattle.c2_target.proofs.steps.between_frames.Statement.{statement}

@@ -1,4 +1,3 @@
--- `c2_target::steps::cleared` meets its contract: each return by the tests on its way and what the calls give.
 use mathlib.Core.Path.{refl}
 use Rattle.c2_target.specs.Target.{cleared}
 use Rattle.c2_target.proofs.steps.cleared.Statement.{statement}

@@ -1,4 +1,3 @@
--- `c2_target::steps::is_step` meets its contract: each return by the tests on its way and what the calls give.
 use borrow.Author.Tests.{le-leb, lt-leb}
 use Rattle.c2_target.specs.Target.{is-step}
 use Rattle.c2_target.proofs.steps.is_step.Statement.{statement}

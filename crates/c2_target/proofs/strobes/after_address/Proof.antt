@@ -1,4 +1,3 @@
--- `c2_target::strobes::after_address` meets its contract: each return by the tests on its way and what the calls give.
 use borrow.Author.Tests.{lt-ltb, le-ltb}
 use Rattle.c2_target.specs.Strobes.{after-address}
 use Rattle.c2_target.proofs.strobes.after_address.Statement.{statement}

@@ -1,4 +1,3 @@
--- `c2_target::strobes::after_ins` meets its contract: each return by the tests on its way and what the calls give.
 use borrow.Author.Tests.{lt-ltb, le-ltb}
 use borrow.Author.Needs.{needs}
 use Rattle.c2_target.specs.Strobes.{after-ins}
@@ -9,12 +8,12 @@ returns : tie.Need-returns
 unfolding after-ins
 returns c = rw (lt-ltb _ _ (c .if1 .taken))
 
-begins-requires : tie.Need-begins-requires
-begins-requires c κs = search needs
+frame-begins-requires : tie.Need-frame-begins-requires
+frame-begins-requires c κs = search needs
 
 returns-2 : tie.Need-returns-2
 unfolding after-ins
-returns-2 c = rw (le-ltb _ _ (c .before .if1 .left), c .begins .ensures)
+returns-2 c = rw (le-ltb _ _ (c .before .if1 .left), c .frame-begins .ensures)
 
 pub after-ins-spec : {M : Type 1} → statement M
-after-ins-spec = tie.close (tie.spec returns begins-requires returns-2)
+after-ins-spec = tie.close (tie.spec returns frame-begins-requires returns-2)

@@ -1,4 +1,3 @@
--- `c2_target::strobes::after_write_length` meets its contract: each return by the tests on its way and what the calls give.
 use borrow.Author.Tests.{lt-ltb, le-ltb, eq-eqb, ne-eqb}
 use borrow.Author.Needs.{needs}
 use Rattle.c2_target.specs.Strobes.{after-write-length}

@@ -1,4 +1,3 @@
--- `c2_target::strobes::ends` meets its contract: each return by the tests on its way and what the calls give.
 use borrow.Author.Tests.{eq-eqb, ne-eqb}
 use Rattle.c2_wire.specs.Bits.{bit}
 use Rattle.c2_target.proofs.strobes.ends.Statement.{statement}

@@ -1,14 +1,13 @@
--- `c2_target::strobes::line` meets its contract: each return by the tests on its way and what the calls give.
 use borrow.Author.Tests.{ne-eqb}
 use Rattle.c2_wire.specs.Bits.{bit}
 use Rattle.c2_target.specs.Strobes.{line}
-use Rattle.c2_target.specs.Target.{step-of}
+use Rattle.c2_target.specs.Target.{step-coded}
 use Rattle.c2_target.proofs.Laws.Target.{line-high}
 use Rattle.c2_target.proofs.strobes.line.Statement.{statement}
 use Rattle.c2_target.proofs.strobes.line.Tie as tie
 
 returns : tie.Need-returns
-unfolding line step-of bit
+unfolding line step-coded bit
 returns c = rw (c .if1 .taken)
 
 returns-2 : tie.Need-returns-2

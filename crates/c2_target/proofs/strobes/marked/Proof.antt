@@ -1,18 +1,17 @@
--- `c2_target::strobes::marked` meets its contract: each return by the tests on its way and what the calls give.
 use borrow.Author.Tests.{ne-eqb}
 use Rattle.c2_wire.specs.Step.{drives}
 use Rattle.c2_target.specs.Strobes.{marked}
-use Rattle.c2_target.specs.Target.{step-of}
+use Rattle.c2_target.specs.Target.{step-coded}
 use Rattle.c2_target.proofs.Laws.Target.{not-driving}
 use Rattle.c2_target.proofs.strobes.marked.Statement.{statement}
 use Rattle.c2_target.proofs.strobes.marked.Tie as tie
 
 returns : tie.Need-returns
-unfolding marked step-of drives
+unfolding marked step-coded drives
 returns c = rw (c .if1 .taken)
 
 returns-2 : tie.Need-returns-2
-unfolding marked step-of drives
+unfolding marked step-coded drives
 returns-2 c = rw (c .if2 .taken)
 
 returns-3 : tie.Need-returns-3

@@ -1,4 +1,3 @@
--- `c2_target::strobes::value_sent` meets its contract: each return by the tests on its way and what the calls give.
 use borrow.Author.Needs.{needs}
 use Rattle.c2_target.specs.Strobes.{value-sent}
 use Rattle.c2_target.proofs.strobes.value_sent.Statement.{statement}

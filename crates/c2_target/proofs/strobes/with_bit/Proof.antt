@@ -1,17 +1,16 @@
--- `c2_target::strobes::with_bit` meets its contract: each return by the tests on its way and what the calls give.
 use native.Mathlib.Omega.{arith}
 use borrow.Author.Tests.{ne-eqb}
 use borrow.Author.Needs.{needs}
 use Rattle.c2_wire.specs.Bits.{bit}
 use Rattle.c2_wire.proofs.Laws.Bits.{weight-small}
-use Rattle.c2_target.specs.Target.{step-of}
+use Rattle.c2_target.specs.Target.{step-coded}
 use Rattle.c2_target.specs.Strobes.{line}
 use Rattle.c2_target.proofs.Laws.Target.{line-high}
 use Rattle.c2_target.proofs.strobes.with_bit.Statement.{statement}
 use Rattle.c2_target.proofs.strobes.with_bit.Tie as tie
 
 returns : tie.Need-returns
-unfolding step-of line bit
+unfolding step-coded line bit
 returns c = rw (c .if1 .taken) (omega arith)
 
 shl-result : tie.Need-shl-result

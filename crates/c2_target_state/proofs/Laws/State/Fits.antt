@@ -27,7 +27,7 @@ use Rattle.c2_target.specs.Delays.{setup}
 use Rattle.c2_target.specs.Interface.{link, device}
 use Rattle.c2_target.specs.Strobes.{target}
 use Rattle.c2_target.specs.Known.{hearing, is-byte, known-effect, after-its-wait, is-sent, known-point, is-count, known-block, known-command, known-output, known-link, known}
-use Rattle.c2_target_state.specs.State.{effect-code, effect-byte, point-fields, command-fields, output-fields, state-of, effect-of, later-point, point-of, command-of, output-of, target-read}
+use Rattle.c2_target_state.specs.State.{effect-code, effect-byte, point-fields, command-fields, output-fields, state-of, effect-of, later-point, state-point, command-of, output-of, target-read}
 use Rattle.c2_target.proofs.Laws.Known.{hearing-says, byte-says, block-says}
 
 bit-back : (b : Bool) → eqb (bit b) 1 ≡ b
@@ -94,8 +94,8 @@ heard-back w n v h k = let g = hearing-says w n v h k in (mod-eq-of-lt (omega ar
 
 -- the point, whatever stands beside it
 module _ (place : ℕ) (mark : Bool) (d : Device) where
-  point-back : (p : Point) → known-point 20 p ≡ true → point-of (state-of (target p place mark d)) ≡ p
-  unfolding known-point point-of later-point state-of point-fields
+  point-back : (p : Point) → known-point 20 p ≡ true → state-point (state-of (target p place mark d)) ≡ p
+  unfolding known-point state-point later-point state-of point-fields
   point-back Start k = refl
   point-back (Ins n v) k = let h = heard-back 2 n v (omega arith) k in rw (h .0, h .1)
   point-back (WriteLength n v) k = let h = heard-back 2 n v (omega arith) k in rw (h .0, h .1)
@@ -178,7 +178,7 @@ sized s h =
         (λ e. let w = rw (eqb-true size 1024 (rw e at k)) at m in omega arith)
 
 -- a target by its parts
-parts : (t : Target) → point-of (state-of t) ≡ t .point → command-of (state-of t) ≡ t .device .link .command → output-of (state-of t) ≡ t .device .link .output
+parts : (t : Target) → state-point (state-of t) ≡ t .point → command-of (state-of t) ≡ t .device .link .command → output-of (state-of t) ≡ t .device .link .output
     → t .device .address % 256 ≡ t .device .address → t .device .keys % 256 ≡ t .device .keys → t .device .link .busy % 256 ≡ t .device .link .busy
     → t .device .link .late % 256 ≡ t .device .link .late → target-read (state-of t) ≡ t
 unfolding target-read state-of

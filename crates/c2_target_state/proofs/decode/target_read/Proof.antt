@@ -1,4 +1,3 @@
--- `c2_target_state::decode::target_read` meets its contract: each return by the tests on its way and what the calls give.
 use borrow.Author.Needs.{needs}
 use Rattle.c2_target_state.specs.State.{target-read}
 use Rattle.c2_target_state.proofs.decode.target_read.Statement.{statement}

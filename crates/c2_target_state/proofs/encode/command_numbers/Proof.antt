@@ -1,4 +1,3 @@
--- `c2_target_state::encode::command_numbers` meets its contract: each return by the tests on its way and what the calls give.
 use borrow.Author.Needs.{needs}
 use Rattle.c2_target_state.proofs.encode.command_numbers.Statement.{statement}
 use Rattle.c2_target_state.proofs.encode.command_numbers.Tie as tie

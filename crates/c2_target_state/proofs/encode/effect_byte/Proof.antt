@@ -1,4 +1,3 @@
--- `c2_target_state::encode::effect_byte` meets its contract: each return by the tests on its way and what the calls give.
 use borrow.Author.Needs.{needs}
 use Rattle.c2_target_state.specs.State.{effect-byte}
 use Rattle.c2_target_state.proofs.encode.effect_byte.Statement.{statement}

@@ -1,4 +1,3 @@
--- `c2_target_state::encode::output_fields` meets its contract: each return by the tests on its way and what the calls give.
 use borrow.Author.Needs.{needs}
 use Rattle.c2_target_state.specs.State.{output-fields}
 use Rattle.c2_target_state.proofs.encode.output_fields.Statement.{statement}

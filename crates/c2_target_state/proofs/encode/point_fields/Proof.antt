@@ -1,4 +1,3 @@
--- `c2_target_state::encode::point_fields` meets its contract: each return by the tests on its way and what the calls give.
 use borrow.Author.Needs.{needs}
 use Rattle.c2_target_state.specs.State.{point-fields}
 use Rattle.c2_target_state.proofs.encode.point_fields.Statement.{statement}

@@ -1,4 +1,3 @@
--- `c2_target_state::fields::flag` meets its contract: each return by the tests on its way and what the calls give.
 use Rattle.c2_wire.specs.Bits.{bit}
 use Rattle.c2_target_state.proofs.fields.flag.Statement.{statement}
 use Rattle.c2_target_state.proofs.fields.flag.Tie as tie

@@ -1,4 +1,3 @@
--- `c2_target_state::form::effect_in_form` meets its contract: each return by the tests on its way and what the calls give.
 use borrow.Author.Tests.{eq-eqb, ne-eqb, lt-ltb, le-ltb}
 use Rattle.c2_target_state.specs.Code.Form.{effect-in-form}
 use Rattle.c2_target_state.proofs.form.effect_in_form.Statement.{statement}

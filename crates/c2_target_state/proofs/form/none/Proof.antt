@@ -1,4 +1,3 @@
--- `c2_target_state::form::none` meets its contract: each return by the tests on its way and what the calls give.
 use borrow.Author.Needs.{needs}
 use Rattle.c2_target_state.proofs.form.none.Statement.{statement}
 use Rattle.c2_target_state.proofs.form.none.Tie as tie

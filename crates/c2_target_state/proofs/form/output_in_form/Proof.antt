@@ -1,4 +1,3 @@
--- `c2_target_state::form::output_in_form` meets its contract: each return by the tests on its way and what the calls give.
 use borrow.Author.Tests.{eq-eqb, ne-eqb, lt-ltb, le-ltb}
 use borrow.Author.Needs.{needs}
 use Rattle.c2_target_state.specs.Code.Form.{output-in-form}

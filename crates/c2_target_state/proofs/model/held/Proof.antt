@@ -1,4 +1,3 @@
--- `c2_target_state::model::held` meets its contract: each return by the tests on its way and what the calls give.
 use mathlib.Core.Path.{refl, sym}
 use borrow.Author.Tests.{eq-eqb, ne-eqb}
 use borrow.Author.Needs.{needs}

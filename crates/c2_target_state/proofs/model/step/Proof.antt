@@ -1,4 +1,5 @@
--- `c2_target_state::model::step` meets its contract: a state in form is that of the target that it says, and any other is none's.
+-- `c2_target_state::model::step` meets its contract: a state in form is that of the target that it says, and
+-- any other is none's.
 use mathlib.Core.Path.{refl, sym, _∙_}
 use borrow.Author.Tests.{ne-eqb}
 use borrow.Author.Needs.{needs}

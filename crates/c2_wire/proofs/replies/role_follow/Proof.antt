@@ -1,4 +1,3 @@
--- `c2_wire::replies::role_follow` meets its contract: each return by the tests on its way and what the calls give.
 use borrow.Author.Needs.{needs}
 use Rattle.c2_wire.proofs.replies.role_follow.Statement.{statement}
 use Rattle.c2_wire.proofs.replies.role_follow.Tie as tie

@@ -1,4 +1,3 @@
--- `c2_wire::replies::sampled` meets its contract: each return by the tests on its way and what the calls give.
 use native.Mathlib.Nat.{mod-add-mod}
 use borrow.Author.Needs.{needs}
 use Rattle.c2_wire.proofs.replies.sampled.Statement.{statement}

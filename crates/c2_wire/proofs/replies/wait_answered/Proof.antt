@@ -1,4 +1,3 @@
--- `c2_wire::replies::wait_answered` meets its contract: each return by the tests on its way and what the calls give.
 use borrow.Author.Needs.{needs}
 use Rattle.c2_wire.proofs.replies.wait_answered.Statement.{statement}
 use Rattle.c2_wire.proofs.replies.wait_answered.Tie as tie

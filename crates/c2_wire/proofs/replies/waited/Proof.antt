@@ -1,4 +1,3 @@
--- `c2_wire::replies::waited` meets its contract: each return by the tests on its way and what the calls give.
 use Prim.Native.Nat.{_+_}
 use mathlib.Core.Path.{refl}
 use native.Mathlib.Omega.{arith}

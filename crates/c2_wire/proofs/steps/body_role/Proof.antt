@@ -1,4 +1,3 @@
--- `c2_wire::steps::body_role` meets its contract: each return by the tests on its way and what the calls give.
 use borrow.Author.Needs.{needs}
 use Rattle.c2_wire.proofs.steps.body_role.Statement.{statement}
 use Rattle.c2_wire.proofs.steps.body_role.Tie as tie

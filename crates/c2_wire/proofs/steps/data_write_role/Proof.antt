@@ -1,4 +1,3 @@
--- `c2_wire::steps::data_write_role` meets its contract: each return by the tests on its way and what the calls give.
 use borrow.Author.Needs.{needs}
 use Rattle.laws.proofs.Pick.{picks}
 use Rattle.c2_wire.proofs.steps.data_write_role.Statement.{statement}

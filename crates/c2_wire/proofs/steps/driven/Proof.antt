@@ -1,4 +1,4 @@
--- `c2_wire::steps::driven` meets its contract: by the laws of Roles.
+-- `c2_wire::steps::driven` meets its contract: by the laws of Role.
 use mathlib.Core.Path.{sym}
 use borrow.Author.Needs.{needs}
 use Rattle.c2_wire.proofs.Laws.Role.{drives-bit-is, drives-bit-past}

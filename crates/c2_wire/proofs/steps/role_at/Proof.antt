@@ -1,4 +1,3 @@
--- `c2_wire::steps::role_at` meets its contract: each return by the tests on its way and what the calls give.
 use borrow.Author.Needs.{needs}
 use Rattle.laws.proofs.Pick.{picks}
 use Rattle.c2_wire.specs.Code.Role.{role-at}

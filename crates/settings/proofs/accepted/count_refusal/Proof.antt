@@ -1,4 +1,3 @@
--- `settings::accepted::count_refusal` meets its contract: each return by the tests on its way and what the calls give.
 use borrow.Author.Tests.{le-leb, lt-leb}
 use native.Mathlib.Omega.{arith}
 use Rattle.settings.proofs.accepted.count_refusal.Statement.{statement}

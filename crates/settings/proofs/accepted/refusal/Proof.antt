@@ -1,4 +1,4 @@
--- `settings::accepted::refusal` meets its contract: by the laws of Accepting.
+-- `settings::accepted::refusal` meets its contract: by the laws of Accepted.
 use mathlib.Core.Path.{refl}
 use borrow.Author.Tests.{le-leb, lt-leb, ne-eqb}
 use native.Mathlib.Omega.{arith}

@@ -1,4 +1,4 @@
--- `settings::opening::opening_refusal` meets its contract: by the laws of Accepting.
+-- `settings::opening::opening_refusal` meets its contract: by the laws of Accepted.
 use mathlib.Core.Path.{sym, _∙_}
 use native.Mathlib.Omega.{arith}
 use borrow.Author.Needs.{needs}

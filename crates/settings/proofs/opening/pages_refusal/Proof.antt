@@ -1,4 +1,3 @@
--- `settings::opening::pages_refusal` meets its contract: each return by the tests on its way and what the calls give.
 use borrow.Author.Tests.{le-leb, lt-leb}
 use Prim.Native.Nat.{_+_}
 use native.Mathlib.Omega.{arith}

@@ -1,5 +1,6 @@
--- The byte that an act sends or compares, by arithmetic. `Standing` of the crate position has the law that these are the bytes of the session's
--- order, so that they need no belief; `image-byte` says besides which bytes a shorter image lacks (number 15).
+-- The byte that an act sends or compares, by arithmetic. `Standing` of the crate position has the law that
+-- these are the bytes of the session's order, so that they need no belief; `image-byte` says besides which
+-- bytes a shorter image lacks (number 15).
 use mathlib.Core.Bool.{cond}
 use mathlib.Core.List.{List}
 use Prim.Native.Nat.{ℕ, _+_, _-_, _*_, _/_, _%_}
@@ -38,7 +39,8 @@ block-byte s at command =
 unfoldable pub image-byte : List ℕ → ℕ → Wanted
 image-byte image i = cond (ltb i (length image)) (Byte (getD image i 0)) Missing
 
--- the image offset of the byte that a block write's act sends, and of the one that a block read's act compares
+-- the image offset of the byte that a block write's act sends, and of the one that a block read's act
+-- compares
 unfoldable pub sent-offset : Session → At → ℕ
 sent-offset s at = block-offset (s .settings) at + (at .act - 11) / 2
 

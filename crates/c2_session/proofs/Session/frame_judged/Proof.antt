@@ -1,7 +1,6 @@
--- `c2_session::Session::judged` meets its contract: each return by the tests on its way and what the calls give.
 use borrow.Author.Needs.{needs}
-use Rattle.c2_session.proofs.Session.judged.Statement.{statement}
-use Rattle.c2_session.proofs.Session.judged.Tie as tie
+use Rattle.c2_session.proofs.Session.frame_judged.Statement.{statement}
+use Rattle.c2_session.proofs.Session.frame_judged.Tie as tie
 
 enum-told : tie.Need-enum-told
 enum-told c = search needs
@@ -30,8 +29,8 @@ compared-offset-requires c κs = search needs
 image-byte-requires : tie.Need-image-byte-requires
 image-byte-requires c κs = search needs
 
-compares-requires : tie.Need-compares-requires
-compares-requires c κs = search needs
+wanted-compared-requires : tie.Need-wanted-compared-requires
+wanted-compared-requires c κs = search needs
 
 enum-told-5 : tie.Need-enum-told-5
 enum-told-5 c = search needs
@@ -45,26 +44,26 @@ expects-requires-2 c κs = search needs
 enum-told-6 : tie.Need-enum-told-6
 enum-told-6 c = search needs
 
-onward-requires : tie.Need-onward-requires
-onward-requires c κs = search needs
+next-act-requires : tie.Need-next-act-requires
+next-act-requires c κs = search needs
 
 enum-told-7 : tie.Need-enum-told-7
 enum-told-7 c = search needs
 
-onward-requires-2 : tie.Need-onward-requires-2
-onward-requires-2 c κs = search needs
+next-act-requires-2 : tie.Need-next-act-requires-2
+next-act-requires-2 c κs = search needs
 
 enum-told-8 : tie.Need-enum-told-8
 enum-told-8 c = search needs
 
-onward-requires-3 : tie.Need-onward-requires-3
-onward-requires-3 c κs = search needs
+next-act-requires-3 : tie.Need-next-act-requires-3
+next-act-requires-3 c κs = search needs
 
 enum-told-9 : tie.Need-enum-told-9
 enum-told-9 c = search needs
 
-onward-requires-4 : tie.Need-onward-requires-4
-onward-requires-4 c κs = search needs
+next-act-requires-4 : tie.Need-next-act-requires-4
+next-act-requires-4 c κs = search needs
 
 returns : tie.Need-returns
 returns c = rw (c .before .enum-told .given .1) (c .polled .ensures)
@@ -77,25 +76,25 @@ returns-3 c = rw (c .before .enum-told3 .given .1) (c .expects .ensures)
 
 returns-4 : tie.Need-returns-4
 returns-4 c =
-    rw (c .before .before .before .enum-told4 .given .1, c .compares .ensures, c .before .image-byte .ensures, c .before .before .compared-offset .ensures)
+    rw (c .before .before .before .enum-told4 .given .1, c .wanted-compared .ensures, c .before .image-byte .ensures, c .before .before .compared-offset .ensures)
 
 returns-5 : tie.Need-returns-5
 returns-5 c = rw (c .before .before .enum-told5 .given .1) (c .expects2 .ensures)
 
 returns-6 : tie.Need-returns-6
-returns-6 c = rw (c .before .enum-told6 .given .1) (c .onward .ensures)
+returns-6 c = rw (c .before .enum-told6 .given .1) (c .next-act .ensures)
 
 returns-7 : tie.Need-returns-7
-returns-7 c = rw (c .before .enum-told7 .given .1) (c .onward2 .ensures)
+returns-7 c = rw (c .before .enum-told7 .given .1) (c .next-act2 .ensures)
 
 returns-8 : tie.Need-returns-8
-returns-8 c = rw (c .before .enum-told8 .given .1) (c .onward3 .ensures)
+returns-8 c = rw (c .before .enum-told8 .given .1) (c .next-act3 .ensures)
 
 returns-9 : tie.Need-returns-9
-returns-9 c = rw (c .before .enum-told9 .given .1) (c .onward4 .ensures)
+returns-9 c = rw (c .before .enum-told9 .given .1) (c .next-act4 .ensures)
 
-pub judged-spec : {M : Type 1} → statement M
-judged-spec =
+pub frame-judged-spec : {M : Type 1} → statement M
+frame-judged-spec =
     tie.close
     (tie.spec
     enum-told
@@ -107,18 +106,18 @@ judged-spec =
     enum-told-4
     compared-offset-requires
     image-byte-requires
-    compares-requires
+    wanted-compared-requires
     enum-told-5
     cast-expects
     expects-requires-2
     enum-told-6
-    onward-requires
+    next-act-requires
     enum-told-7
-    onward-requires-2
+    next-act-requires-2
     enum-told-8
-    onward-requires-3
+    next-act-requires-3
     enum-told-9
-    onward-requires-4
+    next-act-requires-4
     returns
     returns-2
     returns-3

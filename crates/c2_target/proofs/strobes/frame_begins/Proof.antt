@@ -1,17 +1,16 @@
--- `c2_target::strobes::begins` meets its contract: each return by the tests on its way and what the calls give.
 use borrow.Author.Tests.{eq-eqb, ne-eqb}
 use borrow.Author.Needs.{needs}
 use Rattle.c2_wire.specs.Frames.{ins-code}
-use Rattle.c2_target.specs.Strobes.{begins}
-use Rattle.c2_target.proofs.strobes.begins.Statement.{statement}
-use Rattle.c2_target.proofs.strobes.begins.Tie as tie
+use Rattle.c2_target.specs.Strobes.{frame-begins}
+use Rattle.c2_target.proofs.strobes.frame_begins.Statement.{statement}
+use Rattle.c2_target.proofs.strobes.frame_begins.Tie as tie
 
 returns : tie.Need-returns
-unfolding begins ins-code
+unfolding frame-begins ins-code
 returns c = rw (eq-eqb _ _ (c .if1 .taken))
 
 returns-2 : tie.Need-returns-2
-unfolding begins ins-code
+unfolding frame-begins ins-code
 returns-2 c = rw (ne-eqb _ _ (c .before .if1 .left), eq-eqb _ _ (c .if2 .taken))
 
 shown-requires : tie.Need-shown-requires
@@ -21,13 +20,13 @@ sending-requires : tie.Need-sending-requires
 sending-requires c κs = search needs
 
 returns-3 : tie.Need-returns-3
-unfolding begins ins-code
+unfolding frame-begins ins-code
 returns-3 c = rw (ne-eqb _ _ (c .before .before .before .before .if1 .left), ne-eqb _ _ (c .before .before .before .if2 .left), eq-eqb _ _ (c .before .before .if3 .taken), c .sending .ensures, c .before .shown .ensures)
 
 returns-4 : tie.Need-returns-4
-unfolding begins ins-code
+unfolding frame-begins ins-code
 returns-4 c = rw (ne-eqb _ _ (c .before .before .if1 .left), ne-eqb _ _ (c .before .if2 .left), ne-eqb _ _ (c .if3 .left))
 
-pub begins-spec : {M : Type 1} → statement M
-begins-spec =
+pub frame-begins-spec : {M : Type 1} → statement M
+frame-begins-spec =
     tie.close (tie.spec returns returns-2 shown-requires sending-requires returns-3 returns-4)

@@ -1,0 +1,51 @@
+-- For the code: the session after a reply, lent its image. `Advanced` of c2_position has the law that for an
+-- image of its length it is at the next point of the order.
+use mathlib.Core.Bool.{Bool, cond}
+use mathlib.Core.List.{List}
+use Prim.Native.Nat.{ℕ}
+use lib.Dec.{eqb, ltb}
+use Rattle.numbers.specs.Numbers.{bad-reply}
+use Rattle.c2_wire.specs.Frames.{frame}
+use Rattle.c2_wire.specs.Place.{place, followed}
+use Rattle.c2_wire.specs.declared.Place.{Place}
+use Rattle.c2_acts.specs.declared.Task.{Task}
+use Rattle.c2_session.specs.declared.At.{At}
+use Rattle.c2_session.specs.declared.Point.{Point}
+use Rattle.c2_session.specs.declared.Point.the-variants.{Running, Ended}
+use Rattle.c2_session.specs.declared.Session.{Session}
+use Rattle.c2_acts.specs.Code.Acts.{task-of}
+use Rattle.c2_session.specs.Code.Next.{at, end-point, next-act}
+use Rattle.c2_session.specs.Code.Judge.{frame-answered}
+use Rattle.c2_session.specs.Code.Step.{alone, task-frame}
+
+-- a reply of 0 or 1; a step that stands in no frame is over at its reply
+abbrev pub task-taken : (wait-limit poll-limit : ℕ) → Task → Session → At → Place → Bool → List ℕ → Point
+task-taken w r k s a p b image =
+    cond (eqb (alone k) 0) (frame-answered r (followed w (frame (task-frame k) 0) p b) k s a (p .count) image) (next-act s a)
+
+-- a reply in an act that does this; one that is neither 0 nor 1 comes first
+abbrev pub replied-by : (wait-limit poll-limit : ℕ) → Task → Session → At → Place → (reply : ℕ) → List ℕ → Point
+replied-by w r k s a p reply image = cond (ltb 1 reply) (end-point bad-reply) (task-taken w r k s a p (eqb reply 1) image)
+
+unfoldable pub point-replied : (wait-limit poll-limit : ℕ) → Session → At → Place → (reply : ℕ) → List ℕ → Point
+point-replied w r s a p reply image = replied-by w r (task-of (a .stage) (a .act)) s a p reply image
+
+-- an ended session takes no reply
+abbrev pub point-advanced : (wait-limit poll-limit : ℕ) → Point → Session → (reply : ℕ) → List ℕ → Point
+point-advanced w r (Running g i j k q c v) s reply image = point-replied w r s (at g i j k) (place q c v) reply image
+point-advanced w r (Ended n o) s reply image = Ended n o
+
+-- the session after a reply
+unfoldable pub advanced : (wait-limit poll-limit : ℕ) → Session → (reply : ℕ) → List ℕ → Session
+advanced w r s reply image =
+    record { settings = s .settings; first = s .first; pages = s .pages; point = point-advanced w r (s .point) s reply image }
+
+-- For the code: the same in an act of which it is known what it does. `Knowing` of the crate outcome has the
+-- law that it is the same.
+abbrev pub point-advanced-by : (wait-limit poll-limit : ℕ) → Task → Point → Session → (reply : ℕ) → List ℕ → Point
+point-advanced-by w r t (Running g i j k q c v) s reply image = replied-by w r t s (at g i j k) (place q c v) reply image
+point-advanced-by w r t (Ended n o) s reply image = Ended n o
+
+unfoldable pub advanced-by : (wait-limit poll-limit : ℕ) → Task → Session → (reply : ℕ) → List ℕ → Session
+advanced-by w r t s reply image =
+    record { settings = s .settings; first = s .first; pages = s .pages; point = point-advanced-by w r t (s .point) s reply image }

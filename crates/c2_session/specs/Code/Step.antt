@@ -1,0 +1,75 @@
+-- For the code: the step that a session waits at. `Step` of c2_position has the law that it is the one that
+-- the exchange of its order asks for.
+use mathlib.Core.Bool.{Bool, true, false, cond}
+use mathlib.Core.List.{List}
+use Prim.Native.Nat.{ℕ}
+use lib.Dec.{eqb}
+use Rattle.c2_wire.specs.Frames.{frame}
+use Rattle.c2_wire.specs.Place.{step-at}
+use Rattle.c2_wire.specs.declared.Frame.{Frame}
+use Rattle.c2_wire.specs.declared.Frame.the-variants.{AddressWrite, AddressRead, DataWrite, DataRead}
+use Rattle.c2_acts.specs.declared.Task.{Task}
+use Rattle.c2_acts.specs.declared.Task.the-variants.{Reset, Pause, Address, Send, Input, Output, Ident, Status, Compare}
+use Rattle.c2_session.specs.declared.At.{At}
+use Rattle.c2_session.specs.declared.Point.{Point}
+use Rattle.c2_session.specs.declared.Point.the-variants.{Running, Ended}
+use Rattle.c2_session.specs.declared.Session.{Session}
+use Rattle.c2_acts.specs.Code.Acts.{task-of}
+use Rattle.c2_session.specs.Code.Bytes.{stage-byte, byte-of}
+use Rattle.c2_session.specs.Code.Next.{at}
+
+-- The step of an act that stands in no frame, 0 for any other act; the frame of any other act (what is said
+-- of Reset and Pause is not used); and whether that frame sends a byte.
+abbrev pub alone : Task → ℕ
+alone Reset = 4
+alone Pause = 5
+alone Address = 0
+alone Send = 0
+alone Input = 0
+alone Output = 0
+alone Ident = 0
+alone Status = 0
+alone Compare = 0
+
+abbrev pub task-frame : Task → Frame
+task-frame Reset = AddressWrite
+task-frame Pause = AddressWrite
+task-frame Address = AddressWrite
+task-frame Send = DataWrite
+task-frame Input = AddressRead
+task-frame Output = AddressRead
+task-frame Ident = DataRead
+task-frame Status = DataRead
+task-frame Compare = DataRead
+
+abbrev pub task-sends : Task → Bool
+task-sends Reset = false
+task-sends Pause = false
+task-sends Address = true
+task-sends Send = true
+task-sends Input = false
+task-sends Output = false
+task-sends Ident = false
+task-sends Status = false
+task-sends Compare = false
+
+-- the step that a session waits at
+abbrev pub task-byte : Task → Session → At → List ℕ → ℕ
+task-byte k s a image = cond (task-sends k) (byte-of (stage-byte (a .stage) s a image)) 0
+
+abbrev pub task-step : Task → Session → At → (strobe : ℕ) → List ℕ → ℕ
+task-step k s a q image = cond (eqb (alone k) 0) (step-at (frame (task-frame k) (task-byte k s a image)) q) (alone k)
+
+abbrev pub point-step : Point → Session → List ℕ → ℕ
+point-step (Running g i j k q c v) s image = task-step (task-of g k) s (at g i j k) q image
+point-step (Ended n o) s image = 6
+
+unfoldable pub session-step : Session → List ℕ → ℕ
+session-step s image = point-step (s .point) s image
+
+abbrev pub point-step-by : Task → Point → Session → List ℕ → ℕ
+point-step-by t (Running g i j k q c v) s image = task-step t s (at g i j k) q image
+point-step-by t (Ended n o) s image = 6
+
+unfoldable pub step-by : Task → Session → List ℕ → ℕ
+step-by t s image = point-step-by t (s .point) s image
