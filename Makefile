@@ -3,10 +3,20 @@
 CARGO := cargo run --quiet --offline --manifest-path compare/Cargo.toml --target-dir target/compare --
 BENCH := cargo run --quiet --release --offline --manifest-path bench/Cargo.toml --target-dir target/bench --
 
-# The libraries that the comparison and the benchmark link; proved/build.rs has the same list.
-LIBRARIES := $(patsubst %,target/staticlib/lib%.a,c2 c2_wire_probe c2_run)
+# The crates that something is made of: libraries for users; libraries that the comparison and the benchmark link
+# besides (proved/build.rs has both); the program; and those that stand right below them, proved in one go.
+USERS := c2
+INSIDE := c2_wire_probe c2_run
+PROGRAM := flash
+BELOW := c2_record c2_figure c2_target_state
 
-PROGRAM := target/bin/flash
+LIBRARY := $(USERS:%=target/staticlib/lib%.a)
+LIBRARIES := $(LIBRARY) $(INSIDE:%=target/staticlib/lib%.a)
+FLASH := target/bin/$(PROGRAM)
+SOURCES := $(wildcard crates/*/src/*.rt crates/*/src/*/*.rt)
+
+PREFIX ?= /usr/local
+VERSION = $(shell sed -n 's/^.define C2_VERSION_[MP][A-Z]* //p' include/c2.h | paste -sd.)
 
 EXAMPLES := target/examples/first target/examples/driver target/examples/waves
 WAVES := target/waves/page.vcd
@@ -14,51 +24,65 @@ SHORT := 200
 STRICT := -Wall -Wextra -Wpedantic -Werror -Iinclude
 HEADERS := $(wildcard include/*.h)
 
-.PHONY: help library flash test below compare compare-long numbers examples headers waves bench prove clean
+.PHONY: help library install flash test below compare compare-long numbers examples headers installed waves bench prove clean
+.NOTPARALLEL:
 
 help:
 	@echo "make library       build the driver's library, target/staticlib/libc2.a; its header is include/c2.h"
-	@echo "make flash <image  program a modelled target with the image on standard input"
+	@echo "make install       put headers, library and a pkg-config file below PREFIX, $(PREFIX) unless you say"
+	@echo "make flash         program a modelled target: IMAGE=file, or the image on standard input"
 	@echo "make examples      build and run the C examples: examples/first.c, driver.c and waves.c"
 	@echo "make waves         write a session's strobes as a waveform, $(WAVES), for gtkwave or PulseView"
-	@echo "make test          compare with the second implementation in Rust, run the examples, then prove everything from nothing"
-	@echo "make compare       the comparison alone, some seconds"
+	@echo "make test          prove everything from nothing, then compare, and run the examples"
+	@echo "make compare       the comparison with a second implementation in Rust, half a minute"
 	@echo "make compare-long  the comparison over many more cases"
 	@echo "make numbers       compare every list of the numbers that come back with docs/NUMBERS.md"
 	@echo "make bench         time the library beside plain Rust, some minutes; ARGS=--quick for less"
 	@echo "make prove         prove what has changed since the last time"
 	@echo "make clean         remove everything that was built"
 
-library: target/staticlib/libc2.a
+library: $(LIBRARY)
+	@echo "$(LIBRARY): built, for the headers in include/"
 
-flash: $(PROGRAM)
-	@$(PROGRAM)
+install: $(LIBRARY)
+	@install -d $(DESTDIR)$(PREFIX)/include $(DESTDIR)$(PREFIX)/lib/pkgconfig
+	@install -m 644 $(HEADERS) $(DESTDIR)$(PREFIX)/include
+	@install -m 644 $(LIBRARY) $(DESTDIR)$(PREFIX)/lib
+	@sed 's|@PREFIX@|$(PREFIX)|;s|@VERSION@|$(VERSION)|;s|@LIBS@|$(USERS:%=-l%)|' include/c2.pc.in \
+	    >$(DESTDIR)$(PREFIX)/lib/pkgconfig/c2.pc
+	@echo "c2 $(VERSION) is in $(DESTDIR)$(PREFIX)"
 
-# First everything is proved from nothing; the comparison and the examples then run on what that leaves in target/. The count comes last, and
-# only if they pass.
+# The program's three lines; unless its outcome is 32 this fails, and says in words why.
+flash: $(FLASH)
+	@lines=$$($(FLASH) $(if $(IMAGE),<'$(IMAGE)')) && echo "$$lines" && number=$${lines##*outcome } && \
+	    { test "$$number" = 32 || { sed -n "s/^| $$number | [^|]* | \(.*\) | \(.*\) |$$/\1: \2/p" docs/NUMBERS.md >&2; false; }; }
+
+# First everything is proved from nothing; the comparison and the examples then run on what that leaves in target/.
+# The count comes last, and only if they pass.
 test:
-	@{ rt ci; echo $$?; } | { n=0; while IFS= read -r line; do [ $$n -lt 2 ] || printf '%s\n' "$$a"; a=$$b b=$$line n=$$((n + 1)); done; \
+	@{ rt ci; echo $$?; } | { n=0; \
+	    while IFS= read -r line; do [ $$n -lt 2 ] || printf '%s\n' "$$a"; a=$$b b=$$line n=$$((n + 1)); done; \
 	    if [ "$$b" = 0 ]; then echo "$$a" >target/count; else echo "$$a"; exit 1; fi; }
 	@$(MAKE) --no-print-directory compare numbers examples
 	@cat target/count
 
-# Everything below the program and the libraries is proved in one go, level by level.
+# Everything below the program and the libraries, level by level.
 below:
-	@rt check flash c2_record c2_figure c2_target_state </dev/null >&2
+	@sh tools/prove.sh check $(PROGRAM) $(BELOW) >&2
 
-compare: below $(PROGRAM) $(LIBRARIES)
-	@$(CARGO) --program $(PROGRAM)
+compare: below $(FLASH) $(LIBRARIES)
+	@$(CARGO) --program $(FLASH)
 
-compare-long: below $(PROGRAM) $(LIBRARIES)
-	@$(CARGO) --long --program $(PROGRAM)
+compare-long: below $(FLASH) $(LIBRARIES)
+	@$(CARGO) --long --program $(FLASH)
 
 # The numbers that come back stand once, in docs/NUMBERS.md.
 numbers:
-	@sh compare/numbers.sh
+	@sh tools/numbers.sh
 
 # The first one is the program of README.md, word for word below its first line. The waveform has a header and,
 # in so many steps, a falling edge of C2CK for each but 5 and 6.
-examples: headers $(EXAMPLES)
+examples: headers installed $(EXAMPLES)
 	@sed -n '/^```c$$/,/^```$$/{/^```/!p;}' README.md >target/examples/readme.c
 	@sed 1d examples/first.c | diff - target/examples/readme.c
 	@target/examples/first
@@ -78,6 +102,15 @@ headers:
 	    echo "#include \"$$file\"" | $(CXX) -std=c++20 $(STRICT) -I. -fsyntax-only -x c++ - || exit 1; done
 	@echo "ok     headers: $(words $(HEADERS)), each alone and all together, as C11 and C++20"
 
+# What `make install` puts somewhere is enough to build a program there.
+installed: $(LIBRARY)
+	@rm -rf target/examples/installed && mkdir -p target/examples/installed
+	@$(MAKE) --no-print-directory install PREFIX=$(CURDIR)/target/examples/installed >/dev/null
+	@cd target/examples/installed && $(CC) -std=c11 ../../../examples/first.c -o first \
+	    $$(PKG_CONFIG_PATH=lib/pkgconfig pkg-config --cflags --libs c2) && ./first >/dev/null
+	@test "$$(PKG_CONFIG_PATH=target/examples/installed/lib/pkgconfig pkg-config --modversion c2)" = $(VERSION)
+	@echo "ok     installed: a program built by pkg-config, version $(VERSION)"
+
 waves: $(WAVES)
 	@echo "$(WAVES): the session of one page; gtkwave and PulseView can open it"
 
@@ -90,17 +123,17 @@ bench: $(LIBRARIES)
 	@$(BENCH) $(ARGS)
 
 # As C11, and as C++ too, since drivers are written in both.
-target/examples/%: examples/%.c $(HEADERS) target/staticlib/libc2.a
+target/examples/%: examples/%.c $(HEADERS) $(LIBRARY)
 	@mkdir -p target/examples
 	@$(CXX) -x c++ -std=c++20 $(STRICT) -fsyntax-only $<
-	@$(CC) -std=c11 -O2 $(STRICT) $< target/staticlib/libc2.a -o $@
+	@$(CC) -std=c11 -O2 $(STRICT) $< $(LIBRARY) -o $@
 
-target/staticlib/lib%.a: $(wildcard crates/*/src/*.rt)
-	@rt staticlib $*
+# What is proved goes to the error stream, so that only the program writes to standard output.
+target/staticlib/lib%.a: $(SOURCES)
+	@sh tools/prove.sh staticlib $* >&2
 
-# Its proof goes to the error stream, so that only the program writes to standard output.
-$(PROGRAM): $(wildcard crates/*/src/*.rt)
-	@rt check flash </dev/null >&2
+$(FLASH): $(SOURCES)
+	@sh tools/prove.sh check $(PROGRAM) >&2
 
 prove:
 	@rt check
