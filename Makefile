@@ -3,8 +3,9 @@
 CARGO := cargo run --quiet --offline --manifest-path compare/Cargo.toml --target-dir target/compare --
 BENCH := cargo run --quiet --release --offline --manifest-path bench/Cargo.toml --target-dir target/bench --
 
-# The crates that something is made of: libraries for users; libraries that the comparison and the benchmark link
-# besides (proved/build.rs has both); the program; and those that stand right below them, proved in one go.
+# The crates that something is made of: libraries for users; libraries that the comparison and the benchmark
+# link besides (proved/build.rs has both); the program; and those that stand right below them, proved in one
+# go.
 USERS := c2
 INSIDE := c2_wire_probe c2_run
 PROGRAM := flash
@@ -21,6 +22,8 @@ VERSION = $(shell sed -n 's/^.define C2_VERSION_[MP][A-Z]* //p' include/c2.h | p
 EXAMPLES := target/examples/first target/examples/driver target/examples/waves
 WAVES := target/waves/page.vcd
 SHORT := 200
+FRAMES := RESET Data_Read_0x04 RESET Address_Write_0x02 Data_Write_0x02 Data_Write_0x04 Data_Write_0x01 PAUSE \
+    Address_Write_0xB4 Data_Write_0x08 Address_Read_0x01
 STRICT := -Wall -Wextra -Wpedantic -Werror -Iinclude
 HEADERS := $(wildcard include/*.h)
 
@@ -31,7 +34,7 @@ help:
 	@echo "make library       build the driver's library, target/staticlib/libc2.a; its header is include/c2.h"
 	@echo "make install       put headers, library and a pkg-config file below PREFIX, $(PREFIX) unless you say"
 	@echo "make flash         program a modelled target: IMAGE=file, or the image on standard input"
-	@echo "make examples      build and run the C examples: examples/first.c, driver.c and waves.c"
+	@echo "make examples      build and run the C examples: first, driver and waves"
 	@echo "make waves         write a session's strobes as a waveform, $(WAVES), for gtkwave or PulseView"
 	@echo "make test          prove everything from nothing, then compare, and run the examples"
 	@echo "make compare       the comparison with a second implementation in Rust, half a minute"
@@ -57,8 +60,8 @@ flash: $(FLASH)
 	@lines=$$($(FLASH) $(if $(IMAGE),<'$(IMAGE)')) && echo "$$lines" && number=$${lines##*outcome } && \
 	    { test "$$number" = 32 || { sed -n "s/^| $$number | [^|]* | \(.*\) | \(.*\) |$$/\1: \2/p" docs/NUMBERS.md >&2; false; }; }
 
-# First everything is proved from nothing; the comparison and the examples then run on what that leaves in target/.
-# The count comes last, and only if they pass.
+# First everything is proved from nothing; the comparison and the examples then run on what that leaves in
+# target/. The count comes last, and only if they pass.
 test:
 	@{ rt ci; echo $$?; } | { n=0; \
 	    while IFS= read -r line; do [ $$n -lt 2 ] || printf '%s\n' "$$a"; a=$$b b=$$line n=$$((n + 1)); done; \
@@ -80,17 +83,23 @@ compare-long: below $(FLASH) $(LIBRARIES)
 numbers:
 	@sh tools/numbers.sh
 
-# The first one is the program of README.md, word for word below its first line. The waveform has a header and,
-# in so many steps, a falling edge of C2CK for each but 5 and 6.
+# The first one is the program of README.md, word for word below its first line. The waveform has a header,
+# the session's first frames, and in so many steps a falling edge of C2CK for each but 5 and 6. The picture is
+# README's.
 examples: headers installed $(EXAMPLES)
 	@sed -n '/^```c$$/,/^```$$/{/^```/!p;}' README.md >target/examples/readme.c
 	@sed 1d examples/first.c | diff - target/examples/readme.c
 	@target/examples/first
 	@target/examples/driver
 	@target/examples/waves $(SHORT) >target/examples/short.vcd
-	@sed '/^#/,$$d' target/examples/short.vcd | tr '\n' ' ' | grep -q '^$$version .*$$timescale 1 ns $$end .*$$enddefinitions $$end $$'
-	@test $$(grep -c '^0k' target/examples/short.vcd) -eq $$(($(SHORT) - $$(grep -cE '^s[56] s$$' target/examples/short.vcd)))
-	@echo "ok     waves: $(SHORT) steps, one low pulse on C2CK for each but pauses and the end"
+	@sed '/^#/,$$d' target/examples/short.vcd | tr '\n' ' ' | \
+	    grep -q '^$$version .*$$timescale 1 ns $$end .*$$enddefinitions $$end $$'
+	@test $$(grep -c '^0k' target/examples/short.vcd) -eq \
+	    $$(($(SHORT) - $$(grep -cE '^s[56] s$$' target/examples/short.vcd)))
+	@test "$$(sed -n 's/^s\(.*\) n$$/\1/p' target/examples/short.vcd | head -n $(words $(FRAMES)) | xargs)" = "$(FRAMES)"
+	@echo "ok     waves: $(SHORT) steps, one low pulse on C2CK for each but pauses and the end; the frames in order"
+	@target/examples/waves --svg | diff docs/frames.svg -
+	@echo "ok     waves: docs/frames.svg is what the library's steps draw"
 
 # As C11 and C++20: each header alone, and all of them in one file, in either order and twice.
 headers:
@@ -112,7 +121,8 @@ installed: $(LIBRARY)
 	@echo "ok     installed: a program built by pkg-config, version $(VERSION)"
 
 waves: $(WAVES)
-	@echo "$(WAVES): the session of one page; gtkwave and PulseView can open it"
+	@echo "$(WAVES): the session of one page. PulseView imports it; for GTKWave:"
+	@echo "gtkwave $(WAVES) examples/waves/page.gtkw"
 
 $(WAVES): target/examples/waves
 	@mkdir -p $(@D)
@@ -122,11 +132,12 @@ $(WAVES): target/examples/waves
 bench: $(LIBRARIES)
 	@$(BENCH) $(ARGS)
 
-# As C11, and as C++ too, since drivers are written in both.
-target/examples/%: examples/%.c $(HEADERS) $(LIBRARY)
+# An example is a file or a folder. As C11, and as C++ too, since drivers are written in both.
+.SECONDEXPANSION:
+target/examples/%: $$(wildcard examples/$$*.c examples/$$*/*.[ch]) $(HEADERS) $(LIBRARY)
 	@mkdir -p target/examples
-	@$(CXX) -x c++ -std=c++20 $(STRICT) -fsyntax-only $<
-	@$(CC) -std=c11 -O2 $(STRICT) $< $(LIBRARY) -o $@
+	@for file in $(filter %.c,$^); do $(CXX) -x c++ -std=c++20 $(STRICT) -fsyntax-only $$file || exit 1; done
+	@$(CC) -std=c11 -O2 $(STRICT) $(filter %.c,$^) $(LIBRARY) -o $@
 
 # What is proved goes to the error stream, so that only the program writes to standard output.
 target/staticlib/lib%.a: $(SOURCES)
