@@ -2,6 +2,47 @@
 ghost use mathlib.Core.Path.{_≡_};
 ghost use Rattle.c2_acts.specs.Code.Acts.{lead-task, put-task, erase-task, write-task, read-task, task-of, acts-in};
 
+// How many acts the stages have: of a page in Erase, of a block in Write and Read.
+pub const LEAD_ACTS: u16 = 8;
+
+pub const ERASE_ACTS: u16 = 13;
+
+pub const BLOCK_ACTS: u16 = 525;
+
+pub const CLOSE_ACTS: u16 = 1;
+
+// Acts of the lead: the Address Write of FPCTL, the three key writes, and the pause after them.
+pub const LEAD_ADDRESS: u16 = 3;
+
+pub const FIRST_KEY: u16 = 4;
+
+pub const SECOND_KEY: u16 = 5;
+
+pub const LEAD_PAUSE: u16 = 7;
+
+// Acts of every command: the Address Write of FPDAT, the put of the command byte, its status, and the put of what
+// comes next, a page or the high byte of an address.
+pub const COMMAND_ADDRESS: u16 = 0;
+
+pub const COMMAND_BYTE: u16 = 1;
+
+pub const COMMAND_READY: u16 = 3;
+
+pub const COMMAND_STATUS: u16 = 4;
+
+pub const COMMAND_PLACE: u16 = 5;
+
+// The act after a block's length code: the put of the first byte in a block write, the poll for the status in a
+// block read.
+pub const BLOCK_BODY: u16 = 11;
+
+// The poll for the status of a block write, the status of a block read, and its first compare.
+pub const WRITE_READY: u16 = 523;
+
+pub const READ_STATUS: u16 = 12;
+
+pub const FIRST_COMPARE: u16 = 14;
+
 // The stages of the order: up to the pause; then for each page its erase, its block writes and its block
 // reads; and the last reset.
 pub enum Stage {
@@ -38,10 +79,10 @@ fn lead_task(act: u16) -> Task
     if act == 2 {
         return Task::Reset;
     }
-    if act == 3 {
+    if act == LEAD_ADDRESS {
         return Task::Address;
     }
-    if act < 7 {
+    if act < LEAD_PAUSE {
         return Task::Send;
     }
     Task::Pause
@@ -60,7 +101,7 @@ fn put_task(act: u16) -> Task
 fn erase_task(act: u16) -> Task
     ensures { λ r. ⌜ r ≡ erase-task act ⌝ }
 {
-    if act == 0 {
+    if act == COMMAND_ADDRESS {
         return Task::Address;
     }
     if act % 4 == 1 {
@@ -78,19 +119,19 @@ fn erase_task(act: u16) -> Task
 fn write_task(act: u16) -> Task
     ensures { λ r. ⌜ r ≡ write-task act ⌝ }
 {
-    if act == 0 {
+    if act == COMMAND_ADDRESS {
         return Task::Address;
     }
-    if act == 3 {
+    if act == COMMAND_READY {
         return Task::Output;
     }
-    if act == 4 {
+    if act == COMMAND_STATUS {
         return Task::Status;
     }
-    if act < 523 {
+    if act < WRITE_READY {
         return put_task(act);
     }
-    if act == 523 {
+    if act == WRITE_READY {
         return Task::Output;
     }
     Task::Status
@@ -99,22 +140,22 @@ fn write_task(act: u16) -> Task
 fn read_task(act: u16) -> Task
     ensures { λ r. ⌜ r ≡ read-task act ⌝ }
 {
-    if act == 0 {
+    if act == COMMAND_ADDRESS {
         return Task::Address;
     }
-    if act == 3 {
+    if act == COMMAND_READY {
         return Task::Output;
     }
-    if act == 4 {
+    if act == COMMAND_STATUS {
         return Task::Status;
     }
-    if act < 11 {
+    if act < BLOCK_BODY {
         return put_task(act);
     }
     if act % 2 == 1 {
         return Task::Output;
     }
-    if act == 12 {
+    if act == READ_STATUS {
         return Task::Status;
     }
     Task::Compare
@@ -138,10 +179,10 @@ pub fn acts_in(stage: Stage) -> u16
     ensures { λ r. ⌜ r ≡ acts-in stage ⌝ }
 {
     match stage {
-        Stage::Lead => 8,
-        Stage::Erase => 13,
-        Stage::Write => 525,
-        Stage::Read => 525,
-        Stage::Close => 1,
+        Stage::Lead => LEAD_ACTS,
+        Stage::Erase => ERASE_ACTS,
+        Stage::Write => BLOCK_ACTS,
+        Stage::Read => BLOCK_ACTS,
+        Stage::Close => CLOSE_ACTS,
     }
 }

@@ -4,8 +4,10 @@ ghost use Prim.Native.Nat.{_+_, _-_, _*_, _/_, _<_, _≤_};
 ghost use Rattle.c2_figure.specs.Code.Left.{task-cost, page-cost, blocks-by-size};
 use crate::BLOCK;
 use crate::ERASE;
+use crate::OTHER_STROBES;
 use c2_acts::Task;
 use c2_session::Session;
+use c2_wire::ADDRESS_STROBES;
 
 pub(crate) fn less(a: usize, b: usize) -> usize
     ensures { λ r. ⌜ r ≡ a - b ⌝ }
@@ -23,13 +25,13 @@ pub(crate) fn task_cost(task: Task) -> usize
     match task {
         Task::Reset => 1,
         Task::Pause => 1,
-        Task::Address => 12,
-        Task::Send => 14 + Session::WAIT_LIMIT,
-        Task::Input => Session::POLL_LIMIT * 12,
-        Task::Output => Session::POLL_LIMIT * 12,
-        Task::Ident => 14 + Session::WAIT_LIMIT,
-        Task::Status => 14 + Session::WAIT_LIMIT,
-        Task::Compare => 14 + Session::WAIT_LIMIT,
+        Task::Address => ADDRESS_STROBES,
+        Task::Send => OTHER_STROBES + Session::WAIT_LIMIT,
+        Task::Input => Session::POLL_LIMIT * ADDRESS_STROBES,
+        Task::Output => Session::POLL_LIMIT * ADDRESS_STROBES,
+        Task::Ident => OTHER_STROBES + Session::WAIT_LIMIT,
+        Task::Status => OTHER_STROBES + Session::WAIT_LIMIT,
+        Task::Compare => OTHER_STROBES + Session::WAIT_LIMIT,
     }
 }
 

@@ -4,6 +4,9 @@ ghost use Prim.Native.Nat.{_<_, _≤_};
 ghost use Rattle.c2_figure.specs.Code.Left.{wait-left, poll-left, act-left, lead-left, bytes-left, stage-left, pages-left, blocks-left, after-left, point-left, steps-left};
 use crate::BLOCK;
 use crate::BYTE;
+use crate::LAST_OF_BLOCK;
+use crate::LAST_OF_ERASE;
+use crate::OTHER_STROBES;
 use crate::cost::less;
 use crate::cost::page_blocks;
 use crate::cost::pages_cost;
@@ -13,19 +16,23 @@ use c2_acts::Task;
 use c2_acts::task_of;
 use c2_session::Point;
 use c2_session::Session;
+use c2_wire::ADDRESS_STROBES;
+use c2_wire::DATA_STROBES;
+use c2_wire::READ_WAIT;
+use c2_wire::WRITE_WAIT;
 
-// What is left of a frame of 15 strobes with a WAIT at this one.
+// What is left of a frame with data and a WAIT at this one.
 fn wait_left(waits: usize, strobe: usize, count: usize) -> usize
     ensures { λ r. ⌜ r ≡ wait-left 20 waits strobe count ⌝ }
     ensures { λ r. ⌜ r ≤ 34 ⌝ }
 {
     if strobe < waits {
-        return less(14, strobe) + Session::WAIT_LIMIT;
+        return less(OTHER_STROBES, strobe) + Session::WAIT_LIMIT;
     }
     if strobe == waits {
-        return less(14, strobe) + less(Session::WAIT_LIMIT, count);
+        return less(OTHER_STROBES, strobe) + less(Session::WAIT_LIMIT, count);
     }
-    less(15, strobe)
+    less(DATA_STROBES, strobe)
 }
 
 // What is left of a poll.
@@ -33,7 +40,7 @@ fn poll_left(strobe: usize, count: usize) -> usize
     ensures { λ r. ⌜ r ≡ poll-left 256 strobe count ⌝ }
     ensures { λ r. ⌜ r ≤ 3072 ⌝ }
 {
-    less(12, strobe) + less(less(Session::POLL_LIMIT, count), 1) * 12
+    less(ADDRESS_STROBES, strobe) + less(less(Session::POLL_LIMIT, count), 1) * ADDRESS_STROBES
 }
 
 fn act_left(task: Task, strobe: usize, count: usize) -> usize
@@ -43,13 +50,13 @@ fn act_left(task: Task, strobe: usize, count: usize) -> usize
     match task {
         Task::Reset => less(1, strobe),
         Task::Pause => less(1, strobe),
-        Task::Address => less(12, strobe),
-        Task::Send => wait_left(13, strobe, count),
+        Task::Address => less(ADDRESS_STROBES, strobe),
+        Task::Send => wait_left(WRITE_WAIT, strobe, count),
         Task::Input => poll_left(strobe, count),
         Task::Output => poll_left(strobe, count),
-        Task::Ident => wait_left(5, strobe, count),
-        Task::Status => wait_left(5, strobe, count),
-        Task::Compare => wait_left(5, strobe, count),
+        Task::Ident => wait_left(READ_WAIT, strobe, count),
+        Task::Status => wait_left(READ_WAIT, strobe, count),
+        Task::Compare => wait_left(READ_WAIT, strobe, count),
     }
 }
 
@@ -100,9 +107,9 @@ fn stage_left(stage: Stage, act: u16) -> usize
 {
     match stage {
         Stage::Lead => lead_left(act),
-        Stage::Erase => bytes_left(12, task_of(Stage::Erase, act), act),
-        Stage::Write => bytes_left(524, task_of(Stage::Write, act), act),
-        Stage::Read => bytes_left(524, task_of(Stage::Read, act), act),
+        Stage::Erase => bytes_left(LAST_OF_ERASE, task_of(Stage::Erase, act), act),
+        Stage::Write => bytes_left(LAST_OF_BLOCK, task_of(Stage::Write, act), act),
+        Stage::Read => bytes_left(LAST_OF_BLOCK, task_of(Stage::Read, act), act),
         Stage::Close => 0,
     }
 }

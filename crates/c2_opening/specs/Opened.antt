@@ -1,5 +1,5 @@
 -- The session that an opening begins, the session after replies, and what it leaves to say.
-use mathlib.Core.List.{List, _∷_}
+use mathlib.Core.List.{List, [], _∷_}
 use Prim.Native.Nat.{ℕ, _*_, _/_}
 use Rattle.c2_wire.specs.Exchange.{Exchange}
 use Rattle.settings.specs.declared.Settings.{Settings}

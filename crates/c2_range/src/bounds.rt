@@ -7,7 +7,13 @@ ghost use Rattle.c2_range.specs.Code.Bounds.{limit-from, sampled-from, b
 use c2_acts::Task;
 use c2_acts::acts_in;
 use c2_session::At;
+use c2_wire::ADDRESS_SAMPLES;
+use c2_wire::ADDRESS_STROBES;
+use c2_wire::DATA_SAMPLES;
+use c2_wire::DATA_STROBES;
 use c2_wire::Place;
+use c2_wire::READ_WAIT;
+use c2_wire::WRITE_WAIT;
 
 // The zeros of the WAIT at this strobe are below its limit, and elsewhere there is nothing to count.
 fn limit_from(waits: usize, wait: usize, strobe: usize) -> usize
@@ -58,14 +64,24 @@ fn within(strobes: usize, limit: usize, sampled: usize, place: Place) -> bool
 fn address_read(reads: usize, place: Place) -> bool
     ensures { λ r. ⌜ r ≡ below-bounds 12 reads (sampled-from 3 (place .strobe)) (place .strobe) (place .count) (place .bits) ⌝ }
 {
-    within(12, reads, sampled_from(3, place.strobe), place)
+    within(
+        ADDRESS_STROBES,
+        reads,
+        sampled_from(ADDRESS_SAMPLES, place.strobe),
+        place,
+    )
 }
 
 fn data_read(wait: usize, place: Place) -> bool
     ensures { λ r. ⌜ r ≡ below-bounds 15 (limit-from 5 wait (place .strobe)) (sampled-from 6 (place .strobe)) (place .strobe) (place .count) (place .bits) ⌝ }
 {
-    let limit = limit_from(5, wait, place.strobe);
-    within(15, limit, sampled_from(6, place.strobe), place)
+    let limit = limit_from(READ_WAIT, wait, place.strobe);
+    within(
+        DATA_STROBES,
+        limit,
+        sampled_from(DATA_SAMPLES, place.strobe),
+        place,
+    )
 }
 
 pub(crate) fn place_in_range(wait: usize, reads: usize, task: Task, place: Place) -> bool
@@ -74,8 +90,13 @@ pub(crate) fn place_in_range(wait: usize, reads: usize, task: Task, place: Place
     match task {
         Task::Reset => within(1, 1, 0, place),
         Task::Pause => within(1, 1, 0, place),
-        Task::Address => within(12, 1, 0, place),
-        Task::Send => within(15, limit_from(13, wait, place.strobe), 0, place),
+        Task::Address => within(ADDRESS_STROBES, 1, 0, place),
+        Task::Send => within(
+            DATA_STROBES,
+            limit_from(WRITE_WAIT, wait, place.strobe),
+            0,
+            place,
+        ),
         Task::Input => address_read(reads, place),
         Task::Output => address_read(reads, place),
         Task::Ident => data_read(wait, place),

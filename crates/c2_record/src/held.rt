@@ -3,6 +3,9 @@ ghost use mathlib.Core.Path.{_≡_};
 ghost use lib.ListN.{length};
 ghost use Rattle.c2_record.specs.Record.{unpacked};
 ghost use Rattle.c2_record.specs.Code.Spare.{checked-by};
+use crate::FIRST_PAGE;
+use crate::PAGES;
+use crate::RECORD_BYTES;
 use crate::Reached;
 use crate::Unpacked;
 use crate::read::point_of;
@@ -32,7 +35,7 @@ fn checked(s: Session, r: &[u8]) -> Unpacked
 pub fn unpack(r: &[u8]) -> Unpacked
     ensures { λ q. ⌜ q ≡ unpacked 20 256 (now (r .entry)) ⌝ }
 {
-    if r.len() != 32 {
+    if r.len() != RECORD_BYTES {
         return Unpacked::Refused;
     }
     let Reached::At(point) = point_of(read_fields(r)) else {
@@ -42,8 +45,8 @@ pub fn unpack(r: &[u8]) -> Unpacked
     checked(
         Session {
             settings: settings,
-            first: wide16(r[5]),
-            pages: wide16(r[6]),
+            first: wide16(r[FIRST_PAGE]),
+            pages: wide16(r[PAGES]),
             point: point,
         },
         r,

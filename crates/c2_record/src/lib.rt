@@ -12,6 +12,49 @@ mod write;
 pub use held::unpack;
 pub use write::pack;
 
+// The length of a record, and the places of its fields (docs/RECORD.md). One of two bytes has its low byte first.
+pub const RECORD_BYTES: usize = 32;
+
+const DEVICE_ID: usize = 0;
+
+const FPDAT: usize = 1;
+
+const PAGE_SIZE: usize = 2;
+
+const PAGE_SIZE_HIGH: usize = 3;
+
+const PAGE_COUNT: usize = 4;
+
+const FIRST_PAGE: usize = 5;
+
+const PAGES: usize = 6;
+
+const NUMBER: usize = 7;
+
+const OFFSET: usize = 8;
+
+const OFFSET_HIGH: usize = 9;
+
+const STAGE: usize = 10;
+
+const PAGE: usize = 11;
+
+const BLOCK: usize = 12;
+
+const ACT: usize = 13;
+
+const ACT_HIGH: usize = 14;
+
+const STROBE: usize = 15;
+
+const COUNT: usize = 16;
+
+const BITS: usize = 17;
+
+const SPARE: usize = 18;
+
+const LAST_EIGHT: usize = RECORD_BYTES - 8;
+
 // What a record holds: a session, or nothing that is one.
 pub enum Unpacked {
     Held(Session),

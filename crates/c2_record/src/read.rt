@@ -2,9 +2,25 @@
 ghost use mathlib.Core.Path.{_≡_};
 ghost use lib.ListN.{length};
 ghost use Rattle.c2_record.specs.Record.{settings-read, fields-read, stage-named, running-at, point-of};
+use crate::ACT;
+use crate::ACT_HIGH;
+use crate::BITS;
+use crate::BLOCK;
+use crate::COUNT;
+use crate::DEVICE_ID;
+use crate::FPDAT;
 use crate::Fields;
+use crate::NUMBER;
 use crate::Named;
+use crate::OFFSET;
+use crate::OFFSET_HIGH;
+use crate::PAGE;
+use crate::PAGE_COUNT;
+use crate::PAGE_SIZE;
+use crate::PAGE_SIZE_HIGH;
 use crate::Reached;
+use crate::STAGE;
+use crate::STROBE;
 use crate::words::pair16;
 use crate::words::pair32;
 use crate::words::wide;
@@ -19,10 +35,10 @@ pub(crate) fn read_settings(r: &[u8]) -> Settings
     ensures { λ q. ⌜ q ≡ settings-read (now (r .entry)) ⌝ }
 {
     Settings {
-        id: r[0],
-        fpdat: r[1],
-        size: pair32(r[2], r[3]),
-        count: wide32(r[4]),
+        id: r[DEVICE_ID],
+        fpdat: r[FPDAT],
+        size: pair32(r[PAGE_SIZE], r[PAGE_SIZE_HIGH]),
+        count: wide32(r[PAGE_COUNT]),
     }
 }
 
@@ -31,15 +47,15 @@ pub(crate) fn read_fields(r: &[u8]) -> Fields
     ensures { λ q. ⌜ q ≡ fields-read (now (r .entry)) ⌝ }
 {
     Fields {
-        number: wide32(r[7]),
-        offset: pair32(r[8], r[9]),
-        stage: r[10],
-        page: wide16(r[11]),
-        block: wide32(r[12]),
-        act: pair16(r[13], r[14]),
-        strobe: wide(r[15]),
-        count: wide(r[16]),
-        bits: wide(r[17]),
+        number: wide32(r[NUMBER]),
+        offset: pair32(r[OFFSET], r[OFFSET_HIGH]),
+        stage: r[STAGE],
+        page: wide16(r[PAGE]),
+        block: wide32(r[BLOCK]),
+        act: pair16(r[ACT], r[ACT_HIGH]),
+        strobe: wide(r[STROBE]),
+        count: wide(r[COUNT]),
+        bits: wide(r[BITS]),
     }
 }
 

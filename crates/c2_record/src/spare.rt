@@ -3,6 +3,12 @@ ghost use mathlib.Core.Path.{_≡_};
 ghost use Prim.Native.Nat.{_+_, _≤_};
 ghost use lib.ListN.{length};
 ghost use Rattle.c2_record.specs.Code.Spare.{four, zeros, unused, spare};
+use crate::LAST_EIGHT;
+use crate::NUMBER;
+use crate::OFFSET;
+use crate::OFFSET_HIGH;
+use crate::SPARE;
+use crate::STAGE;
 use crate::words::pair32;
 
 // Four bytes as one number, so that one comparison tells whether they are 0.
@@ -28,10 +34,10 @@ pub(crate) fn unused(r: &[u8]) -> bool
     requires { ⌜ length (now r) ≡ 32 ⌝ }
     ensures { λ q. ⌜ q ≡ unused (now (r .entry)) ⌝ }
 {
-    if r[7] == 0 {
-        return pair32(r[8], r[9]) == 0;
+    if r[NUMBER] == 0 {
+        return pair32(r[OFFSET], r[OFFSET_HIGH]) == 0;
     }
-    zeros(r, 10)
+    zeros(r, STAGE)
 }
 
 // Whether the spare bytes, 18 to 31, are 0: eight and eight of them, so that two are tested twice.
@@ -39,8 +45,8 @@ pub(crate) fn spare(r: &[u8]) -> bool
     requires { ⌜ length (now r) ≡ 32 ⌝ }
     ensures { λ q. ⌜ q ≡ spare (now (r .entry)) ⌝ }
 {
-    if zeros(r, 18) {
-        return zeros(r, 24);
+    if zeros(r, SPARE) {
+        return zeros(r, LAST_EIGHT);
     }
     false
 }

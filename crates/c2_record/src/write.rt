@@ -2,6 +2,7 @@
 ghost use mathlib.Core.Path.{_≡_};
 ghost use Rattle.c2_record.specs.Record.{stage-code, fields-of, laid, packed};
 use crate::Fields;
+use crate::RECORD_BYTES;
 use crate::words::high;
 use crate::words::low;
 use c2_acts::Stage;
@@ -59,7 +60,7 @@ fn fields_of(point: Point) -> Fields
 }
 
 // The 32 bytes of a record.
-fn lay(t: Settings, first: u16, pages: u16, f: Fields) -> [u8; 32]
+fn lay(t: Settings, first: u16, pages: u16, f: Fields) -> [u8; RECORD_BYTES]
     ensures { λ r. ⌜ r ≡ laid t first pages f ⌝ }
 {
     [
@@ -99,7 +100,7 @@ fn lay(t: Settings, first: u16, pages: u16, f: Fields) -> [u8; 32]
 }
 
 // The record of a session.
-pub fn pack(s: Session) -> [u8; 32]
+pub fn pack(s: Session) -> [u8; RECORD_BYTES]
     ensures { λ r. ⌜ r ≡ packed s ⌝ }
 {
     let t = s.settings;

@@ -6,6 +6,8 @@ mod play;
 mod program;
 mod same;
 
+pub use program::c2_program;
+
 // The session's number and the image offset for 14, the replies that it took, and whether the target has
 // marked a collision.
 #[repr(C)]

@@ -6,7 +6,22 @@ ghost use Rattle.c2_session.specs.Code.Next.{at};
 use crate::At;
 use crate::Session;
 use crate::Wanted;
+use c2_acts::BLOCK_BODY;
+use c2_acts::COMMAND_ADDRESS;
+use c2_acts::COMMAND_BYTE;
+use c2_acts::COMMAND_PLACE;
+use c2_acts::FIRST_COMPARE;
+use c2_acts::FIRST_KEY;
+use c2_acts::LEAD_ADDRESS;
+use c2_acts::SECOND_KEY;
 use c2_acts::Stage;
+use c2_order::BLOCK_READ;
+use c2_order::BLOCK_WRITE;
+use c2_order::FPCTL;
+use c2_order::KEY_1;
+use c2_order::KEY_2;
+use c2_order::KEY_3;
+use c2_order::PAGE_ERASE;
 use settings::Settings;
 
 // The image offset of a page.
@@ -27,16 +42,16 @@ fn block_offset(t: Settings, at: At) -> usize
 fn lead_byte(act: u16) -> u8
     ensures { λ r. ⌜ r ≡ lead-byte act ⌝ }
 {
-    if act == 3 {
-        return 2;
+    if act == LEAD_ADDRESS {
+        return FPCTL;
     }
-    if act == 4 {
-        return 2;
+    if act == FIRST_KEY {
+        return KEY_1;
     }
-    if act == 5 {
-        return 4;
+    if act == SECOND_KEY {
+        return KEY_2;
     }
-    1
+    KEY_3
 }
 
 pub(crate) fn image_byte(image: &[u8], i: usize) -> Wanted
@@ -77,13 +92,13 @@ impl Session {
         ensures { λ r. ⌜ r ≡ erase-byte self at ⌝ }
     {
         let settings = self.settings;
-        if at.act == 0 {
+        if at.act == COMMAND_ADDRESS {
             return settings.fpdat;
         }
-        if at.act == 1 {
-            return 8;
+        if at.act == COMMAND_BYTE {
+            return PAGE_ERASE;
         }
-        if at.act == 5 {
+        if at.act == COMMAND_PLACE {
             return self.page_number(at.page);
         }
         0
@@ -95,13 +110,13 @@ impl Session {
         ensures { λ r. ⌜ r ≡ block-byte self at command ⌝ }
     {
         let settings = self.settings;
-        if at.act == 0 {
+        if at.act == COMMAND_ADDRESS {
             return settings.fpdat;
         }
-        if at.act == 1 {
+        if at.act == COMMAND_BYTE {
             return command;
         }
-        if at.act == 5 {
+        if at.act == COMMAND_PLACE {
             return self.high_byte(at);
         }
         0
@@ -111,27 +126,27 @@ impl Session {
         ensures { λ r. ⌜ r ≡ sent-offset self at ⌝ }
     {
         let settings = self.settings;
-        if at.act < 11 {
+        if at.act < BLOCK_BODY {
             return block_offset(settings, at);
         }
-        block_offset(settings, at) + ((at.act - 11) as usize) / 2
+        block_offset(settings, at) + ((at.act - BLOCK_BODY) as usize) / 2
     }
 
     pub(crate) fn compared_offset(self, at: At) -> usize
         ensures { λ r. ⌜ r ≡ compared-offset self at ⌝ }
     {
         let settings = self.settings;
-        if at.act < 14 {
+        if at.act < FIRST_COMPARE {
             return block_offset(settings, at);
         }
-        block_offset(settings, at) + ((at.act - 14) as usize) / 2
+        block_offset(settings, at) + ((at.act - FIRST_COMPARE) as usize) / 2
     }
 
     fn write_byte(self, at: At, image: &[u8]) -> Wanted
         ensures { λ r. ⌜ r ≡ write-byte self at (now (image .entry)) ⌝ }
     {
-        if at.act < 11 {
-            return Wanted::Byte(self.block_byte(at, 7));
+        if at.act < BLOCK_BODY {
+            return Wanted::Byte(self.block_byte(at, BLOCK_WRITE));
         }
         image_byte(image, self.sent_offset(at))
     }
@@ -144,7 +159,7 @@ impl Session {
             Stage::Lead => Wanted::Byte(lead_byte(at.act)),
             Stage::Erase => Wanted::Byte(self.erase_byte(at)),
             Stage::Write => self.write_byte(at, image),
-            Stage::Read => Wanted::Byte(self.block_byte(at, 6)),
+            Stage::Read => Wanted::Byte(self.block_byte(at, BLOCK_READ)),
             Stage::Close => Wanted::Byte(0),
         }
     }

@@ -11,16 +11,24 @@ use crate::Wanted;
 use crate::bytes::image_byte;
 use crate::next::end_point;
 use crate::next::strobe_point;
+use c2_acts::BLOCK_BODY;
 use c2_acts::Stage;
 use c2_acts::Task;
+use c2_acts::WRITE_READY;
+use c2_order::OKAY;
 use c2_wire::Moved;
 use c2_wire::Place;
+use c2_wire::WRITE_DATA;
+use c2_wire::WRITE_WAIT;
 use numbers::BAD_STATUS;
 use numbers::COMPARE_DIFFERS;
 use numbers::NO_IMAGE_BYTE;
 use numbers::OTHER_DEVICE;
 use numbers::POLL_LIMIT_REACHED;
 use numbers::WAIT_LIMIT_REACHED;
+
+// The status that passes, as the sampled bits give it.
+const PASSED: usize = OKAY as usize;
 
 // An unsatisfied read of a poll: the one that reaches the limit refuses.
 fn read_again(limit: usize, at: At, reads: usize) -> Point
@@ -46,10 +54,10 @@ fn read_again(limit: usize, at: At, reads: usize) -> Point
 fn sends_image(act: u16) -> bool
     ensures { λ r. ⌜ r ≡ sends-image act ⌝ }
 {
-    if act < 11 {
+    if act < BLOCK_BODY {
         return false;
     }
-    if act < 523 {
+    if act < WRITE_READY {
         return act % 2 == 1;
     }
     false
@@ -59,10 +67,10 @@ fn sends_image(act: u16) -> bool
 fn drives_image(at: At, place: Place) -> bool
     ensures { λ r. ⌜ r ≡ drives-image at place ⌝ }
 {
-    if place.strobe < 5 {
+    if place.strobe < WRITE_DATA {
         return false;
     }
-    if place.strobe < 13 {
+    if place.strobe < WRITE_WAIT {
         return sends_image(at.act);
     }
     false
@@ -132,7 +140,7 @@ impl Session {
         match task {
             Task::Input => self.polled(byte / 2 % 2 == 0, at, reads),
             Task::Output => self.polled(byte % 2 == 1, at, reads),
-            Task::Status => self.expects(byte == 0x0d, BAD_STATUS, at),
+            Task::Status => self.expects(byte == PASSED, BAD_STATUS, at),
             Task::Compare => {
                 self.wanted_compared(image_byte(image, self.compared_offset(at)), at, byte)
             }

@@ -9,14 +9,17 @@ use crate::bytes::byte_of;
 use c2_acts::Task;
 use c2_acts::task_of;
 use c2_wire::Frame;
+use c2_wire::OFF;
+use c2_wire::PAUSE;
+use c2_wire::RESET;
 
 // The step of an act that stands in no frame, 0 for any other.
 pub(crate) fn alone(task: Task) -> u8
     ensures { λ r. ⌜ r ≡ alone task ⌝ }
 {
     match task {
-        Task::Reset => 4,
-        Task::Pause => 5,
+        Task::Reset => RESET,
+        Task::Pause => PAUSE,
         Task::Address => 0,
         Task::Send => 0,
         Task::Input => 0,
@@ -109,7 +112,7 @@ impl Session {
             Point::Ended {
                 number: _,
                 offset: _,
-            } => 6,
+            } => OFF,
         }
     }
 
@@ -147,7 +150,7 @@ impl Session {
             Point::Ended {
                 number: _,
                 offset: _,
-            } => 6,
+            } => OFF,
         }
     }
 

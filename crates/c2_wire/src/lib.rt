@@ -7,6 +7,35 @@ mod steps;
 pub use replies::follow;
 pub use steps::step;
 
+// Steps on the wire: C2D released or driven low in a strobe, the reset pulse, the wait of 20 ms, and both drivers off.
+pub const RELEASED: u8 = 0;
+
+pub const LOW: u8 = 2;
+
+pub const RESET: u8 = 4;
+
+pub const PAUSE: u8 = 5;
+
+pub const OFF: u8 = 6;
+
+// The strobes of a frame that carries an address, and of one that carries data; a WAIT counts as one.
+pub const ADDRESS_STROBES: usize = 12;
+
+pub const DATA_STROBES: usize = 15;
+
+// The first strobe that drives a bit of the byte in a Data Write.
+pub const WRITE_DATA: usize = 5;
+
+// The strobe of the WAIT in a Data Write, and in a Data Read.
+pub const WRITE_WAIT: usize = 13;
+
+pub const READ_WAIT: usize = 5;
+
+// The first strobe that is sampled in an Address Read, and in a Data Read.
+pub const ADDRESS_SAMPLES: usize = 3;
+
+pub const DATA_SAMPLES: usize = 6;
+
 pub enum Frame {
     AddressWrite,
     AddressRead,

@@ -5,6 +5,8 @@ ghost use Rattle.c2_wire.specs.Place.{step-at};
 ghost use Rattle.c2_wire.specs.Code.Role.{body-role, role-at, drives-bit, role-step};
 ghost use Rattle.c2_wire.specs.declared.Frame.the-variants.{AddressWrite, AddressRead, DataWrite, DataRead};
 use crate::Frame;
+use crate::LOW;
+use crate::RELEASED;
 use crate::Role;
 
 // The step that drives a bit of a byte.
@@ -12,9 +14,9 @@ fn driven(byte: u8, i: usize) -> u8
     ensures { λ r. ⌜ r ≡ drives-bit byte i ⌝ }
 {
     if i < 8 {
-        return 2 + (byte >> i) % 2;
+        return LOW + (byte >> i) % 2;
     }
-    2
+    LOW
 }
 
 fn ins(kind: Frame) -> u8
@@ -106,11 +108,11 @@ fn role_step(kind: Frame, byte: u8, role: Role) -> u8
     match role {
         Role::Ins(i) => driven(ins(kind), i),
         Role::Sent(i) => driven(byte, i),
-        Role::Length => 2,
-        Role::Released => 0,
-        Role::Sampled(_) => 0,
-        Role::Wait => 0,
-        Role::Stop => 0,
+        Role::Length => LOW,
+        Role::Released => RELEASED,
+        Role::Sampled(_) => RELEASED,
+        Role::Wait => RELEASED,
+        Role::Stop => RELEASED,
     }
 }
 

@@ -101,7 +101,7 @@ module _ (t : Settings) (first : ℕ) (image : List ℕ) (o : Opening t first im
         rw (flash-is, state-is) (ready t ds _ _ ok m)
 
     -- what the target's theorem says of these replies, of the target in C
-    in-c : Definitions.Programmed (laid-over (first * t .size) image f) (Playing.after-replies (setup t ds) e y f rs) → Programmed t first image ds f s x
+    in-c : Definitions.Programmed (laid-over (first * t .size) image f) (Playing.played-after (setup t ds) e y f rs) → Programmed t first image ds f s x
     unfolding by-replies bit state-of
     in-c p = record { ended = p .ended; holds = flash-is ∙ p .holds; clean = ap (λ (z : State). z .collision) state-is ∙ ap bit (p .clean) }
 
@@ -141,7 +141,7 @@ calls-exist t first image held o n ds f s r =
     let u = setup t ds in
     let e = exchange-of session-limits t first image in
     let y = stands t ds f s r .target in
-    let rs = Playing.replies-of (Playing.whole-step u) e y f in
+    let rs = Playing.run-replies (Playing.whole-step u) e y f in
     let g = played-replies u e y f in
     let one : Call = taking (opened held image t first .held) image rs (replicate (length rs) 0) 0 in
     let ok = accepts t first image held rs (replicate (length rs) 0) o n (omega (arith, length-replicate {A = ℕ} (length rs) 0)) in

@@ -120,7 +120,7 @@ pub record Corners : Type 0 where
       × (refusal (setup []) fresh blank 1 ≡ 16) × (refusal (setup []) fresh blank 7 ≡ 16) × (refusal (setup []) fresh blank 6 ≡ 0)
 
 corners : Corners
-unfolding bits bit odd drives code sends ins-code frame strobe-step coded-length list-place delay next-place erased stored in-flash opens takes some-output first-byte other-bytes in-busy out-ready status-bits linked shown given late-of place-after put-byte get-byte counted next-keys begun does line marked sending frame-begins after-ins after-write-length after-read-length after-address after-data after-long-data value-sent after-wait strobed-at cleared fresh after-reset between-frames keyed after-pause stepped hearing is-byte known-effect after-its-wait is-sent known-point is-count known-block known-command known-output known-link known Rattle.c2_target.specs.Target.step-of is-step is-fpdat is-page-size is-page-count settings-refusal refusal answer flash-after own-replies left-by
+unfolding bits bit odd drives code sends ins-code frame strobe-step coded-length list-place delay next-place erased stored in-flash opens takes some-output first-byte other-bytes in-busy out-ready status-bits linked shown given late-of place-after put-byte get-byte counted next-keys begun does line marked sending frame-begins after-ins after-write-length after-read-length after-address after-data after-long-data value-sent after-wait strobed-at cleared fresh after-reset between-frames keyed after-pause stepped hearing is-byte known-effect after-its-wait is-sent known-point is-count known-block known-command known-output known-link known Rattle.c2_target.specs.Target.step-coded is-step is-fpdat is-page-size is-page-count settings-refusal refusal answer flash-after own-replies left-by
 corners =
     record {
       driven-start = (refl, refl);

@@ -71,11 +71,11 @@ asks-place w r a acts p n e =
     rw (node .2)
 
 reset-code : step-at (strobes-in Reset) 0 ≡ 4
-unfolding step-at Place.step-of code
+unfolding step-at Place.strobe-step code
 reset-code = refl
 
 pause-code : step-at (strobes-in Pause) 0 ≡ 5
-unfolding step-at Place.step-of code
+unfolding step-at Place.strobe-step code
 pause-code = refl
 
 module _ (s : Session) (image : List ℕ) (h : Fits s image) (w r : ℕ) (g : Stage) (i j k : ℕ) (acts : List Act) (p : Place) where

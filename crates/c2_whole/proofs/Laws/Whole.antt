@@ -347,7 +347,7 @@ calls-exist-page j held before b g r =
     let s = stands t (b .delays) (b .flash) (b .target) (ready-of t b r) in
     let v = setup t (b .delays) in
     let z = exchange-of session-limits t at (j .image) in
-    let rs = Playing.replies-of (Playing.whole-step v) z (s .target) (b .flash) in
+    let rs = Playing.run-replies (Playing.whole-step v) z (s .target) (b .flash) in
     let k = played-replies v z (s .target) (b .flash) in
     let start : heard C2 before (opens held j) ≡ opened held (j .image) t at =
     starts j held g before ∙ sym (Claims.opens t at (j .image) (opening-of j held g) held (halves j held g .0)) in
