@@ -11,7 +11,8 @@ use Rattle.c2_order.specs.Order.{Page}
 use Rattle.c2_order.specs.Conversation.{Limits, conversation}
 use Rattle.c2_target.specs.declared.Target.{Target}
 use Rattle.c2_target.specs.Delays.{Setup}
-use Rattle.c2_play.specs.Playing.{run-replies, whole-step, play, left-by, Own-replies}
+use Rattle.c2_play.specs.Playing.{run-replies, whole-step, play, Own-replies}
+use Rattle.c2_target.specs.Steps.{left-by}
 use Rattle.c2_play.specs.Programmed.{Met, Programmed}
 use Rattle.c2_play.specs.Pages.{page-of, with-pages, At, Named, up-to, exchange-over, Meets}
 use Rattle.c2_cut.specs.Walk.{walked}

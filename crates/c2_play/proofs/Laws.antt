@@ -11,11 +11,9 @@ pub mod Page
 pub mod Lead
 pub mod Run
 pub mod Rise
-pub mod KnownPoint
-pub mod Known
 pub mod WholeStep
 pub mod OwnReplies
-pub mod Keeps
+pub mod Playing
 pub mod LeftBy
 pub mod Fresh
 pub mod Examples

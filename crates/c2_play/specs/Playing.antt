@@ -12,6 +12,7 @@ use Rattle.c2_target.specs.declared.Target.{Target}
 use Rattle.c2_target.specs.Delays.{Setup}
 use Rattle.c2_target.specs.Strobes.{Turn, turn}
 use Rattle.c2_target.specs.Target.{answer, flash-after}
+use Rattle.c2_target.specs.Steps.{own-replies, left-by}
 
 -- how an exchange ends, and the target and the flash then
 pub record Played : Type 0 where
@@ -36,20 +37,6 @@ whole-step u t f s = turn (eqb (answer u t f (code s) .reply) 1) (answer u t f (
 
 abbrev pub play : Setup → Exchange → Target → List ℕ → Played
 play u e t f = against (whole-step u) e t f
-
--- The target's own replies to steps in a row,
-unfoldable pub own-replies : Setup → Target → List ℕ → (steps : List ℕ) → List ℕ
-own-replies u t f [] = []
-own-replies u t f (x ∷ xs) = answer u t f x .reply ∷ own-replies u (answer u t f x .target) (flash-after u t f x) xs
-
--- and the target and the flash after them.
-pub record State : Type 0 where
-  pub target : Target
-  pub flash : List ℕ
-
-unfoldable pub left-by : Setup → Target → List ℕ → (steps : List ℕ) → State
-left-by u t f [] = record { target = t; flash = f }
-left-by u t f (x ∷ xs) = left-by u (answer u t f x .target) (flash-after u t f x) xs
 
 -- The steps that the replies taken answer: the first, and each that was written but the last.
 unfoldable pub answered : Exchange → (replies : List ℕ) → List ℕ

@@ -74,7 +74,7 @@ pub(crate) fn play(
                 replies: n,
             };
         }
-        let replied = c2_target::step_on(t, target, flash, delays, s.step_by(task, image));
+        let replied = c2_target_step::step_on(t, target, flash, delays, s.step_by(task, image));
         let after = replied.target;
         target = same_target(after);
         s = same_session(s.advance_by(task, low(replied.reply), image));

@@ -1,4 +1,6 @@
 -- The laws of the definitions, each in the module of the definition that it is about.
-pub mod Target
+pub mod Interface
+pub mod KnownPoint
 pub mod Known
-pub mod Flash
+pub mod Mark
+pub mod Corners

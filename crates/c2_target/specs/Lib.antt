@@ -4,4 +4,5 @@ pub mod Interface
 pub mod Strobes
 pub mod Known
 pub mod Target
-pub mod Code
+pub mod Steps
+pub mod Corners

@@ -1,16 +1,5 @@
 // The modelled target: one step on the wire in, one reply out. It is lent its flash and its delays.
 
-mod commands;
-mod delays;
-mod flash;
-mod interface;
-mod known;
-mod steps;
-mod strobes;
-
-pub use steps::step;
-pub use steps::step_on;
-
 // What a frame does at its STOP.
 pub enum Effect {
     // a frame with LENGTH not 0
@@ -140,12 +129,6 @@ pub struct Replied {
     pub number: u32,
     pub reply: u32,
     pub target: Target,
-}
-
-// What a byte put makes of the command and of the output.
-struct Taking {
-    command: Command,
-    output: Output,
 }
 
 impl Target {

@@ -28,7 +28,7 @@ fn held(t: Settings, state: State, flash: &mut [u8], delays: &[u8], x: u8) -> Mo
     ensures { λ r. ⌜ r ≡ held-answer (answer (setup t (now (delays .entry))) (target-read state) (now (flash .entry)) x) state ⌝ }
     ensures { λ _. ⌜ now (flash .exit) ≡ flash-after (setup t (now (delays .entry))) (target-read state) (now (flash .entry)) x ⌝ }
 {
-    let replied = c2_target::step(t, target_read(state), flash, delays, x);
+    let replied = c2_target_step::step(t, target_read(state), flash, delays, x);
     let target = replied.target;
     if replied.number == 0 {
         return ModelReplied {

@@ -25,12 +25,13 @@ use Rattle.c2_target_state.specs.declared.Seen.the-variants.{Held, Nothing}
 use Rattle.c2_target_state.specs.State.{state-of, target-of}
 use Rattle.c2_target_state.specs.Model.{no-target, held-answer, seen-answer}
 use Rattle.c2_target_state.proofs.Laws.Claims.{has-state, steps-alike}
-use Rattle.c2_play.specs.Playing.{left-by}
+use Rattle.c2_target.specs.Steps.{left-by}
 use Rattle.c2_play.specs.Programmed.{Met}
-use Rattle.c2_play.proofs.Laws.Known.{Lent}
+use Rattle.c2_target.proofs.Laws.Known.{Lent}
 use Rattle.c2_play.proofs.Laws.LeftBy.{Lasts, answer-lasts}
 use Rattle.c2_calls.specs.Target.{own-replies, state-after, flash-after, Ready}
 use Rattle.c2_play.specs.Playing
+use Rattle.c2_target.specs.Steps
 
 -- a step that is not refused is one of a target that exists
 accepts-known : (t : Settings) (y : Target) (f ds : List ℕ) → refusal (setup t ds) y f (code off) ≡ 0 → known (setup t ds) y f ≡ true
@@ -96,8 +97,8 @@ ready t ds f y ok m =
 
 module _ (t : Settings) (ds : List ℕ) (ok : settings-refusal t ≡ 0) (lent : Lent (setup t ds)) where
   -- steps in a row, for a target that exists
-  pub replies-alike : (xs : List ℕ) (y : Target) (f : List ℕ) → Lasts (setup t ds) y f → own-replies t ds (state-of y) f xs ≡ Playing.own-replies (setup t ds) y f xs
-  unfolding own-replies Playing.own-replies
+  pub replies-alike : (xs : List ℕ) (y : Target) (f : List ℕ) → Lasts (setup t ds) y f → own-replies t ds (state-of y) f xs ≡ Steps.own-replies (setup t ds) y f xs
+  unfolding own-replies Steps.own-replies
   replies-alike [] y f k = refl
   replies-alike (x ∷ xs) y f k =
       let a = steps-alike t y f ds x ok (k .exists) in

@@ -22,9 +22,9 @@ use Rattle.c2_target.specs.Delays.{setup}
 use Rattle.c2_target.specs.Target.{fresh}
 use Rattle.c2_target_state.specs.declared.State.{State}
 use Rattle.c2_target_state.specs.State.{state-of}
-use Rattle.c2_play.specs.Playing.{left-by}
+use Rattle.c2_target.specs.Steps.{left-by}
 use Rattle.c2_play.specs.Programmed.{laid-over}
-use Rattle.c2_play.proofs.Laws.Known.{Lent}
+use Rattle.c2_target.proofs.Laws.Known.{Lent}
 use Rattle.c2_play.proofs.Laws.WholeStep.{programmed}
 use Rattle.c2_play.proofs.Laws.OwnReplies.{own-ends, played-replies}
 use Rattle.c2_play.proofs.Laws.Fresh.{fresh-met}
@@ -36,6 +36,7 @@ use Rattle.c2.specs.Calls.{opening-answer}
 use Rattle.c2_calls.proofs.Laws.Claims.{opens, accepts, lists-are-replies, each-unchanged}
 use Rattle.c2_calls.proofs.Laws.Target.{stands, ready, replies-alike, state-alike, flash-alike}
 use Rattle.c2_play.specs.Playing
+use Rattle.c2_target.specs.Steps
 use Rattle.c2_play.specs.Programmed as Definitions
 
 -- the first step is the reset
@@ -80,18 +81,18 @@ module _ (t : Settings) (first : ℕ) (image : List ℕ) (o : Opening t first im
       ∙ ap (λ (xs : List ℕ). state-of (left-by (setup t ds) y f xs .target)) answered-is
 
   -- the target's own replies, in C and by the definitions
-  replies-are : own-replies t ds s f (answered x) ≡ Playing.own-replies (setup t ds) y f (Playing.answered e rs)
+  replies-are : own-replies t ds s f (answered x) ≡ Steps.own-replies (setup t ds) y f (Playing.answered e rs)
   replies-are =
       ap (λ (z : State). own-replies t ds z f (answered x)) (stands t ds f s r .state)
       ∙ replies-alike t ds ok lent (answered x) y f lasts
-      ∙ ap (λ (xs : List ℕ). Playing.own-replies (setup t ds) y f xs) answered-is
+      ∙ ap (λ (xs : List ℕ). Steps.own-replies (setup t ds) y f xs) answered-is
 
-  own-of : take (taken e rs) rs ≡ Playing.own-replies (setup t ds) y f (Playing.answered e rs) → take (x .taken) rs ≡ own-replies t ds s f (answered x)
+  own-of : take (taken e rs) rs ≡ Steps.own-replies (setup t ds) y f (Playing.answered e rs) → take (x .taken) rs ≡ own-replies t ds s f (answered x)
   unfolding by-replies
   own-of h = h ∙ sym replies-are
 
   module _ (own : take (x .taken) rs ≡ own-replies t ds s f (answered x)) where
-    own-is : take (taken e rs) rs ≡ Playing.own-replies (setup t ds) y f (Playing.answered e rs)
+    own-is : take (taken e rs) rs ≡ Steps.own-replies (setup t ds) y f (Playing.answered e rs)
     unfolding by-replies
     own-is = own ∙ replies-are
 

@@ -15,9 +15,9 @@ use Rattle.c2_target.specs.declared.Target.{Target}
 use Rattle.c2_target.specs.Delays.{Setup}
 use Rattle.c2_play.specs.Playing.{Played, against, whole-step, play}
 use Rattle.c2_play.specs.Programmed.{Met, Programmed}
-use Rattle.c2_play.proofs.Laws.Known.{Lent, known-says}
+use Rattle.c2_target.proofs.Laws.Known.{Lent, known-says}
 use Rattle.c2_play.proofs.Laws.LeftBy.{Lasts, answer-lasts}
-use Rattle.c2_play.proofs.Laws.Keeps.{play-unmarked}
+use Rattle.c2_play.proofs.Laws.Playing.{play-unmarked}
 use Rattle.c2_cut.specs.Walk.{Walk, walked}
 use Rattle.c2_play.specs.Pages.{page-of, with-pages, At, Named}
 use Rattle.c2_cut.specs.Cut.{numbers, Agains}

@@ -20,9 +20,10 @@ use Rattle.c2_target.specs.declared.Target.{Target}
 use Rattle.c2_target.specs.Delays.{Setup}
 use Rattle.c2_target.specs.Strobes.{Turn}
 use Rattle.c2_target.specs.Target.{stepped, step-coded, refusal, answer, flash-after}
-use Rattle.c2_play.specs.Playing.{State, run-replies, whole-step, own-replies, left-by, answered, Own-replies}
+use Rattle.c2_play.specs.Playing.{run-replies, whole-step, answered, Own-replies}
+use Rattle.c2_target.specs.Steps.{State, own-replies, left-by}
 use Rattle.c2_play.proofs.Laws.Interface.{Fit}
-use Rattle.c2_play.proofs.Laws.Known.{Lent, Exists, known-says}
+use Rattle.c2_target.proofs.Laws.Known.{Lent, Exists, known-says}
 use Rattle.c2_play.proofs.Laws.OwnReplies.{reply-small, after-small}
 use Rattle.c2_cut.specs.Walk.{Walk, walked, lasts}
 use Rattle.c2_play.specs.Pages.{At, up-to}

@@ -14,7 +14,7 @@ use Rattle.c2_target.specs.Delays.{Setup}
 use Rattle.c2_target.specs.Target.{stepped}
 use Rattle.c2_play.specs.Playing.{run-replies, whole-step}
 use Rattle.c2_play.proofs.Laws.Interface.{Fit}
-use Rattle.c2_play.proofs.Laws.Known.{Lent, Exists, known-says, known-is, stepped-known}
+use Rattle.c2_target.proofs.Laws.Known.{Lent, Exists, known-says, known-is, stepped-known}
 use Rattle.c2_play.proofs.Laws.WholeStep.{whole-is-stepped}
 use Rattle.c2_cut.specs.Walk.{Walk, walked}
 use Rattle.c2_cut.specs.Cut.{Cut, Cuts}

@@ -26,6 +26,7 @@ use Rattle.c2_target.specs.Delays.{Setup, list-place, delay, next-place}
 use Rattle.c2_target.specs.Commands.{takes, some-output, first-byte, other-bytes}
 use Rattle.c2_target.specs.Interface.{link, device, in-busy, out-ready, status-bits, linked, shown, given, late-of, place-after, put-byte, get-byte, counted, next-keys, begun, does}
 use Rattle.c2_target.specs.Target.{stepped}
+use Rattle.c2_target.proofs.Laws.Interface.{delay-byte, late-byte, status-small}
 use Rattle.c2_play.proofs.Laws.Frames.{idle, leads, address-write-leads, address-read-leads, data-write-leads, data-read-leads}
 use Rattle.c2_play.proofs.Laws.Leads.{leads-now}
 
@@ -39,23 +40,6 @@ pub record Fit (u : Setup) (l r : ℕ) : Type 0 where
   pub wait : u .wait ≤ l
   pub reads : 256 ≤ r
 
-getD-byte : (ds : List ℕ) (i : ℕ) → Bytes ds → getD ds i 0 < 256
-getD-byte [] i h = omega arith
-getD-byte (d ∷ ds) zero h = h .0
-getD-byte (d ∷ ds) (suc i) h = getD-byte ds i (h .1)
-
-pub delay-byte : (ds : List ℕ) (p : ℕ) → Bytes ds → delay ds p < 256
-unfolding delay
-delay-byte ds p h = getD-byte ds (list-place ds p) h
-
-pub late-byte : (ds : List ℕ) (o : Output) (p : ℕ) → Bytes ds → late-of ds o p < 256
-unfolding late-of
-late-byte ds o p h = go (some-output o)
-  where
-    go : (b : Bool) → cond b (delay ds p) 0 < 256
-    go true = delay-byte ds p h
-    go false = omega arith
-
 -- the interface on, at the FPDAT address
 abbrev pub at-fpdat : Setup → Link → Device
 at-fpdat u l = device (u .settings .fpdat) true 0 l
@@ -63,16 +47,6 @@ at-fpdat u l = device (u .settings .fpdat) true 0 l
 pub linked-at-fpdat : (u : Setup) (l : Link) → linked (u .settings) (at-fpdat u l) ≡ true
 unfolding linked
 linked-at-fpdat u l = eq-eqb (u .settings .fpdat) (u .settings .fpdat) refl
-
-pub status-small : (l : Link) → status-bits l < 256
-unfolding status-bits bit
-status-small l = go (out-ready l) (in-busy l)
-  where
-    go : (a b : Bool) → bit a + 2 * bit b < 256
-    go true true = omega arith
-    go true false = omega arith
-    go false true = omega arith
-    go false false = omega arith
 
 -- not busy: InBusy reads 0, and the next read is one of the e reads
 idle-status : (c : Command) (o : Output) (t : ℕ) → input-taken (status-bits (link c o 0 t)) ≡ true

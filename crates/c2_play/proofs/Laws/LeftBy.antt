@@ -20,12 +20,13 @@ use Rattle.c2_target.specs.declared.Target.{Target}
 use Rattle.c2_target.specs.Delays.{Setup}
 use Rattle.c2_target.specs.Known.{known}
 use Rattle.c2_target.specs.Target.{step-coded, refusal, answer, flash-after}
-use Rattle.c2_play.specs.Playing.{Played, play, left-by, answered}
+use Rattle.c2_play.specs.Playing.{Played, play, answered}
+use Rattle.c2_target.specs.Steps.{left-by}
 use Rattle.c2_play.specs.Programmed.{Own-replies-program, Own-replies-leave}
-use Rattle.c2_play.proofs.Laws.Known.{Lent, known-says, known-is, stepped-known}
+use Rattle.c2_target.proofs.Laws.Known.{Lent, known-says, known-is, stepped-known}
 use Rattle.c2_play.proofs.Laws.WholeStep.{programmed}
 use Rattle.c2_play.proofs.Laws.OwnReplies.{own-play, own-ends, enough-end}
-use Rattle.c2_play.proofs.Laws.Keeps.{play-unmarked}
+use Rattle.c2_play.proofs.Laws.Playing.{play-unmarked}
 
 -- a state that exists, over bytes
 pub record Lasts (u : Setup) (t : Target) (f : List ℕ) : Type 0 where

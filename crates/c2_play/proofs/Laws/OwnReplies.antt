@@ -17,7 +17,8 @@ use Rattle.c2_wire.proofs.Laws.Exchange.{fed-ended, taken-append, after-bit}
 use Rattle.c2_target.specs.declared.Target.{Target}
 use Rattle.c2_target.specs.Delays.{Setup}
 use Rattle.c2_target.specs.Target.{stepped, step-coded, refusal, answer, flash-after}
-use Rattle.c2_play.specs.Playing.{against, run-replies, whole-step, play, own-replies, left-by, answered, Own-replies, played-after}
+use Rattle.c2_play.specs.Playing.{against, run-replies, whole-step, play, answered, Own-replies, played-after}
+use Rattle.c2_target.specs.Steps.{own-replies, left-by}
 
 -- a reply is 0 or 1, a refused step's too
 pub reply-small : (u : Setup) (t : Target) (f : List ℕ) (x : ℕ) → answer u t f x .reply ≤ 1

@@ -26,7 +26,7 @@ use Rattle.c2_play.specs.Pages.{with-pages, Programs-pages}
 use Rattle.c2_play.proofs.Laws.Run.{order-programs}
 use Rattle.c2_play.proofs.Laws.Rise.{all-at, rising-named, laid-is}
 use Rattle.settings.proofs.Laws.Accepted.{Facts, facts}
-use Rattle.c2_play.proofs.Laws.Known.{Lent, Exists, known-says, known-is, stepped-known}
+use Rattle.c2_target.proofs.Laws.Known.{Lent, Exists, known-says, known-is, stepped-known}
 
 -- a step's byte is the step
 is-step-code : (s : Step) → is-step (code s) ≡ true

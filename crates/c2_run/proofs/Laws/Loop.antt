@@ -18,9 +18,9 @@ use Rattle.c2_target.specs.declared.Target.{Target}
 use Rattle.c2_target.specs.Delays.{setup}
 use Rattle.c2_target.specs.declared.Replied.{Replied}
 use Rattle.c2_target.specs.Target.{fresh, answer, flash-after}
-use Rattle.c2_target.specs.Code.StepOn.{answer-on, flash-on}
-use Rattle.c2_target.proofs.Laws.Target.{same-on}
-use Rattle.c2_play.proofs.Laws.Known.{Lent}
+use Rattle.c2_target_step.specs.Code.StepOn.{answer-on, flash-on}
+use Rattle.c2_target_step.proofs.Laws.Target.{same-on}
+use Rattle.c2_target.proofs.Laws.Known.{Lent}
 use Rattle.c2_play.proofs.Laws.LeftBy.{Lasts, answer-lasts}
 use Rattle.c2_run.specs.Code.Closed.{Closed, stops-at, closed}
 

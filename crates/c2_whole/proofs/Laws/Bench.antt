@@ -17,9 +17,11 @@ use Rattle.c2_order.specs.Claims.{Opening, exchange-of}
 use Rattle.c2_target.specs.declared.Target.{Target}
 use Rattle.c2_target.specs.Delays.{Setup}
 use Rattle.c2_target.specs.Target.{answer, flash-after, refusal, stepped, step-coded}
-use Rattle.c2_play.specs.Playing.{Played, State, play, against, whole-step, left-by, answered, Own-replies}
+use Rattle.c2_play.specs.Playing.{Played, play, against, whole-step, answered, Own-replies}
+use Rattle.c2_target.specs.Steps.{State, left-by}
 use Rattle.c2_play.specs.Programmed.{Met}
-use Rattle.c2_play.proofs.Laws.Keeps.{answer-unmarked, play-unmarked}
+use Rattle.c2_target.proofs.Laws.Mark.{answer-unmarked}
+use Rattle.c2_play.proofs.Laws.Playing.{play-unmarked}
 use Rattle.c2_play.proofs.Laws.OwnReplies.{own-play, all-steps, left-append, left-by-all}
 use Rattle.c2_play.proofs.Laws.LeftBy.{left-lasts}
 use Rattle.c2_play.proofs.Laws.WholeStep.{programmed}

@@ -17,7 +17,7 @@ use Rattle.settings.specs.Opening.{opening-refusal}
 use Rattle.c2_target_state.specs.declared.State.{State}
 use Rattle.c2_target.specs.Delays.{setup}
 use Rattle.c2_play.specs.Programmed.{laid-over}
-use Rattle.c2_play.proofs.Laws.Known.{known-says}
+use Rattle.c2_target.proofs.Laws.Known.{known-says}
 use Rattle.c2_calls.proofs.Laws.Target.{stands, ready, replies-alike, state-alike, flash-alike}
 use Rattle.c2_calls.proofs.Laws.Whole.{first-step}
 use Rattle.c2_wire.specs.Exchange.{Exchange, ended, ask, Outcome, asks, steps, taken, fed, outcome-of}
@@ -28,14 +28,16 @@ use Rattle.settings.proofs.Laws.Opening.{settings-pass}
 use Rattle.c2_target.specs.declared.Target.{Target}
 use Rattle.c2_target.specs.Delays.{Setup}
 use Rattle.c2_target_state.specs.State.{state-of}
-use Rattle.c2_play.specs.Playing.{left-by, Own-replies}
+use Rattle.c2_play.specs.Playing.{Own-replies}
+use Rattle.c2_target.specs.Steps.{left-by}
 use Rattle.c2_play.specs.Programmed.{Met}
-use Rattle.c2_play.proofs.Laws.Known.{Lent}
+use Rattle.c2_target.proofs.Laws.Known.{Lent}
 use Rattle.c2_play.proofs.Laws.LeftBy.{Lasts}
 use Rattle.c2_play.proofs.Laws.OwnReplies.{played-replies}
 use Rattle.c2_play.proofs.Laws.WholeStep as Played-whole
 use Rattle.c2_whole.proofs.Laws.Bench.{met-along, last-keeps}
 use Rattle.c2_play.specs.Playing
+use Rattle.c2_target.specs.Steps
 use Rattle.c2_order.specs.Order.{Page, pages, rising, session-order}
 use Rattle.c2_play.specs.Pages.{with-pages, Named, Meets}
 use Rattle.c2_play.proofs.Laws.Rise.{rising-named}
@@ -229,7 +231,7 @@ module _ (j : Job) (held : List ℕ) (g : Begins held j) (rs : List ℕ) (b : Be
   sent-is = ap (λ (n : ℕ). n ∷ steps e rs) (sym (first-step (j .settings) (first-of (j .pages)) (j .image)))
 
   replies-there : replies (j .settings) b (take (taken e rs) (sent (by-replies (j .settings) (first-of (j .pages)) (j .image) rs)))
-      ≡ Playing.own-replies u y (b .flash) (Playing.answered e rs)
+      ≡ Steps.own-replies u y (b .flash) (Playing.answered e rs)
   unfolding Playing.answered
   replies-there =
       let h = stands (j .settings) (b .delays) (b .flash) (b .target) (ready-of (j .settings) b r) .state in
@@ -253,7 +255,7 @@ module _ (j : Job) (held : List ℕ) (g : Begins held j) (rs : List ℕ) (b : Be
         let q = over (fed e rs) d in
         let k = last-keeps u (first-of (j .pages)) (j .image) y (b .flash) rs (opening-of j held g) m own-is-own (q .0) (q .1) n l in
         ap (λ (z : Bench). z .flash) (at (take n (asks e ∷ steps e rs)))
-        ∙ ap (λ (z : Playing.State). z .flash) k
+        ∙ ap (λ (z : Steps.State). z .flash) k
         ∙ sym (ap (λ (z : Bench). z .flash) (at (take (taken e rs) (asks e ∷ steps e rs))))
 
     pub along : Along j b (by-replies (j .settings) (first-of (j .pages)) (j .image) rs)

@@ -9,7 +9,7 @@ use Rattle.c2_opening.proofs.Laws.Follows.{bytes-all}
 use Rattle.c2_outcome.proofs.Laws.Task.{Knows, known-at}
 use Rattle.c2_target.specs.Delays.{setup}
 use Rattle.c2_target.specs.Target.{fresh}
-use Rattle.c2_play.proofs.Laws.Known.{Lent}
+use Rattle.c2_target.proofs.Laws.Known.{Lent}
 use Rattle.c2_play.proofs.Laws.LeftBy.{Lasts}
 use Rattle.c2_play.proofs.Laws.WholeStep.{fresh-known}
 use Rattle.c2_run.proofs.Laws.Loop.{Sofar, starts, goes-known, done, stops, session-at, target-at, flash-at, replies-at}

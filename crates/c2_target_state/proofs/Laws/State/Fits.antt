@@ -28,7 +28,7 @@ use Rattle.c2_target.specs.Interface.{link, device}
 use Rattle.c2_target.specs.Strobes.{target}
 use Rattle.c2_target.specs.Known.{hearing, is-byte, known-effect, after-its-wait, is-sent, known-point, is-count, known-block, known-command, known-output, known-link, known}
 use Rattle.c2_target_state.specs.State.{effect-code, effect-byte, point-fields, command-fields, output-fields, state-of, effect-of, later-point, state-point, command-of, output-of, target-read}
-use Rattle.c2_target.proofs.Laws.Known.{hearing-says, byte-says, block-says}
+use Rattle.c2_target_step.proofs.Laws.Known.{hearing-says, byte-says, block-says}
 
 bit-back : (b : Bool) → eqb (bit b) 1 ≡ b
 unfolding bit

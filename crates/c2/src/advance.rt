@@ -1,0 +1,108 @@
+// Taking replies.
+ghost use mathlib.Core.Path.{_≡_};
+ghost use mathlib.Core.List.{_++_};
+ghost use Prim.Native.Nat.{_≤_};
+ghost use lib.ListN.{length, drop};
+ghost use Rattle.c2_record.specs.Record.{unpacked};
+ghost use Rattle.c2_outcome.specs.Outcome.{number-of, offset-of};
+ghost use Rattle.c2.specs.Calls.{refused-answer, advance-answer, advance-steps, advance-record};
+ghost use Rattle.c2.specs.Code.Loop.{ran, wrote};
+use crate::Advanced;
+use crate::Ran;
+use c2_outcome::is_running;
+use c2_outcome::outcome_of;
+use c2_outcome::same_session;
+use c2_outcome::task_at;
+use c2_outcome::task_next;
+use c2_record::Unpacked;
+use c2_session::Session;
+use numbers::BAD_RECORD;
+use numbers::NO_ROOM;
+use numbers::OTHER_IMAGE;
+
+// Takes replies as long as the session runs, and writes the step that follows each.
+fn run(start: Session, image: &[u8], replies: &[u8], steps: &mut [u8]) -> Ran
+    requires { ⌜ length (now replies) ≤ length (now steps) ⌝ }
+    ensures { λ r. ⌜ r .session ≡ ran (now (image .entry)) start (now (replies .entry)) ⌝ }
+    ensures { λ r. ⌜ r .taken ≡ length (wrote (now (image .entry)) start (now (replies .entry))) ⌝ }
+    ensures { λ r. ⌜ now (steps .exit) ≡ wrote (now (image .entry)) start (now (replies .entry)) ++ drop (r .taken) (now (steps .entry)) ⌝ }
+{
+    let mut s = start;
+    let begun = start.point;
+    let mut task = task_at(begun);
+    let mut i = 0;
+    while i < replies.len() {
+        let point = s.point;
+        if !is_running(point) {
+            return Ran {
+                session: s,
+                taken: i,
+            };
+        }
+        s = same_session(s.advance_by(task, replies[i], image));
+        let next = s.point;
+        task = task_next(next, task);
+        steps[i] = s.step_by(task, image);
+        i += 1;
+    }
+    Ran {
+        session: s,
+        taken: i,
+    }
+}
+
+fn refused(number: u32) -> Advanced
+    ensures { λ r. ⌜ r ≡ refused-answer number ⌝ }
+{
+    Advanced {
+        number: number,
+        offset: 0,
+        taken: 0,
+    }
+}
+
+fn answer(s: Session, taken: usize) -> Advanced
+    ensures { λ r. ⌜ (r .number ≡ number-of (s .point)) × (r .offset ≡ offset-of (s .point)) × (r .taken ≡ taken) ⌝ }
+{
+    let point = s.point;
+    let outcome = outcome_of(point);
+    Advanced {
+        number: outcome.number,
+        offset: outcome.offset,
+        taken: taken as u64,
+    }
+}
+
+// Takes replies, and writes the step that follows each one taken into the step buffer, from the place on.
+// Tests 6, 7 and 8, in this order; a refused call changes no byte and takes no reply.
+#[no_mangle]
+pub extern "C" fn c2_advance(
+    held: &mut [u8],
+    image: &[u8],
+    replies: &[u8],
+    steps: &mut [u8],
+    place: usize,
+) -> Advanced
+    ensures { λ r. ⌜ r ≡ advance-answer (unpacked 20 256 (now (held .entry))) (now (image .entry)) (now (replies .entry)) (now (steps .entry)) place ⌝ }
+    ensures { λ _. ⌜ now (steps .exit) ≡ advance-steps (unpacked 20 256 (now (held .entry))) (now (image .entry)) (now (replies .entry)) (now (steps .entry)) place ⌝ }
+    ensures { λ _. ⌜ now (held .exit) ≡ advance-record (unpacked 20 256 (now (held .entry))) (now (image .entry)) (now (replies .entry)) (now (steps .entry)) place (now (held .entry)) ⌝ }
+{
+    let Unpacked::Held(s) = c2_record::unpack(held) else {
+        return refused(BAD_RECORD);
+    };
+    let t = s.settings;
+    if image.len() != settings::image_bytes(t.size, s.pages) {
+        return refused(OTHER_IMAGE);
+    }
+    if steps.len() < place {
+        return refused(NO_ROOM);
+    }
+    if steps.len() - place < replies.len() {
+        return refused(NO_ROOM);
+    }
+    let ran = run(s, image, replies, &mut steps[place..]);
+    let after = ran.session;
+    let again = c2_record::pack(after);
+    bytes::copy(&again, held);
+    answer(after, ran.taken)
+}

@@ -1,0 +1,28 @@
+// How much is left.
+ghost use mathlib.Core.Path.{_≡_};
+ghost use Rattle.c2_record.specs.Record.{unpacked};
+ghost use Rattle.c2.specs.Calls.{remaining-answer};
+use crate::Remaining;
+use c2_outcome::outcome_of;
+use c2_record::Unpacked;
+use numbers::BAD_RECORD;
+
+// Tells the session's number and the most steps still to come. A record that holds no session in range has 6
+// and 0.
+#[no_mangle]
+pub extern "C" fn c2_steps_left(held: &[u8]) -> Remaining
+    ensures { λ r. ⌜ r ≡ remaining-answer (unpacked 20 256 (now (held .entry))) ⌝ }
+{
+    let Unpacked::Held(s) = c2_record::unpack(held) else {
+        return Remaining {
+            number: BAD_RECORD,
+            steps: 0,
+        };
+    };
+    let point = s.point;
+    let outcome = outcome_of(point);
+    Remaining {
+        number: outcome.number,
+        steps: c2_figure::steps_left(s) as u64,
+    }
+}

@@ -1,0 +1,45 @@
+// Opening a session.
+ghost use mathlib.Core.Path.{_≡_};
+ghost use lib.ListN.{length};
+ghost use Rattle.c2_opening.specs.Opened.{opened-session};
+ghost use Rattle.c2.specs.Calls.{opening-number, opening-answer, record-opened};
+use crate::Opened;
+use c2_record::RECORD_BYTES;
+use c2_wire::OFF;
+use c2_wire::RESET;
+use numbers::BAD_RECORD;
+use numbers::RUNNING;
+use settings::Settings;
+
+// The step of an accepted opening, and of a refused one.
+const FIRST_STEP: u32 = RESET as u32;
+
+const NO_STEP: u32 = OFF as u32;
+
+// Opens a session for the image's pages, from the first page on. A record that is not 32 bytes is tested
+// first, then 1 to 5, in this order; a refused opening changes no byte.
+#[no_mangle]
+pub extern "C" fn c2_open(held: &mut [u8], image: &[u8], t: Settings, first: u32) -> Opened
+    ensures { λ r. ⌜ r ≡ opening-answer (opening-number (length (now (held .entry))) t first (length (now (image .entry)))) ⌝ }
+    ensures { λ _. ⌜ now (held .exit) ≡ record-opened (opening-number (length (now (held .entry))) t first (length (now (image .entry)))) (opened-session t first (length (now (image .entry)))) (now (held .entry)) ⌝ }
+{
+    if held.len() != RECORD_BYTES {
+        return Opened {
+            number: BAD_RECORD,
+            step: NO_STEP,
+        };
+    }
+    let number = settings::opening_refusal(t, first, image.len());
+    if number != RUNNING {
+        return Opened {
+            number: number,
+            step: NO_STEP,
+        };
+    }
+    let fresh = c2_record::pack(c2_opening::start(t, first, image.len()));
+    bytes::copy(&fresh, held);
+    Opened {
+        number: RUNNING,
+        step: FIRST_STEP,
+    }
+}

@@ -1,0 +1,79 @@
+-- Only a put changes the flash.
+use mathlib.Core.Path.{_≡_, refl, ap, _∙_}
+use mathlib.Core.Bool.{Bool, true, false}
+use mathlib.Core.List.{List, _++_}
+use Prim.Native.Nat.{ℕ, _+_, _-_, _*_, _≤_}
+use native.Mathlib.Omega.{arith}
+use borrow.Rule.Slice.PartMut.{putMid, midOf, mid-len, post-is}
+use lib.Dec.{eqb, ltb}
+use lib.ListN.{length, take, replicate}
+use Rattle.laws.proofs.Tests.{by-test}
+use Rattle.c2_wire.specs.Step.{Step}
+use Rattle.settings.specs.declared.Settings.{Settings}
+use Rattle.c2_target.specs.declared.Command.the-variants.{ErasePage, LengthCode}
+use Rattle.c2_target.specs.declared.Effect.{Effect}
+use Rattle.c2_target.specs.declared.Effect.the-variants.{Nothing, SetAddress, Write, CountDown, Read}
+use Rattle.c2_target.specs.declared.Point.{Point}
+use Rattle.c2_target.specs.declared.Point.the-variants.{Start, Ins, WriteLength, ReadLength, Address, Data, LongData, Wait, Waiting, Send, Stop}
+use Rattle.c2_target.specs.declared.Device.{Device}
+use Rattle.c2_target.specs.declared.Target.{Target}
+use Rattle.c2_target.specs.Delays.{Setup}
+use Rattle.c2_target.specs.Commands.{erased, opens, takes}
+use Rattle.c2_target.specs.Interface.{out-ready, linked, put-byte, get-byte, does}
+use Rattle.c2_target.specs.Strobes.{strobed-at}
+use Rattle.c2_target_step.specs.Code.Parts.{effect-flash, strobe-flash}
+
+-- of the bytes put, a new command,
+pub opens-keeps : (b : ℕ) (f : List ℕ) → opens b f .flash ≡ f
+unfolding opens
+opens-keeps b f =
+    by-test (eqb b 0x08) (λ e. rw e) (λ e. rw e (by-test (eqb b 0x07) (λ e. rw e) (λ e. rw e (by-test (eqb b 0x06) (λ e. rw e) (λ e. rw e)))))
+
+-- a page and a length code change nothing
+pub page-keeps : (s : Settings) (b : ℕ) (f : List ℕ) → takes s ErasePage b f .flash ≡ f
+unfolding takes
+page-keeps s b f = by-test (ltb b (s .count)) (λ e. rw e) (λ e. rw e)
+
+pub length-keeps : (s : Settings) (w : Bool) (a b : ℕ) (f : List ℕ) → takes s (LengthCode w a) b f .flash ≡ f
+unfolding takes
+length-keeps s true a b f = refl
+length-keeps s false a b f = refl
+
+-- a part that is filled is a page erased
+pub filled-page : (size p : ℕ) (f ys : List ℕ) → p * size + size ≤ length f → ys ≡ replicate (length (midOf (p * size) (p * size + size - p * size) f)) 0xff
+    → putMid (p * size) (p * size + size - p * size) f ys ≡ erased size p f
+unfolding erased
+filled-page size p f ys h q =
+    let a = p * size in
+    let l : a ≤ a + size = omega arith in
+    let w : a + size - a ≡ size = omega arith in
+    ap (λ (y : List ℕ). putMid a (a + size - a) f y) (q ∙ ap (λ (m : ℕ). replicate m 0xff) (mid-len a (a + size) f h ∙ w))
+    ∙ ap (λ (z : List ℕ). take a f ++ (replicate size 0xff ++ z)) (post-is a (a + size) f l)
+
+-- a read keeps the flash
+get-keeps : (u : Setup) (d : Device) (p : ℕ) (f : List ℕ) → get-byte u (d .link) p f .flash ≡ f
+unfolding get-byte
+get-keeps u d p f = by-test (out-ready (d .link)) (λ e. rw e) (λ e. rw e)
+
+does-flash : (u : Setup) (e : Effect) (d : Device) (p : ℕ) (f : List ℕ) → does u e d p f .flash ≡ effect-flash (u .settings) e d f
+unfolding does put-byte
+does-flash u Nothing d p f = refl
+does-flash u (SetAddress a) d p f = refl
+does-flash u (Write b) d p f = by-test (linked (u .settings) d) (λ e. rw e) (λ e. rw e)
+does-flash u CountDown d p f = refl
+does-flash u Read d p f = by-test (linked (u .settings) d) (λ e. rw e (get-keeps u d p f)) (λ e. rw e)
+
+-- a strobe changes it as the code does
+pub strobed-flash : (u : Setup) (p : Point) (t : Target) (f : List ℕ) (x : Step) → strobed-at u p t f x .flash ≡ strobe-flash (u .settings) p (t .device) f
+unfolding strobed-at
+strobed-flash u Start t f x = refl
+strobed-flash u (Ins n v) t f x = refl
+strobed-flash u (WriteLength n v) t f x = refl
+strobed-flash u (ReadLength n v) t f x = refl
+strobed-flash u (Address n v) t f x = refl
+strobed-flash u (Data n v) t f x = refl
+strobed-flash u (LongData n) t f x = refl
+strobed-flash u (Wait n e) t f x = refl
+strobed-flash u (Waiting z n e) t f x = refl
+strobed-flash u (Send n v e) t f x = refl
+strobed-flash u (Stop e) t f x = does-flash u e (t .device) (t .place) f

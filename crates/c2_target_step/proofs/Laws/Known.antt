@@ -1,0 +1,110 @@
+-- What the tests of a state say of its numbers.
+use mathlib.Core.Path.{_≡_, sym, ap, _∙_}
+use mathlib.Core.Bool.{true, false, _&&_}
+use mathlib.Core.List.{List}
+use Prim.Native.Nat.{ℕ, suc, _+_, _-_, _*_, _%_, _^_, _<_, _≤_}
+use native.Mathlib.Nat.{mul-le-mul-right, mod-eq-of-lt, pow-le-pow-right}
+use native.Mathlib.Omega.{arith}
+use borrow.Author.Tests.{ltb-true, leb-true, leb-false, eqb-true, le-leb, lt-leb}
+use lib.Dec.{eqb, ltb, leb}
+use lib.ListN.{length}
+use Rattle.laws.proofs.Tests.{both, by-test}
+use Rattle.c2_wire.proofs.Laws.Bits.{weight-small}
+use Rattle.c2_target.specs.declared.Effect.{Effect}
+use Rattle.c2_target.specs.declared.Point.{Point}
+use Rattle.c2_target.specs.declared.Point.the-variants.{Stop}
+use Rattle.c2_target.specs.declared.Link.{Link}
+use Rattle.c2_target.specs.declared.Target.{Target}
+use Rattle.c2_target.specs.Delays.{Setup}
+use Rattle.c2_target.specs.Known.{hearing, is-byte, known-point, is-count, known-block, known-command, known-output, known-link, known}
+use Rattle.c2_target_step.specs.Code.StepOn.{at-stop, known-on}
+use Rattle.c2_target_step.specs.Code.Parts.{known-device, known-behind}
+
+-- fewer than eight bits heard, and their value is a byte
+pub hearing-says : (w n v : ℕ) → w ≤ 8 → hearing w n v ≡ true → (n < 8) × (v < 256)
+unfolding hearing
+hearing-says w n v k e =
+    let h = both (ltb n w) (ltb v (2 ^ n)) e in
+    let p : n < w = ltb-true n w (h .0) in
+    let q : v < 2 ^ n = ltb-true v (2 ^ n) (h .1) in
+    let r : 2 ^ n ≤ 128 = weight-small n (omega arith) in
+    (omega arith, omega arith)
+
+pub byte-says : (b : ℕ) → is-byte b ≡ true → b < 256
+unfolding is-byte
+byte-says b e = ltb-true b 256 e
+
+-- a block has a byte, and lies in the flash
+pub block-says : (end a n : ℕ) → known-block end a n ≡ true → (1 ≤ n) × (a + n ≤ end)
+unfolding known-block is-count
+block-says end a n e =
+    let h = both (leb 1 n && leb n 256) (leb (a + n) end) e in
+    (leb-true 1 n (both (leb 1 n) (leb n 256) (h .0) .0), leb-true (a + n) end (h .1))
+
+-- so does a page
+pub page-says : (size count p end : ℕ) → ltb p count ≡ true → end ≡ size * count → p * size + size ≤ end
+page-says size count p end e h = let k : suc p * size ≤ count * size = mul-le-mul-right size (ltb-true p count e) in omega arith
+
+pub link-command : (count end : ℕ) (l : Link) → known-link count end l ≡ true → known-command count end (l .command) ≡ true
+unfolding known-link
+link-command count end l e = both (known-command count end (l .command)) _ e .0
+
+pub link-output : (count end : ℕ) (l : Link) → known-link count end l ≡ true → known-output end (l .output) ≡ true
+unfolding known-link
+link-output count end l e = both (known-output end (l .output)) _ (both (known-command count end (l .command)) _ e .1) .0
+
+-- what a state that exists has
+pub record Exists (u : Setup) (t : Target) (f : List ℕ) : Type 0 where
+  pub flash : length f ≡ u .settings .size * u .settings .count
+  pub point : known-point (u .wait) (t .point) ≡ true
+  pub link : known-link (u .settings .count) (length f) (t .device .link) ≡ true
+
+pub exists : (u : Setup) (t : Target) (f : List ℕ) → known u t f ≡ true → Exists u t f
+unfolding known
+exists u t f k =
+    let d = t .device in
+    let a = both (eqb (length f) (u .settings .size * u .settings .count)) _ k in
+    let b = both (known-point (u .wait) (t .point)) _ (a .1) in
+    let c = both (is-byte (d .address)) _ (b .1) in
+    record { flash = eqb-true (length f) (u .settings .size * u .settings .count) (a .0); point = b .0; link = both (leb (d .keys) 3) _ (c .1) .1 }
+
+-- at a STOP all of the state has been tested
+pub stop-exists : (u : Setup) (t : Target) (f : List ℕ) (e : Effect) → t .point ≡ Stop e → known-on u t f ≡ true → Exists u t f
+unfolding known-on
+stop-exists u t f e p k = let a : at-stop (t .point) ≡ true = ap (λ (y : Point). at-stop y) p in exists u t f (rw a at k)
+
+-- and a state that exists passes everywhere
+pub exists-on : (u : Setup) (t : Target) (f : List ℕ) → known u t f ≡ true → known-on u t f ≡ true
+unfolding known-on
+exists-on u t f k = by-test (at-stop (t .point)) (λ a. rw a k) (λ a. rw a (exists u t f k .point))
+
+-- the test by its parts
+pub on-behind : (u : Setup) (t : Target) (f : List ℕ) → known-point (u .wait) (t .point) ≡ true → at-stop (t .point) ≡ true
+    → known-on u t f ≡ known-behind (u .settings) (t .device) f
+unfolding known-on known known-behind known-device
+on-behind u t f p a = rw (a, p)
+
+pub on-point : (u : Setup) (t : Target) (f : List ℕ) → at-stop (t .point) ≡ false → known-on u t f ≡ known-point (u .wait) (t .point)
+unfolding known-on
+on-point u t f a = rw a
+
+pub no-point-on : (u : Setup) (t : Target) (f : List ℕ) → known-point (u .wait) (t .point) ≡ false → known-on u t f ≡ false
+unfolding known-on known
+no-point-on u t f p =
+    by-test (at-stop (t .point)) (λ a. rw (a, p) (by-test (eqb (length f) (u .settings .size * u .settings .count)) (λ e. rw e) (λ e. rw e))) (λ a. rw (a, p))
+
+-- a block of n bytes from a on, by the room that is left there
+pub room : (a n end : ℕ) → a ≤ end → leb n (end - a) ≡ leb (a + n) end
+room a n end h =
+    by-test (leb n (end - a)) (λ e. e ∙ sym (le-leb (a + n) end (omega (arith, leb-true n (end - a) e))))
+    (λ e. e ∙ sym (lt-leb (a + n) end (omega (arith, leb-false n (end - a) e))))
+
+pub no-room : (a n end : ℕ) → end < a → false ≡ leb (a + n) end
+no-room a n end h = sym (lt-leb (a + n) end (omega arith))
+
+-- a power of two of up to eight bits is no remainder
+pub power-fits : (n : ℕ) → n ≤ 8 → (1 * 2 ^ n) % 18446744073709551616 ≡ 2 ^ n
+power-fits n h =
+    let b = pow-le-pow-right {n = 2} (omega arith) {i = n} {j = 8} h in
+    let e : 1 * 2 ^ n ≡ 2 ^ n = omega arith in
+    rw e (mod-eq-of-lt (omega (arith, b)))

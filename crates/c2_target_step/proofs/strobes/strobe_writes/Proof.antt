@@ -1,0 +1,109 @@
+use borrow.Author.Needs.{needs}
+use Rattle.c2_target.specs.Known.{known-point}
+use Rattle.c2_target_step.proofs.Laws.Known.{stop-exists}
+use Rattle.c2_target_step.proofs.strobes.strobe_writes.Statement.{statement}
+use Rattle.c2_target_step.proofs.strobes.strobe_writes.Tie as tie
+
+enum-known-point : tie.Need-enum-known-point
+enum-known-point c = search needs
+
+effect-writes-requires : tie.Need-effect-writes-requires
+unfolding known-point
+effect-writes-requires c κs =
+    let w = stop-exists _ _ _ _ (c .before .before .point .given .1) (c .before .before .before .before .before .before .pre) in
+    (w .link, (w .flash, rw (c .before .before .point .given .1) at (w .point)))
+
+same-length : tie.Need-same-length
+same-length c = search needs
+
+returns : tie.Need-returns
+returns c = rw (c .before .before .before .before .before .point .given .1) (c .before .before .effect-writes .ensures)
+
+enum-told : tie.Need-enum-told
+enum-told c = search needs
+
+returns-2 : tie.Need-returns-2
+returns-2 c = rw (c .enum-told .given .1)
+
+enum-told-2 : tie.Need-enum-told-2
+enum-told-2 c = search needs
+
+returns-3 : tie.Need-returns-3
+returns-3 c = rw (c .enum-told2 .given .1)
+
+enum-told-3 : tie.Need-enum-told-3
+enum-told-3 c = search needs
+
+returns-4 : tie.Need-returns-4
+returns-4 c = rw (c .enum-told3 .given .1)
+
+enum-told-4 : tie.Need-enum-told-4
+enum-told-4 c = search needs
+
+returns-5 : tie.Need-returns-5
+returns-5 c = rw (c .enum-told4 .given .1)
+
+enum-told-5 : tie.Need-enum-told-5
+enum-told-5 c = search needs
+
+returns-6 : tie.Need-returns-6
+returns-6 c = rw (c .enum-told5 .given .1)
+
+enum-told-6 : tie.Need-enum-told-6
+enum-told-6 c = search needs
+
+returns-7 : tie.Need-returns-7
+returns-7 c = rw (c .enum-told6 .given .1)
+
+enum-told-7 : tie.Need-enum-told-7
+enum-told-7 c = search needs
+
+returns-8 : tie.Need-returns-8
+returns-8 c = rw (c .enum-told7 .given .1)
+
+enum-told-8 : tie.Need-enum-told-8
+enum-told-8 c = search needs
+
+returns-9 : tie.Need-returns-9
+returns-9 c = rw (c .enum-told8 .given .1)
+
+enum-told-9 : tie.Need-enum-told-9
+enum-told-9 c = search needs
+
+returns-10 : tie.Need-returns-10
+returns-10 c = rw (c .enum-told9 .given .1)
+
+enum-told-10 : tie.Need-enum-told-10
+enum-told-10 c = search needs
+
+returns-11 : tie.Need-returns-11
+returns-11 c = rw (c .enum-told10 .given .1)
+
+pub strobe-writes-spec : {M : Type 1} → statement M
+strobe-writes-spec =
+    tie.close
+    (tie.spec
+    enum-known-point
+    effect-writes-requires
+    same-length
+    returns
+    enum-told
+    returns-2
+    enum-told-2
+    returns-3
+    enum-told-3
+    returns-4
+    enum-told-4
+    returns-5
+    enum-told-5
+    returns-6
+    enum-told-6
+    returns-7
+    enum-told-7
+    returns-8
+    enum-told-8
+    returns-9
+    enum-told-9
+    returns-10
+    enum-told-10
+    returns-11)

@@ -1,0 +1,72 @@
+-- For the code, which gives reply and target and writes the flash apart: parts of what the definitions give.
+-- Nothing here needs to be believed.
+use mathlib.Core.Bool.{Bool, cond, _&&_}
+use mathlib.Core.List.{List}
+use Prim.Native.Nat.{ℕ, _*_}
+use lib.Dec.{eqb, leb}
+use lib.ListN.{length}
+use Rattle.c2_wire.specs.Bits.{bit}
+use Rattle.settings.specs.declared.Settings.{Settings}
+use Rattle.c2_target.specs.declared.Effect.{Effect}
+use Rattle.c2_target.specs.declared.Effect.the-variants.{Nothing, SetAddress, Write, CountDown, Read}
+use Rattle.c2_target.specs.declared.Point.{Point}
+use Rattle.c2_target.specs.declared.Point.the-variants.{Start, Ins, WriteLength, ReadLength, Address, Data, LongData, Wait, Waiting, Send, Stop}
+use Rattle.c2_target.specs.declared.Device.{Device}
+use Rattle.c2_target.specs.declared.Target.{Target}
+use Rattle.c2_target.specs.declared.Replied.{Replied}
+use Rattle.c2_target_step.specs.declared.Taking.{Taking}
+use Rattle.c2_target.specs.Commands.{Taken, takes}
+use Rattle.c2_target.specs.Interface.{Acted, linked}
+use Rattle.c2_target.specs.Strobes.{target, Turn}
+use Rattle.c2_target.specs.Known.{is-byte, known-link}
+use Rattle.c2_target.specs.Target.{after-reset, after-pause}
+
+-- what a step gives that is not refused
+abbrev pub replying : (reply : ℕ) → Target → Replied
+replying r t = record { number = 0; reply = r; target = t }
+
+abbrev pub turn-replied : Turn → Replied
+turn-replied r = replying (bit (r .reply)) (r .target)
+
+-- a step that is no strobe, by the number of its refusal
+abbrev pub still : (number : ℕ) → Target → (step : ℕ) → Replied
+still n t x =
+    cond (eqb n 0) (replying 1 (cond (eqb x 4) (after-reset t) (cond (eqb x 5) (after-pause t) t))) (record { number = n; reply = 1; target = t })
+
+-- the target after a frame's STOP
+abbrev pub stopped : Target → Acted → Target
+stopped t a = target Start (a .place) (t .collision) (a .device)
+
+-- what a byte put makes of the command and of the output
+abbrev pub taking : Taken → Taking
+taking r = record { command = r .command; output = r .output }
+
+-- What a STOP makes of the flash: only a put changes it,
+abbrev pub effect-flash : Settings → Effect → Device → List ℕ → List ℕ
+effect-flash s Nothing d f = f
+effect-flash s (SetAddress a) d f = f
+effect-flash s (Write b) d f = cond (linked s d) (takes s (d .link .command) b f .flash) f
+effect-flash s CountDown d f = f
+effect-flash s Read d f = f
+
+-- and so only at a STOP.
+abbrev pub strobe-flash : Settings → Point → Device → List ℕ → List ℕ
+strobe-flash s Start d f = f
+strobe-flash s (Ins n v) d f = f
+strobe-flash s (WriteLength n v) d f = f
+strobe-flash s (ReadLength n v) d f = f
+strobe-flash s (Address n v) d f = f
+strobe-flash s (Data n v) d f = f
+strobe-flash s (LongData n) d f = f
+strobe-flash s (Wait n e) d f = f
+strobe-flash s (Waiting z n e) d f = f
+strobe-flash s (Send n v e) d f = f
+strobe-flash s (Stop e) d f = effect-flash s e d f
+
+-- a device that exists
+unfoldable pub known-device : Settings → Device → (end : ℕ) → Bool
+known-device s d end = is-byte (d .address) && (leb (d .keys) 3 && known-link (s .count) end (d .link))
+
+-- and a flash of the right length before it
+unfoldable pub known-behind : Settings → Device → (flash : List ℕ) → Bool
+known-behind s d f = eqb (length f) (s .size * s .count) && known-device s d (length f)

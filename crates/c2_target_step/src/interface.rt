@@ -1,0 +1,387 @@
+// The registers and the Programming Interface behind FPDAT: what reads show, and what a frame does at its
+// STOP.
+ghost use mathlib.Core.Path.{_≡_};
+ghost use mathlib.Core.Bool.{true, cond};
+ghost use mathlib.Core.List.{[]};
+ghost use Prim.Native.Nat.{_-_, _*_, _<_, _≤_};
+ghost use lib.ListN.{length};
+ghost use Rattle.c2_wire.specs.Bits.{bit};
+ghost use Rattle.c2_target.specs.Delays.{setup};
+ghost use Rattle.c2_target.specs.Commands.{first-byte};
+ghost use Rattle.c2_target.specs.Interface.{link, device, in-busy, out-ready, status-bits, linked, shown, given, late-of, place-after, put-byte, get-byte, counted, next-keys, begun, acted, served, with-served, does};
+ghost use Rattle.c2_target.specs.Known.{known-effect, known-command, known-output, known-link};
+ghost use Rattle.c2_target_step.specs.Code.Parts.{stopped, taking, effect-flash};
+use crate::Taking;
+use crate::commands::first_byte;
+use crate::commands::other_bytes;
+use crate::commands::some_output;
+use crate::commands::takes;
+use crate::delays::delay;
+use crate::delays::next_place;
+use crate::delays::wide;
+use crate::flash::put_writes;
+use c2_target::Device;
+use c2_target::Effect;
+use c2_target::Link;
+use c2_target::Point;
+use c2_target::Target;
+use settings::Settings;
+
+fn bit(one: bool) -> usize
+    ensures { λ r. ⌜ r ≡ bit one ⌝ }
+    ensures { λ r. ⌜ r ≤ 1 ⌝ }
+{
+    if one {
+        return 1;
+    }
+    0
+}
+
+pub(crate) fn less(n: usize) -> usize
+    ensures { λ r. ⌜ r ≡ n - 1 ⌝ }
+{
+    if 0 < n {
+        return n - 1;
+    }
+    0
+}
+
+fn in_busy(l: Link) -> bool
+    ensures { λ r. ⌜ r ≡ in-busy l ⌝ }
+{
+    0 < l.busy
+}
+
+fn out_ready(l: Link) -> bool
+    ensures { λ r. ⌜ r ≡ out-ready l ⌝ }
+{
+    let output = l.output;
+    if 0 < l.busy {
+        return false;
+    }
+    if l.late == 0 {
+        return some_output(output);
+    }
+    false
+}
+
+fn status_bits(l: Link) -> usize
+    ensures { λ r. ⌜ r ≡ status-bits l ⌝ }
+{
+    bit(out_ready(l)) + 2 * bit(in_busy(l))
+}
+
+// An Address Read is one of the d reads, and after those one of the e reads.
+fn counted(l: Link) -> Link
+    ensures { λ r. ⌜ r ≡ counted l ⌝ }
+{
+    let command = l.command;
+    let output = l.output;
+    if 0 < l.busy {
+        return Link {
+            command: command,
+            output: output,
+            busy: l.busy - 1,
+            late: l.late,
+        };
+    }
+    Link {
+        command: command,
+        output: output,
+        busy: 0,
+        late: less(l.late),
+    }
+}
+
+// How many of the three key writes the last Data Writes are, after one more.
+fn next_keys(address: usize, keys: usize, byte: usize) -> usize
+    ensures { λ r. ⌜ r ≡ next-keys address keys byte ⌝ }
+{
+    if address == 0x02 {
+        if byte == 0x02 {
+            return 1;
+        }
+        if byte == 0x04 {
+            if keys == 1 {
+                return 2;
+            }
+            return 0;
+        }
+        if byte == 0x01 {
+            if keys == 2 {
+                return 3;
+            }
+            return 0;
+        }
+        return 0;
+    }
+    0
+}
+
+// The FPDAT address with the interface on.
+fn linked(d: Device, t: Settings) -> bool
+    ensures { λ r. ⌜ r ≡ linked t d ⌝ }
+{
+    if d.on {
+        return d.address == (t.fpdat as usize);
+    }
+    false
+}
+
+// What an Address Read shows.
+pub(crate) fn shown(d: Device, t: Settings) -> usize
+    ensures { λ r. ⌜ r ≡ shown t d ⌝ }
+{
+    let link = d.link;
+    if linked(d, t) {
+        return status_bits(link);
+    }
+    d.address
+}
+
+// What a read at FPDAT gives.
+fn output_given(d: Device, flash: &[u8]) -> usize
+    ensures { λ r. ⌜ r ≡ cond (out-ready (d .link)) (first-byte (d .link .output) (now (flash .entry))) 0 ⌝ }
+{
+    let link = d.link;
+    let output = link.output;
+    if out_ready(link) {
+        return first_byte(output, flash);
+    }
+    0
+}
+
+// What a Data Read gives.
+pub(crate) fn given(d: Device, t: Settings, flash: &[u8]) -> usize
+    ensures { λ r. ⌜ r ≡ given t d (now (flash .entry)) ⌝ }
+{
+    if linked(d, t) {
+        return output_given(d, flash);
+    }
+    if d.address == 0 {
+        return wide(t.id);
+    }
+    0
+}
+
+// A START takes three key writes away.
+pub(crate) fn begun(d: Device) -> Device
+    ensures { λ r. ⌜ r ≡ begun d ⌝ }
+{
+    let link = d.link;
+    if d.keys == 3 {
+        return Device {
+            address: d.address,
+            on: d.on,
+            keys: 0,
+            link: link,
+        };
+    }
+    d
+}
+
+// The target between two frames, with this place in the delay list and this device.
+pub(crate) fn idle(y: Target, place: usize, device: Device) -> Target
+    ensures { λ r. ⌜ r ≡ stopped y (acted device place []) ⌝ }
+{
+    Target {
+        point: Point::Start,
+        place: place,
+        collision: y.collision,
+        device: device,
+    }
+}
+
+fn served(y: Target, keys: usize, link: Link, place: usize) -> Target
+    ensures { λ r. ⌜ r ≡ stopped y (with-served (y .device) keys (served link place [])) ⌝ }
+{
+    let device = y.device;
+    idle(
+        y,
+        place,
+        Device {
+            address: device.address,
+            on: device.on,
+            keys: keys,
+            link: link,
+        },
+    )
+}
+
+// Output takes a further delay e; where there is none, no delay is taken.
+fn awaits(
+    y: Target,
+    keys: usize,
+    taking: Taking,
+    busy: usize,
+    place: usize,
+    delays: &[u8],
+) -> Target
+    ensures { λ r. ⌜ r ≡ stopped y (with-served (y .device) keys (served (link (taking .command) (taking .output) busy (late-of (now (delays .entry)) (taking .output) place)) (place-after (now (delays .entry)) (taking .output) place) [])) ⌝ }
+{
+    let command = taking.command;
+    let output = taking.output;
+    if some_output(output) {
+        return served(
+            y,
+            keys,
+            Link {
+                command: command,
+                output: output,
+                busy: busy,
+                late: delay(delays, place),
+            },
+            next_place(delays, place),
+        );
+    }
+    served(
+        y,
+        keys,
+        Link {
+            command: command,
+            output: output,
+            busy: busy,
+            late: 0,
+        },
+        place,
+    )
+}
+
+// A byte put takes a delay d, then e.
+fn puts(y: Target, t: Settings, keys: usize, byte: usize, flash: &[u8], delays: &[u8]) -> Target
+    requires { ⌜ known-command (t .count) (length (now flash)) (y .device .link .command) ≡ true ⌝ }
+    requires { ⌜ byte < 256 ⌝ }
+    ensures { λ r. ⌜ r ≡ stopped y (with-served (y .device) keys (put-byte (setup t (now (delays .entry))) (y .device .link) byte (y .place) (now (flash .entry)))) ⌝ }
+{
+    let place = y.place;
+    let device = y.device;
+    let link = device.link;
+    let command = link.command;
+    awaits(
+        y,
+        keys,
+        takes(t, command, byte, flash),
+        delay(delays, place),
+        next_place(delays, place),
+        delays,
+    )
+}
+
+// A read takes the first byte of the output away, and where more waits a new e is taken.
+fn gets(y: Target, flash: &[u8], delays: &[u8]) -> Target
+    requires { ⌜ known-output (length (now flash)) (y .device .link .output) ≡ true ⌝ }
+    ensures { λ r. ⌜ ((t : Settings) → r ≡ stopped y (with-served (y .device) (y .device .keys) (get-byte (setup t (now (delays .entry))) (y .device .link) (y .place) (now (flash .entry))))) ⌝ }
+{
+    let device = y.device;
+    let link = device.link;
+    let command = link.command;
+    let output = link.output;
+    if out_ready(link) {
+        return awaits(
+            y,
+            device.keys,
+            Taking {
+                command: command,
+                output: other_bytes(output, flash),
+            },
+            link.busy,
+            y.place,
+            delays,
+        );
+    }
+    served(y, device.keys, link, y.place)
+}
+
+fn addressed(y: Target, address: usize) -> Target
+    ensures { λ r. ⌜ ((t : Settings) → r ≡ stopped y (does (setup t []) (Effect.SetAddress address) (y .device) (y .place) [])) ⌝ }
+{
+    let device = y.device;
+    let link = device.link;
+    idle(
+        y,
+        y.place,
+        Device {
+            address: address,
+            on: device.on,
+            keys: device.keys,
+            link: link,
+        },
+    )
+}
+
+// A Data Write at FPDAT is a put; elsewhere it writes nothing.
+fn writes(y: Target, t: Settings, byte: usize, flash: &[u8], delays: &[u8]) -> Target
+    requires { ⌜ known-command (t .count) (length (now flash)) (y .device .link .command) ≡ true ⌝ }
+    requires { ⌜ byte < 256 ⌝ }
+    ensures { λ r. ⌜ r ≡ stopped y (does (setup t (now (delays .entry))) (Effect.Write byte) (y .device) (y .place) (now (flash .entry))) ⌝ }
+{
+    let device = y.device;
+    let link = device.link;
+    let keys = next_keys(device.address, device.keys, byte);
+    if linked(device, t) {
+        return puts(y, t, keys, byte, flash, delays);
+    }
+    served(y, keys, link, y.place)
+}
+
+fn counts_down(y: Target, t: Settings) -> Target
+    ensures { λ r. ⌜ r ≡ stopped y (does (setup t []) Effect.CountDown (y .device) (y .place) []) ⌝ }
+{
+    let device = y.device;
+    let link = device.link;
+    if linked(device, t) {
+        return served(y, device.keys, counted(link), y.place);
+    }
+    served(y, device.keys, link, y.place)
+}
+
+fn reads(y: Target, t: Settings, flash: &[u8], delays: &[u8]) -> Target
+    requires { ⌜ known-output (length (now flash)) (y .device .link .output) ≡ true ⌝ }
+    ensures { λ r. ⌜ r ≡ stopped y (does (setup t (now (delays .entry))) Effect.Read (y .device) (y .place) (now (flash .entry))) ⌝ }
+{
+    let device = y.device;
+    let link = device.link;
+    if linked(device, t) {
+        return gets(y, flash, delays);
+    }
+    served(y, device.keys, link, y.place)
+}
+
+// What a frame does at its STOP.
+pub(crate) fn does(y: Target, t: Settings, effect: Effect, flash: &[u8], delays: &[u8]) -> Target
+    requires { ⌜ known-link (t .count) (length (now flash)) (y .device .link) ≡ true ⌝ }
+    requires { ⌜ known-effect effect ≡ true ⌝ }
+    ensures { λ r. ⌜ r ≡ stopped y (does (setup t (now (delays .entry))) effect (y .device) (y .place) (now (flash .entry))) ⌝ }
+{
+    let device = y.device;
+    match effect {
+        Effect::Nothing => idle(y, y.place, device),
+        Effect::SetAddress(address) => addressed(y, address),
+        Effect::Write(byte) => writes(y, t, byte, flash, delays),
+        Effect::CountDown => counts_down(y, t),
+        Effect::Read => reads(y, t, flash, delays),
+    }
+}
+
+// What a STOP makes of the flash: a put at FPDAT writes it.
+pub(crate) fn effect_writes(t: Settings, effect: Effect, device: Device, flash: &mut [u8])
+    requires { ⌜ known-link (t .count) (length (now flash)) (device .link) ≡ true ⌝ }
+    requires { ⌜ length (now flash) ≡ t .size * t .count ⌝ }
+    requires { ⌜ known-effect effect ≡ true ⌝ }
+    ensures { λ r. ⌜ now (flash .exit) ≡ effect-flash t effect device (now (flash .entry)) ⌝ }
+{
+    let link = device.link;
+    let command = link.command;
+    match effect {
+        Effect::Write(byte) => {
+            if linked(device, t) {
+                return put_writes(t, command, byte, flash);
+            }
+            return;
+        }
+        Effect::Nothing => return,
+        Effect::SetAddress(_) => return,
+        Effect::CountDown => return,
+        Effect::Read => return,
+    }
+}

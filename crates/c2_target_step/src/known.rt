@@ -1,0 +1,316 @@
+// The states that the target may be in.
+ghost use mathlib.Core.Path.{_≡_};
+ghost use mathlib.Core.List.{List};
+ghost use Prim.Native.Nat.{ℕ, _*_, _≤_};
+ghost use Rattle.c2_target.specs.declared.Point.the-variants.{LongData, Waiting, Send};
+ghost use Rattle.c2_target.specs.Delays.{setup};
+ghost use Rattle.c2_target.specs.Interface.{link, device};
+ghost use Rattle.c2_target.specs.Strobes.{target};
+ghost use Rattle.c2_target.specs.Known.{hearing, known-effect, after-its-wait, is-sent, known-point, is-count, known-block, known-command, known-output, known-link, known};
+ghost use Rattle.c2_target_step.specs.Code.StepOn.{at-stop, known-on};
+ghost use Rattle.c2_target_step.specs.Code.Parts.{known-device, known-behind};
+use c2_target::Command;
+use c2_target::Device;
+use c2_target::Effect;
+use c2_target::Link;
+use c2_target::Output;
+use c2_target::Point;
+use c2_target::Target;
+use settings::Settings;
+
+// Fewer bits heard than the field has, and none but those.
+fn hearing(width: usize, heard: usize, value: usize) -> bool
+    requires { ⌜ width ≤ 8 ⌝ }
+    ensures { λ r. ⌜ r ≡ hearing width heard value ⌝ }
+{
+    if heard < width {
+        return value < (1usize << heard);
+    }
+    false
+}
+
+fn known_effect(effect: Effect) -> bool
+    ensures { λ r. ⌜ r ≡ known-effect effect ⌝ }
+{
+    match effect {
+        Effect::Nothing => true,
+        Effect::SetAddress(address) => address < 256,
+        Effect::Write(byte) => byte < 256,
+        Effect::CountDown => true,
+        Effect::Read => true,
+    }
+}
+
+// No bits, or those of two, three or four bytes.
+fn long_bits(left: usize) -> bool
+    ensures { λ r. ⌜ r ≡ after-its-wait left Effect.Nothing ⌝ }
+{
+    if left == 0 {
+        return true;
+    }
+    if left == 16 {
+        return true;
+    }
+    if left == 24 {
+        return true;
+    }
+    left == 32
+}
+
+fn after_write(left: usize, byte: usize) -> bool
+    ensures { λ r. ⌜ r ≡ after-its-wait left (Effect.Write byte) ⌝ }
+{
+    if left == 0 {
+        return byte < 256;
+    }
+    false
+}
+
+// The bits that are sent after the WAIT of a frame that does this at its STOP.
+fn after_its_wait(left: usize, effect: Effect) -> bool
+    ensures { λ r. ⌜ r ≡ after-its-wait left effect ⌝ }
+{
+    match effect {
+        Effect::Nothing => long_bits(left),
+        Effect::SetAddress(_) => false,
+        Effect::Write(byte) => after_write(left, byte),
+        Effect::CountDown => false,
+        Effect::Read => left == 8,
+    }
+}
+
+fn zeros_sent(left: usize, value: usize) -> bool
+    ensures { λ r. ⌜ r ≡ is-sent left value Effect.Nothing ⌝ }
+{
+    if left <= 32 {
+        return value == 0;
+    }
+    false
+}
+
+fn byte_sent(left: usize, value: usize) -> bool
+    ensures { λ r. ⌜ r ≡ is-sent left value Effect.Read ⌝ }
+{
+    if left <= 8 {
+        return value < (1usize << left);
+    }
+    false
+}
+
+// Bits still to be sent: a byte, or up to four of zeros.
+fn is_sent(left: usize, value: usize, effect: Effect) -> bool
+    ensures { λ r. ⌜ r ≡ is-sent left value effect ⌝ }
+{
+    match effect {
+        Effect::Nothing => zeros_sent(left, value),
+        Effect::SetAddress(_) => false,
+        Effect::Write(_) => false,
+        Effect::CountDown => byte_sent(left, value),
+        Effect::Read => byte_sent(left, value),
+    }
+}
+
+fn known_long_data(left: usize) -> bool
+    ensures { λ r. ⌜ r ≡ known-point 20 (LongData left) ⌝ }
+{
+    if 1 <= left {
+        return left <= 32;
+    }
+    false
+}
+
+fn known_waiting(zeros: usize, left: usize, effect: Effect) -> bool
+    ensures { λ r. ⌜ r ≡ known-point 20 (Waiting zeros left effect) ⌝ }
+{
+    if zeros < Target::WAIT - 1 {
+        return after_its_wait(left, effect);
+    }
+    false
+}
+
+fn known_send(left: usize, value: usize, effect: Effect) -> bool
+    ensures { λ r. ⌜ r ≡ known-point 20 (Send left value effect) ⌝ }
+{
+    if 1 <= left {
+        return is_sent(left, value, effect);
+    }
+    false
+}
+
+// A point that a frame has.
+fn known_point(point: Point) -> bool
+    ensures { λ r. ⌜ r ≡ known-point 20 point ⌝ }
+{
+    match point {
+        Point::Start => true,
+        Point::Ins { heard, value } => hearing(2, heard, value),
+        Point::WriteLength { heard, value } => hearing(2, heard, value),
+        Point::ReadLength { heard, value } => hearing(2, heard, value),
+        Point::Address { heard, value } => hearing(8, heard, value),
+        Point::Data { heard, value } => hearing(8, heard, value),
+        Point::LongData { left } => known_long_data(left),
+        Point::Wait { left, effect } => after_its_wait(left, effect),
+        Point::Waiting {
+            zeros,
+            left,
+            effect,
+        } => known_waiting(zeros, left, effect),
+        Point::Send {
+            left,
+            value,
+            effect,
+        } => known_send(left, value, effect),
+        Point::Stop { effect } => known_effect(effect),
+    }
+}
+
+fn is_count(count: usize) -> bool
+    ensures { λ r. ⌜ r ≡ is-count count ⌝ }
+{
+    if 1 <= count {
+        return count <= 256;
+    }
+    false
+}
+
+// A block inside the flash.
+fn known_block(end: usize, address: usize, count: usize) -> bool
+    ensures { λ r. ⌜ r ≡ known-block end address count ⌝ }
+{
+    if is_count(count) {
+        if address <= end {
+            return count <= end - address;
+        }
+        return false;
+    }
+    false
+}
+
+// A point that a command has.
+fn known_command(pages: usize, end: usize, command: Command) -> bool
+    ensures { λ r. ⌜ r ≡ known-command pages end command ⌝ }
+{
+    match command {
+        Command::Ready => true,
+        Command::ErasePage => true,
+        Command::EraseConfirm { page } => page < pages,
+        Command::High { write: _ } => true,
+        Command::Low { write: _, high } => high < 256,
+        Command::LengthCode { write: _, address } => address < 65536,
+        Command::Byte { address, left } => known_block(end, address, left),
+        Command::PastEnd { left } => is_count(left),
+    }
+}
+
+fn known_output(end: usize, output: Output) -> bool
+    ensures { λ r. ⌜ r ≡ known-output end output ⌝ }
+{
+    match output {
+        Output::Empty => true,
+        Output::Status { passed: _ } => true,
+        Output::StatusBlock { address, count } => known_block(end, address, count),
+        Output::Block { address, count } => known_block(end, address, count),
+    }
+}
+
+fn known_link(pages: usize, end: usize, link: Link) -> bool
+    ensures { λ r. ⌜ r ≡ known-link pages end link ⌝ }
+{
+    let command = link.command;
+    let output = link.output;
+    if known_command(pages, end, command) {
+        if known_output(end, output) {
+            if link.busy < 256 {
+                return link.late < 256;
+            }
+            return false;
+        }
+        return false;
+    }
+    false
+}
+
+// The address is a byte, at most three key writes are counted, and the interface exists.
+fn known_device(t: Settings, device: Device, end: usize) -> bool
+    ensures { λ r. ⌜ r ≡ known-device t device end ⌝ }
+{
+    let link = device.link;
+    if device.address < 256 {
+        if device.keys <= 3 {
+            return known_link(t.count as usize, end, link);
+        }
+        return false;
+    }
+    false
+}
+
+fn flash_size(size: u32, count: u32) -> usize
+    ensures { λ r. ⌜ r ≡ size * count ⌝ }
+{
+    (size as usize) * (count as usize)
+}
+
+// A flash as long as the pages of the settings, and a state that exists.
+pub(crate) fn known(t: Settings, target: Target, flash: &[u8]) -> bool
+    ensures { λ r. ⌜ ((ds : List ℕ) → r ≡ known (setup t ds) target (now (flash .entry))) ⌝ }
+{
+    let point = target.point;
+    let device = target.device;
+    if flash.len() == flash_size(t.size, t.count) {
+        if known_point(point) {
+            return known_device(t, device, flash.len());
+        }
+        return false;
+    }
+    false
+}
+
+fn at_stop(point: Point) -> bool
+    ensures { λ r. ⌜ r ≡ at-stop point ⌝ }
+{
+    match point {
+        Point::Start => false,
+        Point::Ins { heard: _, value: _ } => false,
+        Point::WriteLength { heard: _, value: _ } => false,
+        Point::ReadLength { heard: _, value: _ } => false,
+        Point::Address { heard: _, value: _ } => false,
+        Point::Data { heard: _, value: _ } => false,
+        Point::LongData { left: _ } => false,
+        Point::Wait { left: _, effect: _ } => false,
+        Point::Waiting {
+            zeros: _,
+            left: _,
+            effect: _,
+        } => false,
+        Point::Send {
+            left: _,
+            value: _,
+            effect: _,
+        } => false,
+        Point::Stop { effect: _ } => true,
+    }
+}
+
+// What a frame acts on at its STOP: a flash as long as the pages of the settings, and a device that exists.
+fn known_behind(t: Settings, device: Device, flash: &[u8]) -> bool
+    ensures { λ r. ⌜ r ≡ known-behind t device (now (flash .entry)) ⌝ }
+{
+    if flash.len() == flash_size(t.size, t.count) {
+        return known_device(t, device, flash.len());
+    }
+    false
+}
+
+pub(crate) fn known_on(t: Settings, target: Target, flash: &[u8]) -> bool
+    ensures { λ r. ⌜ ((ds : List ℕ) → r ≡ known-on (setup t ds) target (now (flash .entry))) ⌝ }
+{
+    let point = target.point;
+    let device = target.device;
+    if known_point(point) {
+        if at_stop(point) {
+            return known_behind(t, device, flash);
+        }
+        return true;
+    }
+    false
+}
