@@ -23,36 +23,38 @@ use Rattle.c2.specs.declared.Advanced.{Advanced}
 use Rattle.c2.specs.declared.Remaining.{Remaining}
 use Rattle.c2_wire.specs.Exchange
 
--- Opening. The number by which it is refused: a record that is not 32 bytes, then 1 to 5.
+-- OPENING. The number by which an opening is refused: a record that is not 32 bytes (6), then 1 to 5.
 unfoldable pub opening-number : (bytes : ℕ) → Settings → (first length : ℕ) → ℕ
 opening-number bytes t first n = cond (eqb bytes 32) (opening-refusal t first n) bad-record
 
--- the answer: the first step is 4, or 6 when refused
+-- what an opening answers: its number, and the first step, 4, or 6 when refused
 unfoldable pub opening-answer : (number : ℕ) → Opened
 opening-answer n = record { number = n; step = cond (eqb n 0) (code reset) (code off) }
 
--- the record: the new session's, or as it was
+-- the record after an opening: the new session's, or as it was
 unfoldable pub record-opened : (number : ℕ) → Session → List ℕ → List ℕ
 record-opened n s r = cond (eqb n 0) (packed s) r
 
--- Taking replies. The number by which the call is refused before any reply: 6, 7, 8.
+-- TAKING REPLIES. The number by which a call is refused before any reply: 6, 7, 8.
 abbrev pub held-number : Unpacked → (image replies buffer place : ℕ) → ℕ
 held-number (Held s) n m k place = cond (eqb n (image-length s)) (cond (leb (place + m) k) 0 no-room) other-image
 held-number Refused n m k place = bad-record
 
--- the answer, by the exchange: the outcome and the replies taken
+-- what an accepted call answers, by the exchange: the outcome, and the replies taken
 unfoldable pub taken-answer : Exchange → (replies : List ℕ) → Advanced
 taken-answer e rs = record { number = outcome-of (fed e rs) .number; offset = outcome-of (fed e rs) .offset; taken = Exchange.taken e rs }
 
+-- what a refused call answers: its number, no offset, and no reply taken
 unfoldable pub refused-answer : (number : ℕ) → Advanced
 refused-answer n = record { number = n; offset = 0; taken = 0 }
 
--- the step buffer: the steps that the exchange asks for stand from the place on, and every other byte is as
--- it was
+-- the step buffer after an accepted call: the steps that the exchange asks for stand from the place on, and
+-- every other byte is as it was
 unfoldable pub steps-written : Exchange → (replies : List ℕ) → (place : ℕ) → List ℕ → List ℕ
 steps-written e rs place buffer = take place buffer ++ (steps e rs ++ drop (Exchange.taken e rs) (drop place buffer))
 
--- the call that takes replies: answer, step buffer and record afterwards, by what the record holds
+-- The call that takes replies, by what the record holds: its answer (`advance-answer`), and step buffer
+-- (`advance-steps`) and record (`advance-record`) afterwards.
 abbrev pub advance-answer : Unpacked → (image replies buffer : List ℕ) → (place : ℕ) → Advanced
 advance-answer (Held s) image rs buffer place =
     cond (eqb (held-number (Held s) (length image) (length rs) (length buffer) place) 0) (taken-answer (exchange-at s image) rs)
@@ -69,8 +71,8 @@ advance-record (Held s) image rs buffer place r =
     cond (eqb (held-number (Held s) (length image) (length rs) (length buffer) place) 0) (packed (session-fed s image rs)) r
 advance-record Refused image rs buffer place r = r
 
--- Asking. The image is not lent. The figure goes by the point and not by the image's bytes, so one of the
--- session's length that is all 0 stands for it (`Figure-of-any` in Claims).
+-- ASKING. A question is not lent the image. The figure goes by the point and not by the image's bytes, so an
+-- image of the session's length that is all 0 stands for it (`Figure-of-any` in specs/Claims.antt).
 abbrev pub blank : Session → List ℕ
 blank s = replicate (image-length s) 0
 
@@ -79,6 +81,8 @@ abbrev pub asked-number : Unpacked → ℕ
 asked-number (Held s) = 0
 asked-number Refused = bad-record
 
+-- what a question is answered: the session's number, and the figure of the most steps to come; 6 and 0 for a
+-- bad record
 abbrev pub remaining-answer : Unpacked → Remaining
 remaining-answer (Held s) = record { number = outcome-of (exchange-at s (blank s)) .number; steps = figure session-limits (position s (blank s)) }
 remaining-answer Refused = record { number = bad-record; steps = 0 }

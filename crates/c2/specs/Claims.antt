@@ -1,6 +1,6 @@
 -- What is claimed of a session whose replies come in parts, by the definitions that the calls meet (demand 2,
 -- and the first half of demand 3); of the records that calls write; and of the figure that a question tells.
--- Types alone: `Claimed` and `Asking` in proofs/ prove each.
+-- Types alone: proofs/Laws/Claims proves each, and proofs/Laws/StepsLeft `Figure-of-any`.
 use mathlib.Core.Path.{_≡_}
 use mathlib.Core.Bool.{true}
 use mathlib.Core.List.{List, _++_}
@@ -25,9 +25,9 @@ use Rattle.c2.specs.Calls.{blank}
 abbrev pub session-after : Settings → (first : ℕ) → (image replies : List ℕ) → Session
 session-after t first image rs = session-fed (opened-session t first (length image)) image rs
 
--- Its settings and pages are those of the opening; its record is taken and holds it, with the image of the
--- opening; it stands at the point of the order that these replies reach; and what it leaves to say is what
--- they leave of the exchange of the session's order.
+-- The session that was opened, after replies: its settings and pages are those of the opening; its record is
+-- taken and holds it, with the image of the opening; it stands at the point of the order that the replies
+-- reach; and what it leaves to say is what they leave of the exchange of the session's order.
 pub record Follows (t : Settings) (first : ℕ) (image replies : List ℕ) : Type 0 where
   pub settings : session-after t first image replies .settings ≡ t
   pub first-page : session-after t first image replies .first ≡ first
@@ -37,12 +37,12 @@ pub record Follows (t : Settings) (first : ℕ) (image replies : List ℕ) : Typ
   pub point : position (session-after t first image replies) image ≡ point-after session-limits t first image replies
   pub left : exchange-at (session-after t first image replies) image ≡ fed (exchange-of session-limits t first image) replies
 
--- so it is after an accepted opening and any replies
+-- After an accepted opening and any replies the session follows the exchange.
 abbrev pub Replies-follow : Type 0
 Replies-follow = (t : Settings) (first : ℕ) (image replies : List ℕ) → t .id < 256 → t .fpdat < 256 → Bytes image
     → opening-refusal t first (length image) ≡ 0 → Follows t first image replies
 
--- and replies in two parts lead where they lead in a row
+-- Replies in two parts lead where they lead in a row.
 abbrev pub Parts-join : Type 0
 Parts-join = (s : Session) (image qs rs : List ℕ) → session-fed (session-fed s image qs) image rs ≡ session-fed s image (qs ++ rs)
 

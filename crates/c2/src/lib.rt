@@ -1,5 +1,5 @@
 // The calls in C. The driver's three: a session is opened, takes replies, and tells how much is left; nothing
-// is kept between them but the record. And the two of the modelled target, whose state is handed in and back.
+// is kept between them but the record. The modelled target's two: its state is handed in and back.
 use c2_session::Session;
 
 mod advance;
@@ -13,14 +13,15 @@ pub use open::c2_open;
 pub use target::c2_target_fresh;
 pub use target::c2_target_step;
 
-// The number of an opening, and its first step: 4, or 6 when refused.
+// What an opening answers: its number, and the first step, 4, or 6 when refused.
 #[repr(C)]
 pub struct Opened {
     pub number: u32,
     pub step: u32,
 }
 
-// The session's number, the image offset for 14, and how many of the replies were taken.
+// What a call that takes replies answers: the session's number, the image offset for 14, and how many of the
+// replies were taken.
 #[repr(C)]
 pub struct Advanced {
     pub number: u32,
@@ -28,7 +29,7 @@ pub struct Advanced {
     pub taken: u64,
 }
 
-// The session's number, and the most steps still to come with a reply.
+// What a question is answered: the session's number, and the figure of the most steps to come.
 #[repr(C)]
 pub struct Remaining {
     pub number: u32,

@@ -88,7 +88,7 @@ fn lead_task(act: u16) -> Task
     Task::Pause
 }
 
-// The acts of a put: the byte, then the poll.
+// What an act of a put does: a put is two acts, the byte and then the poll.
 fn put_task(act: u16) -> Task
     ensures { λ r. ⌜ r ≡ put-task act ⌝ }
 {

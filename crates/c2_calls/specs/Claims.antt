@@ -1,5 +1,5 @@
--- Demand 3, as far as it needs no target: what is claimed of whole lists of calls. Types alone: `Claimed` in
--- proofs/ proves each.
+-- Demand 3, as far as it needs no target: what is claimed of whole lists of calls. Types alone:
+-- proofs/Laws/Claims proves each.
 use mathlib.Core.Path.{_≡_}
 use mathlib.Core.List.{List, [], _∷_}
 use Prim.Native.Nat.{ℕ, _≤_}
@@ -19,14 +19,14 @@ Lists-are-replies = (t : Settings) (first : ℕ) (image held : List ℕ) → Ope
     → (calls : List Call) → May-follow image (opened held image t first) calls
     → told (opened held image t first) calls ≡ by-replies t first image (in-a-row calls)
 
--- So lists with the same replies in a row are alike,
+-- Lists with the same replies in a row are alike.
 abbrev pub Lists-alike : Type 0
 Lists-alike = (t : Settings) (first : ℕ) (image held : List ℕ) → Opening t first image → length held ≡ 32
     → (calls others : List Call) → May-follow image (opened held image t first) calls → May-follow image (opened held image t first) others
     → in-a-row calls ≡ in-a-row others
     → told (opened held image t first) calls ≡ told (opened held image t first) others
 
--- and like a single call that takes them all.
+-- A list is like a single call that takes its replies in a row.
 abbrev pub Like-one-call : Type 0
 Like-one-call = (t : Settings) (first : ℕ) (image held buffer : List ℕ) → Opening t first image → length held ≡ 32
     → (calls : List Call) → May-follow image (opened held image t first) calls → length (in-a-row calls) ≤ length buffer
@@ -47,7 +47,7 @@ Unchanged (asking r) = remaining-answer (unpacked 20 256 r) ≡ record { number 
 abbrev pub Refused-unchanged : Type 0
 Refused-unchanged = (c : Call) → (refusal c ≡ 0 → ⊥) → Unchanged c
 
--- so it is with each refused call of a list
+-- Each refused call of a list changes no lent byte, takes no reply and gives its number.
 abbrev pub Each-unchanged : List Call → Type 0
 Each-unchanged [] = Unit {0}
 Each-unchanged (c ∷ cs) = ((refusal c ≡ 0 → ⊥) → Unchanged c) × Each-unchanged cs

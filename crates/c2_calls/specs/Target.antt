@@ -16,12 +16,12 @@ use Rattle.c2_play.specs.Programmed.{laid-over}
 use Rattle.c2.specs.Calls.{opening-answer}
 use Rattle.c2_calls.specs.Calls.{Call, Told, in-a-row}
 
--- the target's replies to steps in a row,
+-- the target's replies to steps in a row
 unfoldable pub own-replies : Settings → (delays : List ℕ) → State → (flash steps : List ℕ) → List ℕ
 own-replies t ds s f [] = []
 own-replies t ds s f (x ∷ xs) = model-answer t s f ds x .reply ∷ own-replies t ds (model-answer t s f ds x .target) (model-flash t s f ds x) xs
 
--- and what they leave
+-- What steps in a row leave: the target's state (`state-after`), and the flash (`flash-after`).
 unfoldable pub state-after : Settings → (delays : List ℕ) → State → (flash steps : List ℕ) → State
 state-after t ds s f [] = s
 state-after t ds s f (x ∷ xs) = state-after t ds (model-answer t s f ds x .target) (model-flash t s f ds x) xs
@@ -38,11 +38,12 @@ pub record Ready (t : Settings) (ds f : List ℕ) (s : State) : Type 0 where
   pub flash : Bytes f
   pub delays : Bytes ds
 
--- The replies that the calls took, and the steps that they answer: the opening's, 4, and each that was
--- written but the last, which awaits its reply or is 6 and has none.
+-- the replies that the calls took
 abbrev pub taken-replies : Told → List Call → List ℕ
 taken-replies x calls = take (x .taken) (in-a-row calls)
 
+-- the steps that the replies taken answer: the opening's, 4, and each that was written but the last, which
+-- awaits its reply or is 6 and has none
 abbrev pub answered : Told → List ℕ
 answered x = take (x .taken) (opening-answer 0 .step ∷ x .steps)
 

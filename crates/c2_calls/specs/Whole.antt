@@ -1,4 +1,5 @@
--- Demand 3, whole: lists of calls against the target. Types alone: `Programmed` in proofs/ proves each.
+-- Demand 3 over an image from a first page on: lists of calls against the target. Types alone:
+-- proofs/Laws/Whole proves each. The crate c2_whole states it over a job, and with request h.
 use mathlib.Core.Path.{_≡_}
 use mathlib.Core.List.{List}
 use Prim.Native.Nat.{ℕ, _*_, _≤_}
@@ -34,8 +35,7 @@ abbrev pub Calls-program : Type 0
 Calls-program = (t : Settings) (first : ℕ) (image held : List ℕ) → Opening t first image → length held ≡ 32
     → (calls : List Call) → May-follow image (opened held image t first) calls → Whole t first image held calls
 
--- There are such lists, so the claim is about something: whatever the target, one call that takes its replies
--- to the end.
+-- There are lists that `Whole` is about: whatever the target, one call that takes its own replies to the end.
 pub record Some-calls (t : Settings) (first : ℕ) (image held ds f : List ℕ) (s : State) : Type 0 where
   pub calls : List Call
   pub follow : May-follow image (opened held image t first) calls
@@ -46,11 +46,11 @@ abbrev pub Calls-exist : Type 0
 Calls-exist = (t : Settings) (first : ℕ) (image held : List ℕ) → Opening t first image → length held ≡ 32
     → (ds f : List ℕ) (s : State) → Ready t ds f s → Some-calls t first image held ds f s
 
--- a fresh target is one that a session may meet, with any flash of size times count bytes and any delays
+-- A fresh target is one that a session may meet, with any flash of size times count bytes and any delays.
 abbrev pub Fresh-ready : Type 0
 Fresh-ready = (t : Settings) (ds f : List ℕ) → settings-refusal t ≡ 0 → length f ≡ t .size * t .count → Bytes f → Bytes ds → Ready t ds f (state-of fresh)
 
--- and wherever the replies stop, the target is left as one that another session may meet
+-- Wherever the replies stop, the target is left as one that another session may meet.
 abbrev pub Left-ready : Type 0
 Left-ready = (t : Settings) (first : ℕ) (image held : List ℕ) → Opening t first image → length held ≡ 32
     → (calls : List Call) → May-follow image (opened held image t first) calls

@@ -1,5 +1,5 @@
 -- A session cut after any number of steps given to the target (request h): which pages are as before, which
--- hold their image.
+-- hold their image, and what a new session makes of it.
 use mathlib.Core.Path.{_≡_}
 use mathlib.Core.List.{List, _∷_, map}
 use Prim.Native.Nat.{ℕ, suc, _-_, _<_, _≤_}
@@ -41,6 +41,7 @@ pub record Cut (l : Limits) (s : Settings) (ps : List Page) (own : List ℕ) (n 
   pub one : (i j : ℕ) (p q : Page) → At ps i p → At ps j q → Begun l s ps own n i → (Read-back l s ps own n i → ⊥)
       → Begun l s ps own n j → (Read-back l s ps own n j → ⊥) → i ≡ j
 
+-- Wherever a session is cut that meets a target: `Cut` holds of the flash.
 abbrev pub Cuts : Type 0
 Cuts = (l : Limits) (u : Setup) (ps : List Page) (t : Target) (f : List ℕ)
     → Meets l u ps t f → (n : ℕ)
@@ -67,14 +68,15 @@ Agains = (l : Limits) (u : Setup) (ps : List Page) (t : Target) (f : List ℕ)
 abbrev pub sent : Exchange → (replies : List ℕ) → List ℕ
 sent e rs = asks e ∷ steps e rs
 
--- The same by replies: whatever they are, if each taken is the target's own to the step before. The target
--- gets the first step and those that the replies bring; n is any number of these.
+-- `Cuts` by replies: whatever they are, if each taken is the target's own to the step before. The target gets
+-- the first step and those that the replies bring; n is any number of these.
 abbrev pub Cuts-by-replies : Type 0
 Cuts-by-replies = (l : Limits) (u : Setup) (ps : List Page) (t : Target) (f replies : List ℕ)
     → Meets l u ps t f
     → Own-replies u t f (exchange-over l (u .settings) ps) replies → (n : ℕ) → n ≤ suc (taken (exchange-over l (u .settings) ps) replies)
     → Cut l (u .settings) ps replies n f (left-by u t f (take n (sent (exchange-over l (u .settings) ps) replies)) .flash)
 
+-- `Agains` by replies: whatever they are, if each taken is the target's own to the step before.
 abbrev pub Agains-by-replies : Type 0
 Agains-by-replies = (l : Limits) (u : Setup) (ps : List Page) (t : Target) (f replies : List ℕ)
     → Meets l u ps t f

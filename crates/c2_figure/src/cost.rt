@@ -35,7 +35,7 @@ pub(crate) fn task_cost(task: Task) -> usize
     }
 }
 
-// The blocks of a page, written or read.
+// The most steps of the blocks of a page, written or read.
 pub(crate) fn page_blocks(size: u32) -> usize
     ensures { λ r. ⌜ r ≡ blocks-by-size 20 256 size ⌝ }
     ensures { λ r. ⌜ r < 17592186044416 ⌝ }
@@ -50,7 +50,7 @@ fn page_cost(size: u32) -> usize
     ERASE + 2 * page_blocks(size)
 }
 
-// So many pages, and the last reset.
+// The most steps of so many pages, and of the last reset.
 pub(crate) fn pages_cost(size: u32, pages: u16) -> usize
     ensures { λ r. ⌜ r ≡ pages * page-cost 20 256 (size / 256) + 1 ⌝ }
     ensures { λ r. ⌜ r ≤ 2305843009213693952 ⌝ }

@@ -1,4 +1,4 @@
-// The most steps still to come.
+// The figure of the most steps to come, of a session.
 ghost use mathlib.Core.Path.{_≡_};
 ghost use Prim.Native.Nat.{_<_, _≤_};
 ghost use Rattle.c2_figure.specs.Code.Left.{wait-left, poll-left, act-left, lead-left, bytes-left, stage-left, pages-left, blocks-left, after-left, point-left, steps-left};

@@ -11,7 +11,7 @@ use Rattle.c2_session.specs.declared.Session.{Session}
 use Rattle.c2_session.specs.Code.Advance.{advanced}
 use Rattle.c2_position.specs.Position.{position}
 
--- the session at its first step, the reset
+-- the session that an opening begins, at its first step, the reset
 unfoldable pub opened-session : Settings → (first length : ℕ) → Session
 opened-session t first n = record { settings = t; first = first; pages = n / t .size; point = Running Lead 0 0 0 0 0 0 }
 

@@ -14,7 +14,7 @@ use Rattle.c2_wire.specs.Frames.{Strobe, plain, frame}
 use Rattle.c2_wire.specs.declared.Frame.the-variants.{AddressWrite, DataWrite}
 
 pub data Act : Type 0 where
-  -- a frame, or a step that stands in no frame, from which no byte is taken
+  -- a frame, or a step that stands in no frame; no byte is taken from it
   send : List Strobe → Act
   -- Address Reads until the status passes this test
   poll : (ℕ → Bool) → Act
@@ -62,14 +62,14 @@ unfoldable pub compares : (offset : ℕ) → List ℕ → List Act
 compares o [] = []
 compares o (b ∷ bs) = get b (record { number = compare-differs; offset = o }) ++ compares (suc o) bs
 
--- the length code of up to 256 bytes, and the bytes that a code means
+-- `length-code` is the length code of 1 to 256 bytes, `coded-length` the number of bytes that a code means
 unfoldable pub length-code : ℕ → ℕ
 length-code n = n % 256
 
 unfoldable pub coded-length : ℕ → ℕ
 coded-length c = cond (eqb c 0) 256 c
 
--- bytes at an address of the flash, and at an offset of the image
+-- A block: bytes at an address of the flash, and at an offset of the image.
 pub record Block : Type 0 where
   pub address : ℕ
   pub offset : ℕ

@@ -1,5 +1,5 @@
--- What is claimed of a session's exchange and of the figure of the most steps to come. Types alone: `Claimed`
--- in proofs/ proves each.
+-- What is claimed of a session's exchange and of the figure of the most steps to come, document 01's own term
+-- ("How much is left"). Types alone: proofs/Laws/Claims proves each.
 use mathlib.Core.Path.{_≡_}
 use mathlib.Core.Bool.{true}
 use mathlib.Core.List.{List, _++_}
@@ -23,7 +23,7 @@ pub record Opening (s : Settings) (first : ℕ) (image : List ℕ) : Type 0 wher
   pub bytes : Bytes image
   pub accepted : opening-refusal s first (length image) ≡ 0
 
--- the point of a session after replies, and its exchange
+-- the point of a session after replies (`point-after`), and the exchange of its whole order (`exchange-of`)
 abbrev pub point-after : Limits → Settings → (first : ℕ) → (image replies : List ℕ) → Point
 point-after l s first image rs = reached l (begin (session-order s first image)) rs
 
@@ -59,23 +59,23 @@ abbrev pub Figure-zero : Type 0
 Figure-zero = (l : Limits) (s : Settings) (first : ℕ) (image : List ℕ) → Positive l → Opening s first image → (rs : List ℕ)
     → Zero-when-ended l (point-after l s first image rs)
 
--- each reply taken lowers it by at least 1
+-- Each reply taken lowers the figure by at least 1.
 abbrev pub Figure-falls : Type 0
 Figure-falls = (l : Limits) (s : Settings) (first : ℕ) (image : List ℕ) → Positive l → Opening s first image → (rs : List ℕ) (r : ℕ)
     → 0 < figure l (point-after l s first image rs)
     → figure l (next l (point-after l s first image rs) r) < figure l (point-after l s first image rs)
 
--- no replies whatever take more
+-- No replies whatever take more steps than the figure.
 abbrev pub Figure-bounds : Type 0
 Figure-bounds = (l : Limits) (s : Settings) (first : ℕ) (image : List ℕ) → Positive l → Opening s first image → (rs qs : List ℕ)
     → taken (left-to-say l (point-after l s first image rs)) qs ≤ figure l (point-after l s first image rs)
 
--- at the start it is 152 + k × (18,648 + 2 × B × 813,784) for k pages of B blocks,
+-- The figure at the start is 152 + k × (18,648 + 2 × B × 813,784) for k pages of B blocks.
 abbrev pub Figure-starts : Type 0
 Figure-starts = (s : Settings) (first : ℕ) (image : List ℕ) → Opening s first image
     → figure session-limits (begin (session-order s first image)) ≡ 152 + length image / s .size * (18648 + 2 * (s .size / 256) * 813784)
 
--- and some replies reach it, all of them taken, and end the session done
+-- Replies that reach the figure of the start: all of them are taken, and they end the session done.
 pub record Reaching (l : Limits) (s : Settings) (first : ℕ) (image : List ℕ) : Type 0 where
   pub replies : List ℕ
   pub count : taken (exchange-of l s first image) replies ≡ figure l (begin (session-order s first image))

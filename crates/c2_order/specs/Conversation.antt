@@ -10,7 +10,7 @@ use Rattle.c2_wire.specs.Frames.{frame, framed}
 use Rattle.c2_wire.specs.declared.Frame.the-variants.{AddressRead, DataRead}
 use Rattle.c2_order.specs.Acts.{Act, send, poll, expect}
 
--- the most strobes of a WAIT and the most reads of a poll
+-- The limits of a session: the most strobes of a WAIT, and the most reads of a poll.
 pub record Limits : Type 0 where
   pub wait : ℕ
   pub reads : ℕ
@@ -23,7 +23,7 @@ pub record Positive (l : Limits) : Type 0 where
   pub wait : 0 < l .wait
   pub reads : 0 < l .reads
 
--- 20 WAIT strobes and 256 poll reads
+-- The limits of document 01: 20 WAIT strobes and 256 poll reads.
 abbrev pub session-limits : Limits
 session-limits = limits 20 256
 
@@ -32,6 +32,7 @@ unfoldable pub polling : (wait-limit left : ℕ) → (ℕ → Bool) → Exchange
 polling w zero ok k = ended (outcome poll-limit-reached)
 polling w (suc n) ok k = framed w (frame AddressRead 0) (λ s. cond (ok s) k (polling w n ok k))
 
+-- what is said on the wire over a list of acts, one after the other; after the last the session is done
 unfoldable pub conversation : Limits → List Act → Exchange
 conversation l [] = ended (outcome done)
 conversation l (send ss ∷ acts) = framed (l .wait) ss (λ _. conversation l acts)

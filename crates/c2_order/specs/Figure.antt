@@ -1,6 +1,6 @@
--- The most steps still to come with a reply (document 01, "How much is left"): each WAIT counts to its limit
--- and each poll to its reads, less those done. It goes by the point alone: a sampled bit that already decides
--- a poll or a compare does not lower it.
+-- The figure of the most steps to come, document 01's own term ("How much is left"): each WAIT counts to its
+-- limit and each poll to its reads, less those done. It goes by the point alone: a sampled bit that already
+-- decides a poll or a compare does not lower it.
 use mathlib.Core.List.{List, [], _∷_}
 use Prim.Native.Nat.{ℕ, suc, _+_, _-_, _*_}
 use Rattle.c2_wire.specs.Frames.{frame}
@@ -26,6 +26,7 @@ unfoldable pub costs : Limits → List Act → ℕ
 costs l [] = 0
 costs l (a ∷ acts) = cost l a + costs l acts
 
+-- the figure at a point of the order
 unfoldable pub figure : Limits → Point → ℕ
 figure l (ended o) = 0
 figure l (running a acts p) = strobes-left (l .wait) (strobes-of a) p + reads-left l a (p .count) + costs l acts

@@ -24,7 +24,7 @@ unfoldable pub rising : (first count : ℕ) → List ℕ
 rising first zero = []
 rising first (suc n) = first ∷ rising (suc first) n
 
--- each 256 bytes in rising order
+-- blocks of 256 bytes in rising order, so many of them
 unfoldable pub blocks : (count address offset : ℕ) → List ℕ → List Block
 blocks zero a o bs = []
 blocks (suc n) a o bs = record { address = a; offset = o; bytes = take 256 bs } ∷ blocks n (a + 256) (o + 256) (drop 256 bs)
@@ -36,20 +36,21 @@ joined (acts ∷ rest) = acts ++ joined rest
 abbrev pub page-blocks : Settings → Page → List Block
 page-blocks s p = blocks (s .size / 256) (p .number * s .size) (p .offset) (p .bytes)
 
--- 1 and 2: the device ID, then the keys at 0x02 with no polling
+-- the lead, 1 and 2 of document 01's list: the device ID, then the keys at 0x02 with no polling
 unfoldable pub lead : Settings → List Act
 lead s =
     reset-pulse ∷ expect (s .id) (outcome other-device) ∷ reset-pulse ∷
     address-write 0x02 ∷ data-write 0x02 ∷ data-write 0x04 ∷ data-write 0x01 ∷ pause-20-ms ∷ []
 
--- 3: for each page erase it, write its blocks, read them back and compare
+-- the acts of a page, 3 of document 01's list: erase it, write its blocks, read them back and compare
 unfoldable pub page-acts : Settings → Page → List Act
 page-acts s p =
     erase (s .fpdat) (p .number)
     ++ joined (map (block-write (s .fpdat)) (page-blocks s p))
     ++ joined (map (block-read (s .fpdat)) (page-blocks s p))
 
--- the whole order; 4: a reset ends it
+-- the whole order over a list of pages: the lead, each page, and 4 of document 01's list, the reset that ends
+-- it
 unfoldable pub order : Settings → List Page → List Act
 order s ps = lead s ++ joined (map (page-acts s) ps) ++ reset-pulse ∷ []
 

@@ -25,7 +25,8 @@ unfoldable pub times : ℕ → List ℕ → List ℕ
 times zero xs = []
 times (suc n) xs = xs ++ times n xs
 
--- the replies to an Address Read that gives 0, OutReady and InBusy 0; 1, OutReady; 2, InBusy
+-- the replies to an Address Read that gives 0 (`reads-0`: OutReady and InBusy 0), 1 (`reads-1`: OutReady 1)
+-- or 2 (`reads-2`: InBusy 1)
 abbrev pub reads-0 : List ℕ
 reads-0 = replicate 3 1 ++ 0 ∷ 0 ∷ replicate 6 0 ++ 1 ∷ []
 
@@ -46,7 +47,7 @@ pub record Row : Type 0 where
 abbrev pub row : List ℕ → List ℕ → Row
 row g p = record { given = g; paper = p }
 
--- over any image of one page of 512, and any of 128 pages
+-- the table of P1 to P12, over any image of one page of 512 and any of 128 pages
 unfoldable pub table : (page device : List ℕ) → List Row
 table page device =
     -- P1: Address Write of 0x02

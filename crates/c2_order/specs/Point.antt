@@ -1,4 +1,5 @@
--- The point that a session has reached in its order, and what a reply makes of it.
+-- The point that a session has reached in its order, and what a reply makes of it (document 01, "Settings and
+-- session"): ID, status, compare and poll are judged on the reply to STOP, WAIT and bad replies at once.
 use mathlib.Core.Bool.{true, false, cond}
 use mathlib.Core.List.{List, [], _∷_}
 use Prim.Native.Nat.{ℕ, zero, suc, _+_, _-_}
@@ -16,8 +17,8 @@ use Rattle.c2_order.specs.Conversation.{Limits, polling, conversation}
 use Rattle.exchange.specs.Exchange as Shared
 
 pub data Point : Type 0 where
-  -- the acts still to be done, of which the first is begun, and the place in its frame; a poll counts its
-  -- unsatisfied reads there
+  -- the act that is begun, the acts after it, and the place in the act's frame; a poll counts its unsatisfied
+  -- reads there
   running : Act → List Act → Place → Point
   ended : Outcome → Point
 
@@ -27,21 +28,22 @@ strobes-of (send ss) = ss
 strobes-of (poll ok) = frame AddressRead 0
 strobes-of (expect x o) = frame DataRead 0
 
--- the first strobe of the next act, or the end
+-- the point at the first strobe of the first of these acts; after the last act the session is done
 unfoldable pub begin : List Act → Point
 begin [] = ended (outcome done)
 begin (a ∷ acts) = running a acts (place 0 0 0)
 
--- an unsatisfied read: the poll's next one, or the limit
+-- the point after an unsatisfied read of a poll: its next read, or the poll's limit
 unfoldable pub again : Limits → Act → List Act → (reads : ℕ) → Point
 again l a acts n = cond (ltb (n + 1) (l .reads)) (running a acts (place 0 (n + 1) 0)) (ended (outcome poll-limit-reached))
 
--- the act's frame has ended with this byte
+-- the point after an act's frame has ended with this byte
 unfoldable pub judged : Limits → Act → List Act → (reads byte : ℕ) → Point
 judged l (send ss) acts n x = begin acts
 judged l (poll ok) acts n x = cond (ok x) (begin acts) (again l (poll ok) acts n)
 judged l (expect y o) acts n x = cond (eqb x y) (begin acts) (ended o)
 
+-- the point after a reply has moved the place in an act's frame
 unfoldable pub settled : Limits → Act → List Act → (reads : ℕ) → Moved → Point
 settled l a acts n (Within p) = running a acts p
 settled l a acts n (Stopped x) = judged l a acts n x

@@ -1,5 +1,5 @@
--- How a point stands: it runs, with 0, or it has ended with its number and the image offset for 14. And, for
--- the code, what the act at a point does.
+-- How a session stands at its point: it runs, with number 0, or it has ended with its number and the image
+-- offset for 14 (document 01, "Numbers that come back").
 use mathlib.Core.Bool.{Bool, true, false}
 use Prim.Native.Nat.{ℕ}
 use Rattle.c2_session.specs.declared.Point.{Point}

@@ -1,5 +1,5 @@
-// How a session stands: running, and what its act does, or ended with its outcome. And the same session put
-// together anew, for loops.
+// How a session stands: running, and what its act does, or ended with its outcome. For loops also the session
+// put together anew, from its numbers.
 ghost use mathlib.Core.Path.{_≡_};
 ghost use Rattle.c2_outcome.specs.Outcome.{is-running, point-outcome};
 ghost use Rattle.c2_outcome.specs.Code.Task.{task-at, task-next};
@@ -79,8 +79,8 @@ pub fn task_at(point: Point) -> Task
     }
 }
 
-// The same, where it is known for the point before: so it is told anew only where an act begins, or a poll
-// anew.
+// What the act at a point does, for a caller that knows it of the point before: it is found anew only where
+// an act begins, or a poll's next read, at strobe 0.
 pub fn task_next(point: Point, task: Task) -> Task
     ensures { λ r. ⌜ r ≡ task-next point task ⌝ }
 {
@@ -137,8 +137,8 @@ fn same_point(point: Point) -> Point
     }
 }
 
-// The same session, put together from its numbers: copied whole it would take along the gaps between them, at
-// every turn of a loop.
+// The same session, put together from its numbers: a session copied whole would take along the gaps between
+// its numbers, at every turn of a loop.
 pub fn same_session(s: Session) -> Session
     ensures { λ r. ⌜ r ≡ s ⌝ }
 {

@@ -14,7 +14,7 @@ use Rattle.c2_target.specs.Strobes.{Turn, turn}
 use Rattle.c2_target.specs.Target.{answer, flash-after}
 use Rattle.c2_target.specs.Steps.{own-replies, left-by}
 
--- how an exchange ends, and the target and the flash then
+-- How an exchange ends, and the target and the flash then.
 pub record Played : Type 0 where
   pub outcome : Outcome
   pub target : Target
@@ -25,7 +25,7 @@ unfoldable pub against : (Target → List ℕ → Step → Turn) → Exchange �
 against step (ended o) t f = record { outcome = o; target = t; flash = f }
 against step (ask (at g s) k) t f = against step (k (step t f s .reply)) (step t f s .target) (step t f s .flash)
 
--- the replies that it is given
+-- the replies that an exchange is given by whatever answers its steps
 unfoldable pub run-replies : (Target → List ℕ → Step → Turn) → Exchange → Target → List ℕ → List ℕ
 run-replies step (ended o) t f = []
 run-replies step (ask (at g s) k) t f =
@@ -35,6 +35,7 @@ run-replies step (ask (at g s) k) t f =
 unfoldable pub whole-step : Setup → Target → List ℕ → Step → Turn
 whole-step u t f s = turn (eqb (answer u t f (code s) .reply) 1) (answer u t f (code s) .target) (flash-after u t f (code s))
 
+-- an exchange played to its end against the target
 abbrev pub play : Setup → Exchange → Target → List ℕ → Played
 play u e t f = against (whole-step u) e t f
 

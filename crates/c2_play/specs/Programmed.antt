@@ -17,9 +17,9 @@ use Rattle.c2_target.specs.Delays.{Setup}
 use Rattle.c2_target.specs.Known.{known}
 use Rattle.c2_play.specs.Playing.{Played, play, Own-replies, played-after}
 
--- The target, fresh or in any state that exists, with no mark; any flash of size times count bytes, any
--- delays. The session's WAIT limit is no lower than the target's, and its reads are enough for a delay of one
--- byte.
+-- What a session supposes of the target: it is fresh or in any state that exists, with no mark, any flash of
+-- size times count bytes and any delays. The session's WAIT limit is no lower than the target's, and its
+-- reads are enough for a delay of one byte.
 pub record Met (limits : Limits) (u : Setup) (t : Target) (f : List ℕ) : Type 0 where
   pub state : known u t f ≡ true
   pub unmarked : t .collision ≡ false
@@ -33,7 +33,7 @@ pub record Met (limits : Limits) (u : Setup) (t : Target) (f : List ℕ) : Type 
 unfoldable pub laid-over : (address : ℕ) → (image flash : List ℕ) → List ℕ
 laid-over a image f = take a f ++ (image ++ drop (a + length image) f)
 
--- the session has ended done, the flash is this one, and no collision is marked
+-- The session has ended done, the flash is this one, and no collision is marked.
 pub record Programmed (flash : List ℕ) (x : Played) : Type 0 where
   pub ended : x .outcome ≡ outcome done
   pub holds : x .flash ≡ flash
@@ -44,15 +44,15 @@ abbrev pub Programs : Type 0
 Programs = (l : Limits) (u : Setup) (first : ℕ) (image : List ℕ) (t : Target) (f : List ℕ) → Opening (u .settings) first image → Met l u t f
     → Programmed (laid-over (first * u .settings .size) image f) (play u (exchange-of l (u .settings) first image) t f)
 
--- So does one whose replies taken are each the target's own to the step before, if there are as many as the
--- most steps to come at the opening.
+-- A session whose replies taken are each the target's own to the step before programs the target, if the
+-- replies are as many as the most steps to come at the opening.
 abbrev pub Own-replies-program : Type 0
 Own-replies-program = (l : Limits) (u : Setup) (first : ℕ) (image : List ℕ) (t : Target) (f replies : List ℕ)
     → Opening (u .settings) first image → Met l u t f → Own-replies u t f (exchange-of l (u .settings) first image) replies
     → figure l (begin (session-order (u .settings) first image)) ≤ length replies
     → Programmed (laid-over (first * u .settings .size) image f) (played-after u (exchange-of l (u .settings) first image) t f replies)
 
--- And wherever such replies stop, they leave a target that a session may meet again.
+-- Wherever replies stop that are the target's own, they leave a target that a session may meet again.
 abbrev pub Own-replies-leave : Type 0
 Own-replies-leave = (l : Limits) (u : Setup) (first : ℕ) (image : List ℕ) (t : Target) (f replies : List ℕ)
     → Opening (u .settings) first image → Met l u t f → Own-replies u t f (exchange-of l (u .settings) first image) replies

@@ -1,5 +1,5 @@
 -- Which sessions are within their ranges, in the words of document 01 ("What the driver keeps over sleep").
--- Types alone: `Ranges` in proofs/ proves the last.
+-- Types alone: proofs/Laws/Range proves `Ranges-are`.
 use mathlib.Core.Path.{_≡_}
 use mathlib.Core.Bool.{true}
 use mathlib.Core.Logic.{_↔_, _⊎_}
@@ -15,7 +15,7 @@ use Rattle.c2_session.specs.declared.Session.{Session}
 use Rattle.c2_acts.specs.Code.Acts.{task-of, acts-in}
 use Rattle.c2_range.specs.Range.{pages-in, blocks-in, strobes-in, reads-in, in-range}
 
--- what opening asks of settings and pages would pass (numbers 1 to 5),
+-- What opening asks of settings and pages would pass (numbers 1 to 5).
 pub record Opening-passes (t : Settings) (first pages : ℕ) : Type 0 where
   pub fpdat : 3 ≤ t .fpdat
   pub size : (t .size ≡ 512) ⊎ (t .size ≡ 1024)
@@ -24,8 +24,8 @@ pub record Opening-passes (t : Settings) (first pages : ℕ) : Type 0 where
   pub image : 1 ≤ pages
   pub inside : first + pages ≤ t .count
 
--- the point reached exists in the session's order; zeros seen in a WAIT are below its limit and unsatisfied
--- reads below theirs; bits not yet sampled are 0,
+-- A running session's point exists in its order; zeros seen in a WAIT are below its limit and unsatisfied
+-- reads below theirs; bits not yet sampled are 0.
 pub record Point-exists (wait-limit poll-limit size pages : ℕ) (g : Stage) (i j k q c v : ℕ) : Type 0 where
   pub page : i < pages-in g pages
   pub block : j < blocks-in g size
@@ -34,7 +34,7 @@ pub record Point-exists (wait-limit poll-limit size pages : ℕ) (g : Stage) (i 
   pub count : c < count-limit wait-limit (reads-in poll-limit (task-of g k)) (strobe-at (strobes-in (task-of g k)) q)
   pub bits : v < 2 ^ samples (take q (strobes-in (task-of g k)))
 
--- and an outcome is one that ends a session, with an offset inside the image for 14 and 0 otherwise
+-- An outcome is one that ends a session, with an offset inside the image for 14 and 0 otherwise.
 pub record Outcome-stands (bytes n o : ℕ) : Type 0 where
   pub number : (n ≡ done) ⊎ ((bad-reply ≤ n) × (n ≤ no-image-byte))
   pub inside : n ≡ compare-differs → o < bytes
@@ -48,6 +48,6 @@ pub record Within-ranges (wait-limit poll-limit : ℕ) (s : Session) : Type 0 wh
   pub opening : Opening-passes (s .settings) (s .first) (s .pages)
   pub point : Point-stands wait-limit poll-limit (s .settings .size) (s .pages) (s .point)
 
--- in range means exactly this
+-- `in-range` means exactly `Within-ranges`.
 abbrev pub Ranges-are : Type 0
 Ranges-are = (w l : ℕ) (s : Session) → in-range w l s ≡ true ↔ Within-ranges w l s

@@ -1,5 +1,4 @@
--- Which values are a session within its ranges (document 01, "What the driver keeps over sleep"), in its
--- order.
+-- Which values are a session within its ranges (document 01, "What the driver keeps over sleep").
 use mathlib.Core.Bool.{Bool, cond, _&&_, _||_}
 use mathlib.Core.List.{List, [], _∷_}
 use Prim.Native.Nat.{ℕ, _*_, _/_, _^_}
@@ -21,7 +20,8 @@ use Rattle.c2_session.specs.declared.Point.the-variants.{Running, Ended}
 use Rattle.c2_session.specs.declared.Session.{Session}
 use Rattle.c2_acts.specs.Code.Acts.{task-of, acts-in}
 
--- how many pages and blocks of a page a stage has; one that is not in use is 0
+-- how many pages a stage goes through (`pages-in`), and how many blocks of a page (`blocks-in`): 1 where that
+-- number is not in use and is 0
 abbrev pub pages-in : Stage → (pages : ℕ) → ℕ
 pages-in Lead n = 1
 pages-in Erase n = n
@@ -60,34 +60,37 @@ reads-in r Ident = 1
 reads-in r Status = 1
 reads-in r Compare = 1
 
--- a place in a frame: the strobe exists; zeros seen in a WAIT are below its limit, unsatisfied reads below
--- theirs, and other counts 0; bits not yet sampled are 0
+-- whether a place is in range: the strobe exists; zeros seen in a WAIT are below its limit, unsatisfied reads
+-- below theirs, and other counts 0; bits not yet sampled are 0
 unfoldable pub place-in-range : (wait-limit reads : ℕ) → List Strobe → (strobe count bits : ℕ) → Bool
 place-in-range w r ss q c v =
     ltb q (length ss) && ltb c (count-limit w r (strobe-at ss q)) && ltb v (2 ^ samples (take q ss))
 
--- the point exists in the session's order
+-- whether a running session's point exists in its order
 unfoldable pub running-in-range : (wait-limit poll-limit size pages : ℕ) → Stage → (page block act strobe count bits : ℕ) → Bool
 running-in-range w r size pages g i j k q c v =
     ltb i (pages-in g pages) && ltb j (blocks-in g size) && ltb k (acts-in g)
     && place-in-range w (reads-in r (task-of g k)) (strobes-in (task-of g k)) q c v
 
--- an outcome is one that ends a session (9 to 15, and 32), with an offset inside the image for 14 and 0
--- otherwise
+-- whether a number is an outcome that ends a session: 9 to 15, and 32
 unfoldable pub ends-session : (number : ℕ) → Bool
 ends-session n = eqb n done || (leb bad-reply n && leb n no-image-byte)
 
+-- what an outcome's offset is below: the image's length for 14, and 1 for any other, so that it is 0
 unfoldable pub offsets-of : (number bytes : ℕ) → ℕ
 offsets-of n bytes = cond (eqb n compare-differs) bytes 1
 
+-- whether an outcome is in range
 unfoldable pub ended-in-range : (bytes number offset : ℕ) → Bool
 ended-in-range bytes n o = ends-session n && ltb o (offsets-of n bytes)
 
+-- whether a point is in range
 abbrev pub point-in-range : (wait-limit poll-limit size pages : ℕ) → Point → Bool
 point-in-range w r size pages (Running g i j k q c v) = running-in-range w r size pages g i j k q c v
 point-in-range w r size pages (Ended n o) = ended-in-range (size * pages) n o
 
--- what opening asks of settings and pages would pass, and the point is one of the session's
+-- whether a session is in range: what opening asks of settings and pages would pass, and the point is in
+-- range
 unfoldable pub in-range : (wait-limit poll-limit : ℕ) → Session → Bool
 in-range w r s =
     eqb (opening-refusal (s .settings) (s .first) (s .settings .size * s .pages)) 0

@@ -15,7 +15,7 @@ use c2_wire::Place;
 use c2_wire::READ_WAIT;
 use c2_wire::WRITE_WAIT;
 
-// The zeros of the WAIT at this strobe are below its limit, and elsewhere there is nothing to count.
+// What a count is below at a strobe: in the WAIT its limit; elsewhere there is nothing to count, so 1.
 fn limit_from(waits: usize, wait: usize, strobe: usize) -> usize
     ensures { λ r. ⌜ r ≡ limit-from waits wait strobe ⌝ }
 {
@@ -39,7 +39,7 @@ fn sampled_from(first: usize, strobe: usize) -> usize
     8
 }
 
-// What the bits are below where so many are sampled.
+// What the value of the sampled bits is below, where so many are sampled.
 fn bits_limit(sampled: usize) -> usize
     requires { ⌜ sampled ≤ 8 ⌝ }
     ensures { λ r. ⌜ r ≡ 2 ^ sampled ⌝ }
@@ -60,7 +60,7 @@ fn within(strobes: usize, limit: usize, sampled: usize, place: Place) -> bool
     false
 }
 
-// A place of an Address Read, and one of a Data Read.
+// Whether a place is one of an Address Read (`address_read`), or of a Data Read (`data_read`).
 fn address_read(reads: usize, place: Place) -> bool
     ensures { λ r. ⌜ r ≡ below-bounds 12 reads (sampled-from 3 (place .strobe)) (place .strobe) (place .count) (place .bits) ⌝ }
 {

@@ -1,4 +1,4 @@
-// Which sessions are within their ranges.
+// Which sessions are within their ranges (document 01, "What the driver keeps over sleep").
 ghost use mathlib.Core.Path.{_≡_};
 ghost use Rattle.c2_acts.specs.Code.Acts.{acts-in};
 ghost use Rattle.c2_range.specs.Range.{pages-in, blocks-in, running-in-range, ends-session, offsets-of, ended-in-range, point-in-range, in-range};

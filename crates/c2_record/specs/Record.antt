@@ -35,7 +35,7 @@ fields-of (Running g i j k q c v) =
 fields-of (Ended n o) =
     record { number = n; offset = o; stage = 0; page = 0; block = 0; act = 0; strobe = 0; count = 0; bits = 0 }
 
--- a field of one byte; one of two bytes has its low byte first
+-- a field of one byte (`low`); a field of two bytes has its low byte first, then its high byte (`high`)
 abbrev pub low : ℕ → ℕ
 low x = x % 256
 
@@ -54,18 +54,18 @@ laid t first pages f =
 unfoldable pub packed : Session → List ℕ
 packed s = laid (s .settings) (s .first) (s .pages) (fields-of (s .point))
 
--- What the fields of any bytes say: a byte, two bytes,
+-- The numbers that any bytes say: a byte (`byte`), or two bytes, the low one first (`pair`).
 abbrev pub byte : List ℕ → ℕ → ℕ
 byte r i = getD r i 0
 
 abbrev pub pair : List ℕ → ℕ → ℕ
 pair r i = getD r i 0 + getD r (i + 1) 0 * 256
 
--- settings,
+-- the settings that any bytes say
 unfoldable pub settings-read : List ℕ → Settings
 settings-read r = record { id = byte r 0; fpdat = byte r 1; size = pair r 2; count = byte r 4 }
 
--- the fields of the point,
+-- the fields of the point that any bytes say
 unfoldable pub fields-read : List ℕ → Fields
 fields-read r =
     record {
@@ -80,38 +80,42 @@ fields-read r =
       bits = byte r 17;
     }
 
--- and of these the stage and the point, if there is one.
+-- the stage of a number, if it has one
 unfoldable pub stage-named : ℕ → Named
 stage-named n =
     cond (eqb n 0) (Of Lead)
     (cond (eqb n 1) (Of Erase) (cond (eqb n 2) (Of Write) (cond (eqb n 3) (Of Read) (cond (eqb n 4) (Of Close) Nothing))))
 
+-- the point of a running session that these fields tell, if they name a stage
 abbrev pub running-at : Named → Fields → Reached
 running-at (Of g) f = At (Running g (f .page) (f .block) (f .act) (f .strobe) (f .count) (f .bits))
 running-at Nothing f = Nowhere
 
+-- the point that these fields tell, if they tell one; with number 0 it is a running session's
 unfoldable pub point-of : Fields → Reached
 point-of f = cond (eqb (f .number) 0) (running-at (stage-named (f .stage)) f) (At (Ended (f .number) (f .offset)))
 
--- The session that the bytes say with this point.
+-- the session that any bytes say, with this point
 abbrev pub session-read : List ℕ → Point → Session
 session-read r p = record { settings = settings-read r; first = byte r 5; pages = byte r 6; point = p }
 
+-- whether two lists of bytes are the same
 unfoldable pub same : List ℕ → List ℕ → Bool
 same [] [] = true
 same [] (y ∷ ys) = false
 same (x ∷ xs) [] = false
 same (x ∷ xs) (y ∷ ys) = eqb x y && same xs ys
 
--- a session that is in range and whose record these bytes are
+-- the session that was read, if it is in range and these bytes are its record
 unfoldable pub checked : (wait-limit poll-limit : ℕ) → Session → List ℕ → Unpacked
 checked w l s r = cond (in-range w l s) (cond (same (packed s) r) (Held s) Refused) Refused
 
+-- the session at the point that was read, if there is a point
 abbrev pub taken-apart : (wait-limit poll-limit : ℕ) → Reached → List ℕ → Unpacked
 taken-apart w l (At p) r = checked w l (session-read r p) r
 taken-apart w l Nowhere r = Refused
 
--- The session that a record holds. `Claims` says of which records it is one: 32 bytes that are the packing of
--- a session in range.
+-- The session that a record holds. specs/Claims.antt says of which records it is one: 32 bytes that are the
+-- packing of a session in range.
 unfoldable pub unpacked : (wait-limit poll-limit : ℕ) → List ℕ → Unpacked
 unpacked w l r = taken-apart w l (point-of (fields-read r)) r

@@ -80,7 +80,7 @@ enum Named {
     Nothing,
 }
 
-// The point of such numbers, if they tell one.
+// The point that such numbers tell, if they tell one.
 enum Reached {
     At(Point),
     Nowhere,

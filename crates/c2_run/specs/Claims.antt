@@ -1,4 +1,4 @@
--- What is claimed of running a session against a fresh target. Types alone: `Budget` in proofs/ proves it.
+-- What is claimed of running a session against a fresh target. Types alone: proofs/Laws/Claims proves it.
 use mathlib.Core.Path.{_≡_}
 use mathlib.Core.Bool.{false}
 use mathlib.Core.List.{List}
@@ -15,8 +15,8 @@ use Rattle.c2_order.specs.Claims.{Opening}
 use Rattle.c2_play.specs.Programmed.{laid-over}
 use Rattle.c2_run.specs.Run.{run-answer, run-flash}
 
--- With a budget of as many replies as the most steps to come at the opening it ends done, without a mark, and
--- leaves the flash with the image laid over it.
+-- With a budget of as many replies as the most steps to come at the opening the run ends done, without a
+-- mark, and leaves the flash with the image laid over it.
 pub record Ran-well (t : Settings) (first : ℕ) (image f ds : List ℕ) (budget : ℕ) : Type 0 where
   pub ended : run-answer t first image f ds budget .number ≡ done
   pub clean : run-answer t first image f ds budget .collision ≡ false

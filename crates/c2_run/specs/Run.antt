@@ -1,4 +1,5 @@
--- What running a session against a fresh target answers and leaves, for a budget of replies.
+-- What running a session against a fresh target answers and leaves, for a budget of replies (document 01,
+-- "The program").
 use mathlib.Core.Bool.{false, cond}
 use mathlib.Core.List.{List}
 use Prim.Native.Nat.{ℕ, zero, suc, _*_}
@@ -16,8 +17,8 @@ use Rattle.c2_target.specs.Delays.{Setup, setup}
 use Rattle.c2_target.specs.Target.{fresh, answer, flash-after}
 use Rattle.c2_run.specs.declared.Run.{Run}
 
--- An exchange against the target for at most so many replies: what is left of it, the target and the flash
--- then, and the replies.
+-- What is left of an exchange after at most so many replies of the target's own, the target and the flash
+-- then, and the number of replies.
 pub record Left : Type 0 where
   pub exchange : Exchange
   pub target : Target
@@ -27,13 +28,14 @@ pub record Left : Type 0 where
 abbrev pub one-more : Left → Left
 one-more x = record { exchange = x .exchange; target = x .target; flash = x .flash; replies = suc (x .replies) }
 
+-- an exchange against the target, for at most so many replies
 unfoldable pub played : (budget : ℕ) → Setup → Exchange → Target → (flash : List ℕ) → Left
 played zero u e y f = record { exchange = e; target = y; flash = f; replies = 0 }
 played (suc n) u (ended o) y f = record { exchange = ended o; target = y; flash = f; replies = 0 }
 played (suc n) u (ask (at g x) k) y f =
     one-more (played n u (after (strobe g x k) (answer u y f (code x) .reply)) (answer u y f (code x) .target) (flash-after u y f (code x)))
 
--- the number by which it is refused: 1 to 5, then 17
+-- the number by which a run is refused: 1 to 5, then 17
 unfoldable pub run-refusal : Settings → (first : ℕ) → (image flash : List ℕ) → ℕ
 run-refusal t first image f =
     cond (eqb (opening-refusal t first (length image)) 0) (cond (eqb (length f) (t .size * t .count)) 0 no-point) (opening-refusal t first (length image))
@@ -42,7 +44,8 @@ run-refusal t first image f =
 unfoldable pub run : Settings → (first : ℕ) → (image flash delays : List ℕ) → (budget : ℕ) → Left
 run t first image f ds n = played n (setup t ds) (exchange-of session-limits t first image) fresh f
 
--- the answer, and the flash afterwards; a refused one leaves it as it was
+-- What a run answers (`run-answer`), and the flash afterwards (`run-flash`); a refused run leaves it as it
+-- was.
 unfoldable pub run-answer : Settings → (first : ℕ) → (image flash delays : List ℕ) → (budget : ℕ) → Run
 run-answer t first image f ds n =
     let x = run t first image f ds n in

@@ -1,4 +1,4 @@
-// The loop: a session and a target, step by step.
+// The loop of a run: a session and a target, step by step.
 ghost use mathlib.Core.Path.{_≡_};
 ghost use Prim.Native.Nat.{_*_};
 ghost use lib.ListN.{length};

@@ -66,8 +66,8 @@ fn same_device(device: Device) -> Device
     }
 }
 
-// The same target, put together from its numbers: copied whole it would take along the gaps between them, at
-// every turn of the loop.
+// The same target, put together from its numbers: a target copied whole would take along the gaps between its
+// numbers, at every turn of the loop.
 pub(crate) fn same_target(target: Target) -> Target
     ensures { λ r. ⌜ r ≡ target ⌝ }
 {

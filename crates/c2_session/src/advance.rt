@@ -1,4 +1,4 @@
-// The session's successor by a reply.
+// The session after a reply.
 ghost use mathlib.Core.Path.{_≡_};
 ghost use Rattle.c2_session.specs.Code.Next.{at};
 ghost use Rattle.c2_session.specs.Code.Advance.{task-taken, replied-by, point-advanced, advanced, point-advanced-by, advanced-by};
@@ -14,7 +14,7 @@ use c2_wire::Place;
 use numbers::BAD_REPLY;
 
 impl Session {
-    // A step that stands in no frame is over at its reply.
+    // The point after a reply of 0 or 1. A step that stands in no frame is over at its reply.
     fn task_taken(self, task: Task, at: At, place: Place, one: bool, image: &[u8]) -> Point
         ensures { λ r. ⌜ r ≡ task-taken 20 256 task self at place one (now (image .entry)) ⌝ }
     {
@@ -118,7 +118,8 @@ impl Session {
         }
     }
 
-    // The same for a caller that knows what the act does, and need not have it found out anew at each strobe.
+    // The session after a reply, for a caller that knows what the act does and need not have it found out
+    // anew at each strobe.
     pub fn advance_by(self, task: Task, reply: u8, image: &[u8]) -> Session
         ensures { λ r. ⌜ r ≡ advanced-by 20 256 task self reply (now (image .entry)) ⌝ }
     {

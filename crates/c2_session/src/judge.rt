@@ -63,7 +63,7 @@ fn sends_image(act: u16) -> bool
     false
 }
 
-// Whether a strobe of such an act drives a bit of the byte.
+// Whether a strobe of an act that sends a byte of the image drives a bit of that byte.
 fn drives_image(at: At, place: Place) -> bool
     ensures { λ r. ⌜ r ≡ drives-image at place ⌝ }
 {
@@ -95,7 +95,7 @@ impl Session {
         }
     }
 
-    // A byte read back, beside the image's.
+    // The point after a byte read back, beside the image's byte, if the image has one.
     fn wanted_compared(self, wanted: Wanted, at: At, byte: usize) -> Point
         ensures { λ r. ⌜ r ≡ wanted-compared wanted self at byte ⌝ }
     {
@@ -132,7 +132,7 @@ impl Session {
         read_again(Session::POLL_LIMIT, at, reads)
     }
 
-    // The reply to a frame's STOP; the frame has given this byte.
+    // The point after the reply to a frame's STOP; the frame has given this byte.
     fn frame_judged(self, task: Task, at: At, reads: usize, byte: usize, image: &[u8]) -> Point
         ensures { λ r. ⌜ r ≡ frame-judged 256 task self at reads byte (now (image .entry)) ⌝ }
     {
@@ -152,8 +152,8 @@ impl Session {
         }
     }
 
-    // Another strobe of the same frame. In a block write the image must have the byte of which the strobe
-    // drives a bit.
+    // The point after a reply that leaves a frame of a block write under way. The image must have the byte of
+    // which the strobe drives a bit.
     fn writes_on(self, at: At, place: Place, image: &[u8]) -> Point
         ensures { λ r. ⌜ r ≡ cond (drives-image at place) (wants (image-byte (now (image .entry)) (sent-offset self at)) at place) (strobe-point at place) ⌝ }
     {

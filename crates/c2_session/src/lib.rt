@@ -49,9 +49,9 @@ pub struct Session {
 }
 
 impl Session {
-    // So many zeros in a WAIT refuse,
+    // The limit of a WAIT: so many zeros refuse.
     pub const WAIT_LIMIT: usize = 20;
 
-    // and so many unsatisfied reads in a poll.
+    // The limit of a poll: so many unsatisfied reads refuse.
     pub const POLL_LIMIT: usize = 256;
 }

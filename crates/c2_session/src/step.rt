@@ -30,7 +30,7 @@ pub(crate) fn alone(task: Task) -> u8
     }
 }
 
-// The frame of an act. One that stands in no frame is not asked for it.
+// The frame of an act; it is not asked of an act that stands in no frame.
 pub(crate) fn task_frame(task: Task) -> Frame
     ensures { λ r. ⌜ r ≡ task-frame task ⌝ }
 {
@@ -154,7 +154,7 @@ impl Session {
         }
     }
 
-    // The same for a caller that knows what the act does.
+    // The step that the session waits at, for a caller that knows what the act does.
     pub fn step_by(self, task: Task, image: &[u8]) -> u8
         ensures { λ r. ⌜ r ≡ step-by task self (now (image .entry)) ⌝ }
     {

@@ -13,11 +13,11 @@ use Rattle.c2_target.specs.declared.Command.the-variants.{Ready, ErasePa
 use Rattle.c2_target.specs.declared.Output.{Output}
 use Rattle.c2_target.specs.declared.Output.the-variants.{Empty, Status, StatusBlock, Block}
 
--- The flash with a page set to 0xFF,
+-- the flash with a page set to 0xFF
 unfoldable pub erased : (size page : ℕ) → List ℕ → List ℕ
 erased size p f = take (p * size) f ++ (replicate size 0xff ++ drop (p * size + size) f)
 
--- and with a byte set to old AND new.
+-- the flash with a byte set to old AND new
 unfoldable pub stored : (address byte : ℕ) → List ℕ → List ℕ
 stored a b f = set f a (bitAnd (getD f a 0) b)
 
@@ -30,17 +30,19 @@ pub record Taken : Type 0 where
 abbrev pub taken : Command → Output → List ℕ → Taken
 taken c o f = record { command = c; output = o; flash = f }
 
+-- the status 0x0D, as output
 abbrev pub passed : Output
 passed = Status true
 
+-- the status 0x00, as output
 abbrev pub failed : Output
 failed = Status false
 
--- no byte of the block is past the end of the flash
+-- whether no byte of the block is past the end of the flash
 unfoldable pub in-flash : (address count : ℕ) → List ℕ → Bool
 in-flash a n f = leb (a + n) (length f)
 
--- a new command: the three that are known, and any other byte
+-- what the first byte of a command does: three commands are known; any other byte gives status 0x00
 unfoldable pub opens : (byte : ℕ) → List ℕ → Taken
 opens b f =
     cond (eqb b 0x08) (taken ErasePage passed f)
@@ -67,21 +69,21 @@ takes s (LengthCode false a) b f =
 takes s (Byte a n) b f = taken (cond (ltb 1 n) (Byte (a + 1) (n - 1)) Ready) (cond (ltb 1 n) Empty passed) (stored a b f)
 takes s (PastEnd n) b f = taken (cond (ltb 1 n) (PastEnd (n - 1)) Ready) (cond (ltb 1 n) Empty failed) f
 
--- Output: there is some,
+-- whether there is output to be read
 unfoldable pub some-output : Output → Bool
 some-output Empty = false
 some-output (Status ok) = true
 some-output (StatusBlock a n) = true
 some-output (Block a n) = true
 
--- the byte that is read first,
+-- the byte of the output that is read first
 unfoldable pub first-byte : Output → List ℕ → ℕ
 first-byte Empty f = 0
 first-byte (Status ok) f = cond ok 0x0d 0x00
 first-byte (StatusBlock a n) f = 0x0d
 first-byte (Block a n) f = getD f a 0
 
--- and what is left after it.
+-- the output that is left after its first byte is read
 unfoldable pub other-bytes : Output → Output
 other-bytes Empty = Empty
 other-bytes (Status ok) = Empty

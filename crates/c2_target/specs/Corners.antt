@@ -37,7 +37,7 @@ blank = replicate 512 0
 abbrev pub bytes : Frame → ℕ → List ℕ
 bytes k a = map (λ x. code (strobe-step x)) (frame k a)
 
--- what the target replies to steps, and the target then
+-- what the target replies to steps (`told`), and the target then (`then`)
 abbrev pub told : (delays : List ℕ) → Target → (steps : List ℕ) → List ℕ
 told ds t xs = own-replies (setup ds) t blank xs
 

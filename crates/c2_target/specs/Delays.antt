@@ -7,7 +7,8 @@ use lib.Dec.{ltb}
 use lib.ListN.{length, getD}
 use Rattle.settings.specs.declared.Settings.{Settings}
 
--- settings, the WAIT's limit (a WAIT sends as many zeros as the delay modulo this), and the lent delay list
+-- What the target is lent: settings, the limit of a WAIT (which sends as many zeros as its delay modulo
+-- this), and the delay list.
 pub record Setup : Type 0 where
   pub settings : Settings
   pub wait : ℕ
@@ -17,14 +18,14 @@ pub record Setup : Type 0 where
 abbrev pub setup : Settings → (delays : List ℕ) → Setup
 setup s ds = record { settings = s; wait = 20; delays = ds }
 
--- a place at or past the list's end is the start
+-- a place of the delay list: one at or past its end is the start
 unfoldable pub list-place : List ℕ → (place : ℕ) → ℕ
 list-place ds p = cond (ltb p (length ds)) p 0
 
--- the delay at a place, 0 where the list is empty
+-- the delay at a place of the list, 0 where the list is empty
 unfoldable pub delay : List ℕ → (place : ℕ) → ℕ
 delay ds p = getD ds (list-place ds p) 0
 
--- the place after it: delays are taken in order
+-- the place after this one: delays are taken in order
 unfoldable pub next-place : List ℕ → (place : ℕ) → ℕ
 next-place ds p = list-place ds p + 1

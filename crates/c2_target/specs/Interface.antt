@@ -1,5 +1,5 @@
--- The registers and the Programming Interface behind FPDAT: what reads show, and what a frame does at its
--- STOP (document 01, "The modelled target").
+-- The registers and the Programming Interface behind FPDAT, with its delays d and e: what reads show, and
+-- what a frame does at its STOP (document 01, "The modelled target").
 use mathlib.Core.Bool.{Bool, not, cond, _&&_}
 use mathlib.Core.List.{List}
 use Prim.Native.Nat.{ℕ, _+_, _-_, _*_}
@@ -21,19 +21,19 @@ link c o d e = record { command = c; output = o; busy = d; late = e }
 abbrev pub device : (address : ℕ) → (on : Bool) → (keys : ℕ) → Link → Device
 device a on n l = record { address = a; on = on; keys = n; link = l }
 
--- Status bits: InBusy reads 1 while reads of d are left,
+-- InBusy: it reads 1 while reads of the delay d are left.
 unfoldable pub in-busy : Link → Bool
 in-busy l = ltb 0 (l .busy)
 
--- and OutReady reads 0 while InBusy is 1 and for e reads more.
+-- OutReady: it reads 0 while InBusy is 1 and for e reads more, and where there is no output.
 unfoldable pub out-ready : Link → Bool
 out-ready l = not (in-busy l) && (eqb (l .late) 0 && some-output (l .output))
 
--- bit 1 is InBusy, bit 0 OutReady, and bits 2 to 7 read 0
+-- the status: bit 1 is InBusy, bit 0 OutReady, and bits 2 to 7 read 0
 unfoldable pub status-bits : Link → ℕ
 status-bits l = bit (out-ready l) + 2 * bit (in-busy l)
 
--- the FPDAT address with the interface on
+-- whether data bytes go to and from the commands: the address is FPDAT's, and the interface is on
 unfoldable pub linked : Settings → Device → Bool
 linked s d = d .on && eqb (d .address) (s .fpdat)
 
@@ -56,7 +56,8 @@ pub record Served : Type 0 where
 abbrev pub served : Link → (place : ℕ) → List ℕ → Served
 served l p f = record { link = l; place = p; flash = f }
 
--- output takes a further delay e; where there is none, no delay is taken
+-- What is left of the delay e (`late-of`) and the place in the delay list (`place-after`) after output takes
+-- a further delay e; where there is no output, no delay is taken.
 unfoldable pub late-of : List ℕ → Output → (place : ℕ) → ℕ
 late-of ds o p = cond (some-output o) (delay ds p) 0
 
@@ -87,7 +88,7 @@ unfoldable pub next-keys : (address keys byte : ℕ) → ℕ
 next-keys a n b =
     cond (eqb a 0x02) (cond (eqb b 0x02) 1 (cond (eqb b 0x04 && eqb n 1) 2 (cond (eqb b 0x01 && eqb n 2) 3 0))) 0
 
--- A START after the third key write: another frame has begun, and takes all three away.
+-- The device after a START: another frame that begins after the third key write takes all three away.
 unfoldable pub begun : Device → Device
 begun d = device (d .address) (d .on) (cond (eqb (d .keys) 3) 0 (d .keys)) (d .link)
 
@@ -100,10 +101,11 @@ pub record Acted : Type 0 where
 abbrev pub acted : Device → (place : ℕ) → List ℕ → Acted
 acted d p f = record { device = d; place = p; flash = f }
 
--- with the interface and what it changes
+-- what a frame does with this many key writes counted, and with what it changes of the interface
 abbrev pub with-served : Device → (keys : ℕ) → Served → Acted
 with-served d n r = acted (device (d .address) (d .on) n (r .link)) (r .place) (r .flash)
 
+-- what a frame with this effect does at its STOP
 unfoldable pub does : Setup → Effect → Device → (place : ℕ) → List ℕ → Acted
 does u Nothing d p f = acted d p f
 -- an Address Write changes only the address

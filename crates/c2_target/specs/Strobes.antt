@@ -1,5 +1,5 @@
--- One strobe: what the target replies, and the strobe that comes next (document 01, "Frames" and "The
--- modelled target").
+-- One strobe: what the target replies, the mark that a drive leaves, and the strobe that comes next (document
+-- 01, "Frames" and "The modelled target").
 use mathlib.Core.Bool.{Bool, true, cond, _||_}
 use mathlib.Core.List.{List}
 use Prim.Native.Nat.{ℕ, _+_, _-_, _*_, _/_, _%_, _^_}
@@ -21,7 +21,7 @@ use Rattle.c2_target.specs.Interface.{shown, given, begun, does}
 abbrev pub target : Point → (place : ℕ) → (collision : Bool) → Device → Target
 target x p c d = record { point = x; place = p; collision = c; device = d }
 
--- a reply, and the target and the flash after the step
+-- What a step gives: the reply, and the target and the flash afterwards.
 pub record Turn : Type 0 where
   pub reply : Bool
   pub target : Target
@@ -38,7 +38,7 @@ line reset = true
 line pause = true
 line off = true
 
--- Driving a strobe that is not the master's sets the mark for good.
+-- The collision mark, document 01's own term: driving a strobe that is not the master's sets it for good.
 unfoldable pub marked : Step → Bool → Bool
 marked x c = drives x || c
 
@@ -46,11 +46,12 @@ marked x c = drives x || c
 abbrev pub with-bit : (heard value : ℕ) → Step → ℕ
 with-bit n v x = v + bit (line x) * 2 ^ n
 
--- n bits to be sent, lowest first, and the STOP
+-- the point before so many bits are sent, lowest first, and then the STOP
 unfoldable pub sending : (left value : ℕ) → Effect → Point
 sending n v e = cond (eqb n 0) (Stop e) (Send n v e)
 
--- INS tells the frame. The status bits that an Address Read shows are fixed at the last INS strobe.
+-- The point after INS, which tells the frame. The status bits that an Address Read shows are fixed at the
+-- last INS strobe.
 unfoldable pub frame-begins : Settings → Device → (ins : ℕ) → Point
 frame-begins s d v =
     cond (eqb v (ins-code DataRead)) (ReadLength 0 0)
@@ -58,29 +59,32 @@ frame-begins s d v =
     (cond (eqb v (ins-code AddressRead)) (sending 8 (shown s d) CountDown)
     (Address 0 0)))
 
--- The point after n bits of a field with this value: INS,
+-- the point after so many bits of INS with this value
 unfoldable pub after-ins : Settings → Device → (heard value : ℕ) → Point
 after-ins s d n v = cond (ltb n 2) (Ins n v) (frame-begins s d v)
 
--- LENGTH, which is one less than the number of bytes; only frames with LENGTH 0 write or read any,
+-- The point after so many bits of LENGTH with this value, in a Data Write (`after-write-length`) or a Data
+-- Read (`after-read-length`). LENGTH is one less than the number of bytes; only frames with LENGTH 0 write or
+-- read any.
 unfoldable pub after-write-length : (heard value : ℕ) → Point
 after-write-length n v = cond (ltb n 2) (WriteLength n v) (cond (eqb v 0) (Data 0 0) (LongData (8 * (v + 1))))
 
 unfoldable pub after-read-length : (heard value : ℕ) → Point
 after-read-length n v = cond (ltb n 2) (ReadLength n v) (Wait (8 * (v + 1)) (cond (eqb v 0) Read Nothing))
 
--- a written ADDRESS,
+-- the point after so many bits of a written ADDRESS with this value
 unfoldable pub after-address : (heard value : ℕ) → Point
 after-address n v = cond (ltb n 8) (Address n v) (Stop (SetAddress v))
 
--- and written DATA.
+-- the point after so many bits of written DATA with this value
 unfoldable pub after-data : (heard value : ℕ) → Point
 after-data n v = cond (ltb n 8) (Data n v) (Wait 0 (Write v))
 
+-- the point after a bit of written DATA with LENGTH not 0, of which so many were left
 unfoldable pub after-long-data : (left : ℕ) → Point
 after-long-data n = cond (ltb 1 n) (LongData (n - 1)) (Wait 0 Nothing)
 
--- The value of the bits that are sent after a WAIT: a Data Read's byte; frames with LENGTH not 0 read zeros.
+-- the value of the bits that are sent after a WAIT: a Data Read's byte; frames with LENGTH not 0 read zeros
 unfoldable pub value-sent : Setup → Effect → Device → List ℕ → ℕ
 value-sent u Nothing d f = 0
 value-sent u (SetAddress a) d f = 0
@@ -88,7 +92,8 @@ value-sent u (Write b) d f = 0
 value-sent u CountDown d f = 0
 value-sent u Read d f = given (u .settings) d f
 
--- A strobe of a WAIT with z zeros left: a zero, or the 1 that ends it.
+-- the point after a strobe of a WAIT with so many zeros left: after a zero another strobe of it, after the 1
+-- what follows the WAIT
 unfoldable pub after-wait : Setup → (zeros left : ℕ) → Effect → Device → List ℕ → Point
 after-wait u z n e d f = cond (eqb z 0) (sending n (value-sent u e d f) e) (Waiting (z - 1) n e)
 
@@ -100,7 +105,7 @@ hears t f x p = turn (line x) (target p (t .place) (t .collision) (t .device)) f
 abbrev pub shows : Bool → Target → List ℕ → Step → Point → (place : ℕ) → Device → Turn
 shows b t f x p q d = turn b (target p q (marked x (t .collision)) d) f
 
--- A strobe, by the point.
+-- what a strobe gives, by the point
 unfoldable pub strobed-at : Setup → Point → Target → List ℕ → Step → Turn
 strobed-at u Start t f x = shows true t f x (Ins 0 0) (t .place) (begun (t .device))
 strobed-at u (Ins n v) t f x = hears t f x (after-ins (u .settings) (t .device) (n + 1) (with-bit n v x))

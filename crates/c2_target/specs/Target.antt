@@ -20,19 +20,19 @@ use Rattle.c2_target.specs.Interface.{link, device}
 use Rattle.c2_target.specs.Strobes.{target, Turn, turn, strobed}
 use Rattle.c2_target.specs.Known.{known}
 
--- address 0, interface off, no command, output, d or e, and no key write since
+-- the device after a reset: address 0, interface off, no command, output, d or e, and no key write since
 unfoldable pub cleared : Device
 cleared = device 0 false 0 (link Ready Empty 0 0)
 
--- fresh: besides that no frame, no mark, and the first delay
+-- the fresh target: besides what a reset clears it has no frame, no mark, and the first delay
 unfoldable pub fresh : Target
 fresh = target Start 0 false cleared
 
--- step 4 keeps flash, mark and delay place
+-- the target after step 4: flash, mark and delay place are kept
 unfoldable pub after-reset : Target → Target
 after-reset t = target Start (t .place) (t .collision) cleared
 
--- no frame is under way
+-- whether no frame is under way
 unfoldable pub between-frames : Point → Bool
 between-frames Start = true
 between-frames (Ins n v) = false
@@ -46,17 +46,18 @@ between-frames (Waiting z n e) = false
 between-frames (Send n v e) = false
 between-frames (Stop e) = false
 
--- step 5 turns the interface on if the last Data Writes were the three key writes and no other frame has
--- begun; elsewhere it changes nothing
+-- whether step 5 turns the interface on: the last Data Writes were the three key writes, and no other frame
+-- has begun
 unfoldable pub keyed : Target → Bool
 keyed t = eqb (t .device .keys) 3 && between-frames (t .point)
 
+-- the target after step 5; where it does not turn the interface on it changes nothing
 unfoldable pub after-pause : Target → Target
 after-pause t =
     let d = t .device in
     target (t .point) (t .place) (t .collision) (device (d .address) (keyed t || d .on) (d .keys) (d .link))
 
--- One step; 4, 5 and 6 reply 1, and 6 changes nothing.
+-- One step. Steps 4, 5 and 6 reply 1, and 6 changes nothing.
 unfoldable pub stepped : Setup → Target → List ℕ → Step → Turn
 stepped u t f released = strobed u t f released
 stepped u t f (driven b) = strobed u t f (driven b)
@@ -64,10 +65,11 @@ stepped u t f reset = turn true (after-reset t) f
 stepped u t f pause = turn true (after-pause t) f
 stepped u t f off = turn true t f
 
--- The step of a byte: 1 and those above 6 are none.
+-- whether a byte is a step: 1 and those above 6 are none
 unfoldable pub is-step : ℕ → Bool
 is-step x = leb x 6 && not (eqb x 1)
 
+-- the step of a byte
 unfoldable pub step-coded : ℕ → Step
 step-coded x =
     cond (eqb x 0) released
@@ -83,8 +85,8 @@ refusal u t f x =
     (cond (known u t f) (cond (is-step x) 0 no-step) no-point)
     (settings-refusal (u .settings))
 
--- What a step gives back by the number of its refusal, and the flash afterwards. A refused step changes
--- nothing and replies 1.
+-- What a step gives back by the number of its refusal (`answered`), and the flash afterwards (`flash-left`).
+-- A refused step changes nothing and replies 1.
 abbrev pub answered : (number : ℕ) → Setup → Target → List ℕ → (step : ℕ) → Replied
 answered n u t f x =
     let r = stepped u t f (step-coded x) in
@@ -93,8 +95,10 @@ answered n u t f x =
 abbrev pub flash-left : (number : ℕ) → Setup → Target → List ℕ → (step : ℕ) → List ℕ
 flash-left n u t f x = cond (eqb n 0) (stepped u t f (step-coded x) .flash) f
 
+-- what a step gives back
 unfoldable pub answer : Setup → Target → List ℕ → (step : ℕ) → Replied
 answer u t f x = answered (refusal u t f x) u t f x
 
+-- the flash after a step
 unfoldable pub flash-after : Setup → Target → List ℕ → (step : ℕ) → List ℕ
 flash-after u t f x = flash-left (refusal u t f x) u t f x

@@ -68,7 +68,7 @@ pub enum Point {
     },
 }
 
-// A command, by the byte that comes next. `write` tells a block write from a block read.
+// A command that is under way, by the byte that comes next. `write` tells a block write from a block read.
 pub enum Command {
     // a new command
     Ready,
@@ -132,6 +132,6 @@ pub struct Replied {
 }
 
 impl Target {
-    // A WAIT sends as many zeros as its delay modulo this.
+    // The target's limit of a WAIT, which sends as many zeros as its delay modulo this.
     pub const WAIT: usize = 20;
 }

@@ -1,4 +1,4 @@
--- What is claimed of a target's state in C. Types alone: `Claimed` in proofs/ proves each.
+-- What is claimed of a target's state in C. Types alone: proofs/Laws/Claims proves each.
 use mathlib.Core.Path.{_≡_}
 use mathlib.Core.Bool.{true}
 use mathlib.Core.List.{List}
@@ -16,23 +16,24 @@ use Rattle.c2_target_state.specs.declared.Seen.the-variants.{Held}
 use Rattle.c2_target_state.specs.State.{state-of, target-of}
 use Rattle.c2_target_state.specs.Model.{gives, model-answer, model-flash}
 
--- The state of a target that exists is read back as that target;
+-- The state of a target that exists is read back as that target.
 abbrev pub Read-back : Type 0
 Read-back = (s : Settings) (t : Target) (f ds : List ℕ) → settings-refusal s ≡ 0 → known (setup s ds) t f ≡ true → target-of (state-of t) ≡ Held t
 
--- what is read from a state has that state,
+-- What is read from a state has that state.
 abbrev pub Has-state : Type 0
 Has-state = (t : Target) (s : State) → target-of s ≡ Held t → state-of t ≡ s
 
--- and so a target has one state only.
+-- A target has one state only.
 abbrev pub One-state : Type 0
 One-state = (t : Target) (a b : State) → target-of a ≡ Held t → target-of b ≡ Held t → a ≡ b
 
--- A step on the state of a target that exists is the target's step: number and reply, the state, and the
--- flash.
+-- what a target's step gives, as a step on its state gives it
 abbrev pub state-answer : Replied → ModelReplied
 state-answer r = gives (r .number) (r .reply) (state-of (r .target))
 
+-- A step on the state of a target that exists is the target's step: number and reply, the state, and the
+-- flash.
 abbrev pub Steps-alike : Type 0
 Steps-alike = (s : Settings) (t : Target) (f ds : List ℕ) (x : ℕ) → settings-refusal s ≡ 0 → known (setup s ds) t f ≡ true
     → (model-answer s (state-of t) f ds x ≡ state-answer (answer (setup s ds) t f x)) × (model-flash s (state-of t) f ds x ≡ flash-after (setup s ds) t f x)

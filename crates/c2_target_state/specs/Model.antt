@@ -22,22 +22,24 @@ gives n r s = record { number = n; reply = r; target = s }
 unfoldable pub no-target : Settings → ℕ
 no-target t = cond (eqb (settings-refusal t) 0) no-point (settings-refusal t)
 
--- what is said of a state's target; a refused step gives the state back unchanged
+-- what a step gives back that a target took; a refused step gives the state back unchanged
 unfoldable pub held-answer : Replied → State → ModelReplied
 held-answer r s = cond (eqb (r .number) 0) (gives 0 (r .reply) (state-of (r .target))) (gives (r .number) 1 s)
 
--- What a step gives back,
+-- what a step gives back, by the target that the state says, if there is one
 unfoldable pub seen-answer : Settings → Seen → State → (flash delays : List ℕ) → (step : ℕ) → ModelReplied
 seen-answer t (Held g) s f ds x = held-answer (answer (setup t ds) g f x) s
 seen-answer t Nothing s f ds x = gives (no-target t) 1 s
 
+-- what a step gives back
 abbrev pub model-answer : Settings → State → (flash delays : List ℕ) → (step : ℕ) → ModelReplied
 model-answer t s f ds x = seen-answer t (target-of s) s f ds x
 
--- and the flash afterwards.
+-- the flash after a step, by the target that the state says, if there is one
 unfoldable pub seen-flash : Settings → Seen → (flash delays : List ℕ) → (step : ℕ) → List ℕ
 seen-flash t (Held g) f ds x = flash-after (setup t ds) g f x
 seen-flash t Nothing f ds x = f
 
+-- the flash after a step
 abbrev pub model-flash : Settings → State → (flash delays : List ℕ) → (step : ℕ) → List ℕ
 model-flash t s f ds x = seen-flash t (target-of s) f ds x

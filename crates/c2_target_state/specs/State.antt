@@ -1,4 +1,5 @@
--- The state of a target as C has it: plain numbers. Those that are not in use are 0.
+-- The state of a target as C has it, plain numbers, and the target of a state. Numbers that are not in use
+-- are 0.
 use mathlib.Core.Bool.{Bool, false, cond, _&&_}
 use Prim.Native.Nat.{ℕ, _%_}
 use lib.Dec.{eqb}
@@ -21,14 +22,15 @@ use Rattle.c2_target_state.specs.declared.OutputFields.{OutputFields}
 use Rattle.c2_target_state.specs.declared.Seen.{Seen}
 use Rattle.c2_target_state.specs.declared.Seen.the-variants as seen
 
--- a number of one byte, and of two
+-- a number kept to one byte (`low`), and to two (`word`)
 abbrev pub low : ℕ → ℕ
 low x = x % 256
 
 abbrev pub word : ℕ → ℕ
 word x = x % 65536
 
--- What a frame does at its STOP, and the byte of it.
+-- What a frame does at its STOP, as a number (`effect-code`), and the byte that it then writes
+-- (`effect-byte`).
 unfoldable pub effect-code : Effect → ℕ
 effect-code Nothing = 0
 effect-code (SetAddress a) = 1
@@ -43,7 +45,7 @@ effect-byte (Write b) = low b
 effect-byte CountDown = 0
 effect-byte Read = 0
 
--- The numbers of a point,
+-- the numbers of a point
 abbrev pub fields : (point heard value left zeros : ℕ) → Effect → PointFields
 fields p n v l z e =
     record { point = p; heard = low n; value = low v; left = low l; zeros = low z; effect = effect-code e; byte = effect-byte e }
@@ -61,7 +63,7 @@ point-fields (Waiting z n e) = fields 8 0 0 n z e
 point-fields (Send n v e) = fields 9 0 v n 0 e
 point-fields (Stop e) = fields 10 0 0 0 0 e
 
--- of a command
+-- the numbers of a command
 abbrev pub command-numbers : (command : ℕ) → (write : Bool) → (page high start rest : ℕ) → CommandFields
 command-numbers c w p h a n = record { command = c; write = bit w; page = low p; high = low h; start = word a; rest = word n }
 
@@ -75,7 +77,7 @@ command-fields (LengthCode w a) = command-numbers 5 w 0 0 a 0
 command-fields (Byte a n) = command-numbers 6 false 0 0 a n
 command-fields (PastEnd n) = command-numbers 7 false 0 0 0 n
 
--- and of the output.
+-- the numbers of the output
 abbrev pub output-numbers : (output : ℕ) → (passed : Bool) → (next count : ℕ) → OutputFields
 output-numbers o ok a n = record { output = o; passed = bit ok; next = word a; count = word n }
 
@@ -85,7 +87,7 @@ output-fields (Status ok) = output-numbers 1 ok 0 0
 output-fields (StatusBlock a n) = output-numbers 2 false a n
 output-fields (Block a n) = output-numbers 3 false a n
 
--- The state of a target.
+-- the state of a target
 unfoldable pub state-of : Target → State
 state-of t =
     let d = t .device in
@@ -120,12 +122,13 @@ state-of t =
       late = low (l .late);
     }
 
--- What the numbers of any state say: what a frame does at its STOP,
+-- what a frame does at its STOP, as the numbers of any state say it
 unfoldable pub effect-of : (effect byte : ℕ) → Effect
 effect-of e b =
     cond (eqb e 0) Nothing (cond (eqb e 1) (SetAddress b) (cond (eqb e 2) (Write b) (cond (eqb e 3) CountDown Read)))
 
--- the point,
+-- the point that the numbers of any state say: past the fields that are heard (`later-point`), and any
+-- (`state-point`)
 unfoldable pub later-point : State → Point
 later-point s =
     let e = effect-of (s .effect) (s .byte) in
@@ -145,7 +148,7 @@ state-point s =
     (cond (eqb (s .point) 5) (Data (s .heard) (s .value))
     (later-point s))))))
 
--- the command,
+-- the command that the numbers of any state say
 unfoldable pub command-of : State → Command
 command-of s =
     let w = eqb (s .write) 1 in
@@ -158,7 +161,7 @@ command-of s =
     (cond (eqb (s .command) 6) (Byte (s .start) (s .rest))
     (PastEnd (s .rest))))))))
 
--- the output,
+-- the output that the numbers of any state say
 unfoldable pub output-of : State → Output
 output-of s =
     cond (eqb (s .output) 0) Empty
@@ -166,13 +169,13 @@ output-of s =
     (cond (eqb (s .output) 2) (StatusBlock (s .next) (s .count))
     (Block (s .next) (s .count))))
 
--- and the target.
+-- the target that the numbers of any state say
 unfoldable pub target-read : State → Target
 target-read s =
     target (state-point s) (s .place) (eqb (s .collision) 1)
     (device (s .address) (eqb (s .on) 1) (s .keys) (link (command-of s) (output-of s) (s .busy) (s .late)))
 
--- Two states are the same, number by number.
+-- Whether two states are the same, number by number: in the point, the device, the command and the output.
 unfoldable pub same-point : State → State → Bool
 same-point a b =
     eqb (a .point) (b .point)
@@ -201,6 +204,6 @@ unfoldable pub same-state : State → State → Bool
 same-state a b = same-point a b && (same-device a b && (same-command a b && same-output a b))
 
 -- The target of which this is the state. A tag that does not exist, a truth value above 1 and a number that
--- is not in use and not 0 are of none: no target has them in its state.
+-- is not in use and not 0 make a state that is no target's.
 unfoldable pub target-of : State → Seen
 target-of s = cond (same-state (state-of (target-read s)) s) (seen.Held (target-read s)) seen.Nothing

@@ -12,7 +12,7 @@ use c2_target::Output;
 use c2_target::Point;
 use c2_target::Target;
 
-// What the numbers of any state say, in range or not: what the frame does at its STOP,
+// What a frame does at its STOP, as the numbers of any state say it.
 fn effect_of(effect: u8, byte: u8) -> Effect
     ensures { λ r. ⌜ r ≡ effect-of effect byte ⌝ }
 {
@@ -31,7 +31,7 @@ fn effect_of(effect: u8, byte: u8) -> Effect
     Effect::Read
 }
 
-// the point of a field that is heard or sent,
+// The point past the fields that are heard, as the numbers of any state say it.
 fn later_point(s: State) -> Point
     ensures { λ r. ⌜ r ≡ later-point s ⌝ }
 {
@@ -62,7 +62,7 @@ fn later_point(s: State) -> Point
     Point::Stop { effect: effect }
 }
 
-// and any point,
+// The point that the numbers of any state say.
 fn point_of(s: State) -> Point
     ensures { λ r. ⌜ r ≡ state-point s ⌝ }
 {
@@ -102,7 +102,7 @@ fn point_of(s: State) -> Point
     later_point(s)
 }
 
-// the command,
+// The command that the numbers of any state say.
 fn command_of(s: State) -> Command
     ensures { λ r. ⌜ r ≡ command-of s ⌝ }
 {
@@ -142,7 +142,7 @@ fn command_of(s: State) -> Command
     }
 }
 
-// the output,
+// The output that the numbers of any state say.
 fn output_of(s: State) -> Output
     ensures { λ r. ⌜ r ≡ output-of s ⌝ }
 {
@@ -166,7 +166,7 @@ fn output_of(s: State) -> Output
     }
 }
 
-// and the target.
+// The target that the numbers of any state say.
 pub(crate) fn target_read(s: State) -> Target
     ensures { λ r. ⌜ r ≡ target-read s ⌝ }
 {

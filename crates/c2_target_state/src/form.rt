@@ -6,7 +6,7 @@ use crate::State;
 use crate::fields::wide;
 use crate::fields::wide16;
 
-// All of these are 0.
+// Whether all of these are 0.
 fn none(a: u8, b: u8, c: u8, d: u8) -> bool
     ensures { λ r. ⌜ r ≡ none a b c d ⌝ }
 {
@@ -145,8 +145,8 @@ fn output_in_form(output: u8, passed: u8, next: u16, count: u16) -> bool
     false
 }
 
-// Tags exist, truth values are 0 or 1, and numbers that are not in use are 0: so this is the state of the
-// target that it says.
+// Whether a state is in form, and so is that of the target that it says: tags exist, truth values are 0 or 1,
+// and numbers that are not in use are 0.
 pub(crate) fn in_form(s: State) -> bool
     ensures { λ r. ⌜ r ≡ in-form s ⌝ }
 {

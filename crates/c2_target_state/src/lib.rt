@@ -21,9 +21,9 @@ pub struct State {
     // output: the address of the next byte, and the bytes still to be read
     pub next: u16,
     pub count: u16,
-    // the strobe that comes next, by its field: 0 START, 1 INS, 2 LENGTH of a Data Write, 3 of a Data Read, 4
-    // a written ADDRESS, 5 DATA of one byte, 6 DATA of more, 7 the first strobe of a WAIT, 8 a later one, 9 a
-    // bit that the target sends, 10 STOP
+    // the strobe that comes next, by its field: 0 START, 1 INS, 2 LENGTH of a Data Write, 3 LENGTH of a Data
+    // Read, 4 a written ADDRESS, 5 written DATA of one byte, 6 written DATA of more, 7 the first strobe of a
+    // WAIT, 8 a later one, 9 a bit that the target sends, 10 STOP
     pub point: u8,
     // the bits of the field heard so far, and their value, or the value that is left to be sent
     pub heard: u8,
@@ -32,7 +32,7 @@ pub struct State {
     pub left: u8,
     pub zeros: u8,
     // what the frame does at its STOP: 0 nothing, 1 sets the address, 2 writes a byte, 3 counts an Address
-    // Read, 4 reads; and that byte
+    // Read, 4 reads; and the address or byte that it writes
     pub effect: u8,
     pub byte: u8,
     // 1 once the master has driven a strobe of the target's
@@ -71,7 +71,7 @@ pub enum Seen {
     Nothing,
 }
 
-// The numbers of a point, of a command and of the output.
+// The numbers of a point (`PointFields`), of a command (`CommandFields`) and of the output (`OutputFields`).
 struct PointFields {
     point: u8,
     heard: u8,

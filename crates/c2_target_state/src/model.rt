@@ -12,7 +12,7 @@ use crate::form::in_form;
 use numbers::NO_POINT;
 use settings::Settings;
 
-// A refused step gives the state back unchanged, and replies 1.
+// What a refused step gives: the state back unchanged, and the reply 1.
 fn refused(number: u32, state: State) -> ModelReplied
     ensures { λ r. ⌜ r ≡ gives number 1 state ⌝ }
 {

@@ -112,7 +112,7 @@ fn opens(byte: usize) -> Taking
     }
 }
 
-// The page of an erase.
+// What the page of an erase does.
 fn page_taken(t: Settings, page: usize) -> Taking
     ensures { λ r. ⌜ ((f : List ℕ) → r ≡ taking (takes t Command.ErasePage page f)) ⌝ }
 {
@@ -128,7 +128,7 @@ fn page_taken(t: Settings, page: usize) -> Taking
     }
 }
 
-// The byte after it: only 0x00 erases.
+// What the byte after the page of an erase does: only 0x00 erases.
 fn confirm_taken(byte: usize) -> Taking
     ensures { λ r. ⌜ ((t : Settings) (page : ℕ) (f : List ℕ) → r ≡ taking (takes t (Command.EraseConfirm page) byte f)) ⌝ }
 {
@@ -167,7 +167,7 @@ fn coded_length(code: usize) -> usize
     code
 }
 
-// The length code of a block. The bytes of a block write past the end are first taken.
+// What the length code of a block does. The bytes of a block write past the end are first taken.
 fn length_taken(write: bool, address: usize, code: usize, flash: &[u8]) -> Taking
     ensures { λ r. ⌜ ((t : Settings) → r ≡ taking (takes t (Command.LengthCode write address) code (now (flash .entry)))) ⌝ }
 {
@@ -202,7 +202,7 @@ fn length_taken(write: bool, address: usize, code: usize, flash: &[u8]) -> Takin
     }
 }
 
-// A byte of a block write: the status follows the last.
+// What a byte of a block write does: the status follows the last.
 fn byte_taken(address: usize, left: usize, flash: &[u8]) -> Taking
     requires { ⌜ address + left ≤ length (now flash) ⌝ }
     ensures { λ r. ⌜ ((t : Settings) (byte : ℕ) → r ≡ taking (takes t (Command.Byte address left) byte [])) ⌝ }
@@ -237,7 +237,7 @@ fn past_end_taken(left: usize) -> Taking
     }
 }
 
-// A byte put is the command's next byte.
+// What a byte put makes of the command and of the output: it is the command's next byte.
 pub(crate) fn takes(t: Settings, command: Command, byte: usize, flash: &[u8]) -> Taking
     requires { ⌜ known-command (t .count) (length (now flash)) command ≡ true ⌝ }
     requires { ⌜ byte < 256 ⌝ }

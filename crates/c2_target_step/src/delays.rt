@@ -21,7 +21,7 @@ pub(crate) fn delay(delays: &[u8], place: usize) -> usize
     0
 }
 
-// The place after it.
+// The place of the list after this one.
 pub(crate) fn next_place(delays: &[u8], place: usize) -> usize
     ensures { λ r. ⌜ r ≡ next-place (now (delays .entry)) place ⌝ }
 {

@@ -18,7 +18,7 @@ pub(crate) fn byte_at(flash: &[u8], address: usize) -> usize
     0
 }
 
-// No byte of the block is past the end of the flash.
+// Whether no byte of the block is past the end of the flash.
 pub(crate) fn in_flash(address: usize, count: usize, flash: &[u8]) -> bool
     ensures { λ r. ⌜ r ≡ in-flash address count (now (flash .entry)) ⌝ }
 {
@@ -55,7 +55,7 @@ fn store(flash: &mut [u8], address: usize, byte: usize)
     flash[address] = flash[address] & (byte as u8);
 }
 
-// The page is erased at the put of 0x00.
+// What the last byte of an erase makes of the flash: the page is erased at the put of 0x00.
 fn confirm_writes(t: Settings, page: usize, byte: usize, flash: &mut [u8])
     requires { ⌜ page * t .size + t .size ≤ length (now flash) ⌝ }
     ensures { λ r. ⌜ now (flash .exit) ≡ takes t (Command.EraseConfirm page) byte (now (flash .entry)) .flash ⌝ }

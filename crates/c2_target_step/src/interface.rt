@@ -71,7 +71,7 @@ fn status_bits(l: Link) -> usize
     bit(out_ready(l)) + 2 * bit(in_busy(l))
 }
 
-// An Address Read is one of the d reads, and after those one of the e reads.
+// The interface after an Address Read, which is one of the d reads, and after those one of the e reads.
 fn counted(l: Link) -> Link
     ensures { λ r. ⌜ r ≡ counted l ⌝ }
 {
@@ -118,7 +118,7 @@ fn next_keys(address: usize, keys: usize, byte: usize) -> usize
     0
 }
 
-// The FPDAT address with the interface on.
+// Whether the address is FPDAT's, and the interface is on.
 fn linked(d: Device, t: Settings) -> bool
     ensures { λ r. ⌜ r ≡ linked t d ⌝ }
 {
@@ -208,7 +208,8 @@ fn served(y: Target, keys: usize, link: Link, place: usize) -> Target
     )
 }
 
-// Output takes a further delay e; where there is none, no delay is taken.
+// The target after a put or a get whose output takes a further delay e; where there is none, no delay is
+// taken.
 fn awaits(
     y: Target,
     keys: usize,
@@ -247,7 +248,7 @@ fn awaits(
     )
 }
 
-// A byte put takes a delay d, then e.
+// The target after a byte put, which takes a delay d, then e.
 fn puts(y: Target, t: Settings, keys: usize, byte: usize, flash: &[u8], delays: &[u8]) -> Target
     requires { ⌜ known-command (t .count) (length (now flash)) (y .device .link .command) ≡ true ⌝ }
     requires { ⌜ byte < 256 ⌝ }
@@ -267,7 +268,8 @@ fn puts(y: Target, t: Settings, keys: usize, byte: usize, flash: &[u8], delays: 
     )
 }
 
-// A read takes the first byte of the output away, and where more waits a new e is taken.
+// The target after a read, which takes the first byte of the output away; where more waits a new e is
+// taken.
 fn gets(y: Target, flash: &[u8], delays: &[u8]) -> Target
     requires { ⌜ known-output (length (now flash)) (y .device .link .output) ≡ true ⌝ }
     ensures { λ r. ⌜ ((t : Settings) → r ≡ stopped y (with-served (y .device) (y .device .keys) (get-byte (setup t (now (delays .entry))) (y .device .link) (y .place) (now (flash .entry))))) ⌝ }
@@ -309,7 +311,7 @@ fn addressed(y: Target, address: usize) -> Target
     )
 }
 
-// A Data Write at FPDAT is a put; elsewhere it writes nothing.
+// The target after a Data Write: at FPDAT it is a put; elsewhere it writes nothing.
 fn writes(y: Target, t: Settings, byte: usize, flash: &[u8], delays: &[u8]) -> Target
     requires { ⌜ known-command (t .count) (length (now flash)) (y .device .link .command) ≡ true ⌝ }
     requires { ⌜ byte < 256 ⌝ }

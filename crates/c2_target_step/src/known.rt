@@ -18,7 +18,7 @@ use c2_target::Point;
 use c2_target::Target;
 use settings::Settings;
 
-// Fewer bits heard than the field has, and none but those.
+// Whether fewer bits are heard than the field has, and their value has no bits but those.
 fn hearing(width: usize, heard: usize, value: usize) -> bool
     requires { ⌜ width ≤ 8 ⌝ }
     ensures { λ r. ⌜ r ≡ hearing width heard value ⌝ }
@@ -41,7 +41,7 @@ fn known_effect(effect: Effect) -> bool
     }
 }
 
-// No bits, or those of two, three or four bytes.
+// Whether so many bits are none, or those of two, three or four bytes.
 fn long_bits(left: usize) -> bool
     ensures { λ r. ⌜ r ≡ after-its-wait left Effect.Nothing ⌝ }
 {
@@ -66,7 +66,7 @@ fn after_write(left: usize, byte: usize) -> bool
     false
 }
 
-// The bits that are sent after the WAIT of a frame that does this at its STOP.
+// Whether so many bits are sent after the WAIT of a frame that does this at its STOP.
 fn after_its_wait(left: usize, effect: Effect) -> bool
     ensures { λ r. ⌜ r ≡ after-its-wait left effect ⌝ }
 {
@@ -97,7 +97,7 @@ fn byte_sent(left: usize, value: usize) -> bool
     false
 }
 
-// Bits still to be sent: a byte, or up to four of zeros.
+// Whether so many bits of this value are still to be sent: a byte, or up to four of zeros.
 fn is_sent(left: usize, value: usize, effect: Effect) -> bool
     ensures { λ r. ⌜ r ≡ is-sent left value effect ⌝ }
 {
@@ -137,7 +137,7 @@ fn known_send(left: usize, value: usize, effect: Effect) -> bool
     false
 }
 
-// A point that a frame has.
+// Whether a frame has this point.
 fn known_point(point: Point) -> bool
     ensures { λ r. ⌜ r ≡ known-point 20 point ⌝ }
 {
@@ -173,7 +173,7 @@ fn is_count(count: usize) -> bool
     false
 }
 
-// A block inside the flash.
+// Whether a block lies inside the flash.
 fn known_block(end: usize, address: usize, count: usize) -> bool
     ensures { λ r. ⌜ r ≡ known-block end address count ⌝ }
 {
@@ -186,7 +186,7 @@ fn known_block(end: usize, address: usize, count: usize) -> bool
     false
 }
 
-// A point that a command has.
+// Whether a command has this point.
 fn known_command(pages: usize, end: usize, command: Command) -> bool
     ensures { λ r. ⌜ r ≡ known-command pages end command ⌝ }
 {
@@ -230,7 +230,8 @@ fn known_link(pages: usize, end: usize, link: Link) -> bool
     false
 }
 
-// The address is a byte, at most three key writes are counted, and the interface exists.
+// Whether the device exists: the address is a byte, at most three key writes are counted, and the interface
+// exists.
 fn known_device(t: Settings, device: Device, end: usize) -> bool
     ensures { λ r. ⌜ r ≡ known-device t device end ⌝ }
 {
@@ -250,7 +251,7 @@ fn flash_size(size: u32, count: u32) -> usize
     (size as usize) * (count as usize)
 }
 
-// A flash as long as the pages of the settings, and a state that exists.
+// Whether the flash is as long as the pages of the settings, and the state exists.
 pub(crate) fn known(t: Settings, target: Target, flash: &[u8]) -> bool
     ensures { λ r. ⌜ ((ds : List ℕ) → r ≡ known (setup t ds) target (now (flash .entry))) ⌝ }
 {
@@ -291,7 +292,8 @@ fn at_stop(point: Point) -> bool
     }
 }
 
-// What a frame acts on at its STOP: a flash as long as the pages of the settings, and a device that exists.
+// Whether what a frame acts on at its STOP exists: a flash as long as the pages of the settings, and a
+// device.
 fn known_behind(t: Settings, device: Device, flash: &[u8]) -> bool
     ensures { λ r. ⌜ r ≡ known-behind t device (now (flash .entry)) ⌝ }
 {

@@ -25,14 +25,14 @@ use numbers::NO_POINT;
 use numbers::NO_STEP;
 use settings::Settings;
 
-// Step 4 keeps flash, mark and delay place.
+// The target after step 4, which keeps flash, mark and delay place.
 fn after_reset(y: Target) -> Target
     ensures { λ r. ⌜ r ≡ after-reset y ⌝ }
 {
     idle(y, y.place, cleared())
 }
 
-// Step 5 turns the interface on after the three key writes.
+// The target after step 5, which turns the interface on after the three key writes.
 fn after_pause(y: Target) -> Target
     ensures { λ r. ⌜ r ≡ after-pause y ⌝ }
 {
@@ -55,7 +55,7 @@ fn after_pause(y: Target) -> Target
     y
 }
 
-// Address 0, interface off, no command, output, d or e, and no key write since.
+// The device after a reset: address 0, interface off, no command, output, d or e, and no key write since.
 fn cleared() -> Device
     ensures { λ r. ⌜ r ≡ cleared ⌝ }
 {
@@ -98,7 +98,7 @@ fn between_frames(point: Point) -> bool
     }
 }
 
-// The last Data Writes were the three key writes, and no other frame has begun.
+// Whether the last Data Writes were the three key writes, and no other frame has begun.
 fn keyed(keys: usize, point: Point) -> bool
     ensures { λ r. ⌜ r ≡ (eqb keys 3 && between-frames point) ⌝ }
 {
@@ -146,7 +146,7 @@ fn refusal_on(t: Settings, target: Target, flash: &[u8], x: u8) -> u32
     NO_POINT
 }
 
-// Steps 4, 5 and 6 reply 1.
+// What an accepted step 4, 5 or 6 gives: the reply is 1.
 fn accepted(target: Target) -> Replied
     ensures { λ r. ⌜ r ≡ replying 1 target ⌝ }
 {
@@ -194,8 +194,7 @@ pub fn step(t: Settings, target: Target, flash: &mut [u8], delays: &[u8], x: u8)
     still(number, target, x)
 }
 
-// The same for a caller that hands the target on from step to step, and need not have all of it tested at
-// each.
+// One step of a target that a caller hands on from step to step, and need not have tested whole at each.
 pub fn step_on(t: Settings, target: Target, flash: &mut [u8], delays: &[u8], x: u8) -> Replied
     ensures { λ r. ⌜ r ≡ answer-on (setup t (now (delays .entry))) target (now (flash .entry)) x ⌝ }
     ensures { λ r. ⌜ now (flash .exit) ≡ flash-on (setup t (now (delays .entry))) target (now (flash .entry)) x ⌝ }

@@ -65,7 +65,7 @@ fn with_bit(heard: usize, value: usize, x: u8) -> usize
     value + (1usize << heard)
 }
 
-// So many bits to be sent, lowest first, and the STOP.
+// The point before so many bits are sent, lowest first, and then the STOP.
 fn sending(left: usize, value: usize, effect: Effect) -> Point
     ensures { λ r. ⌜ r ≡ sending left value effect ⌝ }
 {
@@ -79,7 +79,7 @@ fn sending(left: usize, value: usize, effect: Effect) -> Point
     }
 }
 
-// INS tells the frame.
+// The point after INS, which tells the frame.
 fn frame_begins(t: Settings, device: Device, ins: usize) -> Point
     ensures { λ r. ⌜ r ≡ frame-begins t device ins ⌝ }
 {
@@ -95,7 +95,7 @@ fn frame_begins(t: Settings, device: Device, ins: usize) -> Point
     Point::Address { heard: 0, value: 0 }
 }
 
-// The point after so many bits of a field with this value: INS,
+// The point after so many bits of INS with this value.
 fn after_ins(t: Settings, device: Device, heard: usize, value: usize) -> Point
     ensures { λ r. ⌜ r ≡ after-ins t device heard value ⌝ }
 {
@@ -108,7 +108,7 @@ fn after_ins(t: Settings, device: Device, heard: usize, value: usize) -> Point
     frame_begins(t, device, value)
 }
 
-// LENGTH of a Data Write,
+// The point after so many bits of LENGTH with this value, in a Data Write.
 fn after_write_length(heard: usize, value: usize) -> Point
     requires { ⌜ value < 512 ⌝ }
     ensures { λ r. ⌜ r ≡ after-write-length heard value ⌝ }
@@ -127,7 +127,7 @@ fn after_write_length(heard: usize, value: usize) -> Point
     }
 }
 
-// and of a Data Read,
+// The point after so many bits of LENGTH with this value, in a Data Read.
 fn after_read_length(heard: usize, value: usize) -> Point
     requires { ⌜ value < 512 ⌝ }
     ensures { λ r. ⌜ r ≡ after-read-length heard value ⌝ }
@@ -150,7 +150,7 @@ fn after_read_length(heard: usize, value: usize) -> Point
     }
 }
 
-// a written ADDRESS,
+// The point after so many bits of a written ADDRESS with this value.
 fn after_address(heard: usize, value: usize) -> Point
     ensures { λ r. ⌜ r ≡ after-address heard value ⌝ }
 {
@@ -165,7 +165,7 @@ fn after_address(heard: usize, value: usize) -> Point
     }
 }
 
-// and written DATA.
+// The point after so many bits of written DATA with this value.
 fn after_data(heard: usize, value: usize) -> Point
     ensures { λ r. ⌜ r ≡ after-data heard value ⌝ }
 {
@@ -206,7 +206,7 @@ fn value_sent(t: Settings, effect: Effect, device: Device, flash: &[u8]) -> usiz
     }
 }
 
-// A strobe of a WAIT: a zero, or the 1 that ends it.
+// The point after a strobe of a WAIT: a zero, or the 1 that ends it.
 fn after_wait(
     t: Settings,
     zeros: usize,
@@ -336,7 +336,7 @@ fn starts(y: Target, x: u8) -> Replied
     )
 }
 
-// A WAIT takes a delay when it begins.
+// The first strobe of a WAIT, which takes a delay.
 fn begins_wait(
     y: Target,
     t: Settings,

@@ -1,4 +1,5 @@
--- Demand 3: whole lists of calls, against the target.
+-- Demand 3: whole lists of calls, against the target, with request h. Types alone: proofs/Laws/Whole proves
+-- each.
 use mathlib.Core.Path.{_≡_}
 use mathlib.Core.List.{List, [], _∷_}
 use Prim.Native.Nat.{ℕ, suc, _*_, _/_, _<_, _≤_}
@@ -21,22 +22,24 @@ use Rattle.c2_calls.specs.Calls.{Call, opening, refusal, Told, by-replies}
 use Rattle.exchange.specs.Calls.{heard, told, in-a-row, May-follow, Refused-unchanged}
 use Rattle.c2_whole.specs.Family.{C2}
 
--- THE JOB. A device's settings, the numbers of the pages to be programmed, and the image, page by page in
+-- THE JOB: a device's settings, the numbers of the pages to be programmed, and the image, page by page in
 -- that order.
 pub record Job : Type 0 where
   pub settings : Settings
   pub pages : List ℕ
   pub image : List ℕ
 
+-- the first page of a list of page numbers
 abbrev pub first-of : List ℕ → ℕ
 first-of [] = 0
 first-of (p ∷ ps) = p
 
--- the call that opens it, lent a record
+-- the call that opens a job's session, lent a record
 abbrev pub opens : (held : List ℕ) → Job → Call
 opens held j = opening held (j .image) (j .settings) (first-of (j .pages))
 
--- It is accepted. ID, FPDAT address and image are bytes, as in C, and the pages rise from the first.
+-- A job begins: its opening is accepted; ID, FPDAT address and image are bytes, as in C; and its pages rise
+-- from the first.
 pub record Begins (held : List ℕ) (j : Job) : Type 0 where
   pub accepted : refusal (opens held j) ≡ 0
   pub id : j .settings .id < 256
@@ -44,26 +47,29 @@ pub record Begins (held : List ℕ) (j : Job) : Type 0 where
   pub bytes : Bytes (j .image)
   pub rising : j .pages ≡ rising (first-of (j .pages)) (length (j .image) / j .settings .size)
 
--- its pages, each with its bytes of the image, and the flash with them in place of the old ones
+-- the pages of a job, each with its bytes of the image
 abbrev pub job-pages : Job → List Page
 job-pages j = pages (j .settings .size) 0 (j .pages) (j .image)
 
+-- the flash with a job's pages in place of the old ones
 abbrev pub programmed : Job → (flash : List ℕ) → List ℕ
 programmed j f = with-pages (j .settings .size) (job-pages j) f
 
--- the same pages with another image
+-- a job over the same pages with another image
 abbrev pub anew : Job → (image : List ℕ) → Job
 anew j image = record { settings = j .settings; pages = j .pages; image = image }
 
--- THE TARGET. Its state, its flash and its delays; a step's reply, and the target after it.
+-- THE TARGET: its state, its flash and its delays.
 pub record Bench : Type 0 where
   pub target : State
   pub flash : List ℕ
   pub delays : List ℕ
 
+-- the target's reply to a step
 abbrev pub reply : Settings → Bench → (step : ℕ) → ℕ
 reply t b x = model-answer t (b .target) (b .flash) (b .delays) x .reply
 
+-- the target after a step
 abbrev pub stepped : Settings → Bench → (step : ℕ) → Bench
 stepped t b x =
     record {
@@ -72,25 +78,26 @@ stepped t b x =
       delays = b .delays;
     }
 
--- its replies to steps in a row, and the target after them
+-- the target's replies to steps in a row
 unfoldable pub replies : Settings → Bench → (steps : List ℕ) → List ℕ
 replies t b [] = []
 replies t b (x ∷ xs) = reply t b x ∷ replies t (stepped t b x) xs
 
+-- the target after steps in a row
 unfoldable pub given : Settings → Bench → (steps : List ℕ) → Bench
 given t b [] = b
 given t b (x ∷ xs) = given t (stepped t b x) xs
 
--- one that a session may meet: no step of it is refused (step 6 changes nothing), no collision is marked,
--- flash and delays are bytes
+-- A target is one that a session may meet: no step of it is refused (step 6 changes nothing), no collision is
+-- marked, and flash and delays are bytes.
 pub record Ready (t : Settings) (b : Bench) : Type 0 where
   pub steps : model-answer t (b .target) (b .flash) (b .delays) (code off) .number ≡ 0
   pub unmarked : b .target .collision ≡ 0
   pub flash : Bytes (b .flash)
   pub delays : Bytes (b .delays)
 
--- THE CLAIM. What the target is sent, as the calls tell it: the opening's step, 4, then the steps that were
--- written.
+-- THE CLAIM. The steps that the target is sent, as the calls tell it: the opening's step, 4, then the steps
+-- that were written.
 abbrev pub sent : Told → List ℕ
 sent x = code reset ∷ x .steps
 
@@ -98,13 +105,14 @@ sent x = code reset ∷ x .steps
 abbrev pub Own : Settings → Bench → Told → (replies : List ℕ) → Type 0
 Own t b x rs = take (x .taken) rs ≡ replies t b (take (x .taken) (sent x))
 
--- Against a target, told this at the opening and this after calls with these replies. However many of the
--- steps it has got, the target is one that another session may meet. With as many replies as the most steps
--- to come at the opening the session has ended. Once it has ended, it has ended done, and the target, by then
--- or with the last step too, holds the image in the named pages, and every other byte as it was. Cut after n
--- steps: a page not named, or not yet begun, is as before, one whose read-back has ended holds its image, and
--- at most one is under way (`Cut`); and a new session over the same pages, to which `ready` and this whole
--- claim apply, comes to the same as if there had been none before.
+-- What is claimed against a target, of what was told at the opening (`start`) and after calls with these
+-- replies (`x`). However many of the steps it has got, the target is one that another session may meet. With
+-- as many replies as the most steps to come at the opening the session has ended. Once it has ended, it has
+-- ended done, and the target, by then or with the last step too, holds the image in the named pages, and
+-- every other byte as it was. Cut after n steps: a page not named, or not yet begun, is as before, one whose
+-- read-back has ended holds its image, and at most one is under way (`Cut` of c2_cut); and a new session over
+-- the same pages, to which `ready` and this whole claim apply, comes to the same as if there had been none
+-- before.
 pub record Against (j : Job) (b : Bench) (start x : Told) (rs : List ℕ) : Type 0 where
   pub ready : (n : ℕ) → Ready (j .settings) (given (j .settings) b (take n (sent x)))
   pub ends : start .left ≤ length rs → x .outcome ≡ outcome done
@@ -115,21 +123,23 @@ pub record Against (j : Job) (b : Bench) (start x : Told) (rs : List ℕ) : Type
   pub again : (n : ℕ) → n ≤ suc (x .taken) → (held image : List ℕ) → Begins held (anew j image)
       → programmed (anew j image) (given (j .settings) b (take n (sent x)) .flash) ≡ programmed (anew j image) (b .flash)
 
--- Of a list of calls: each refused one changes no byte that it is lent and takes no reply; what the calls
--- tell is what the replies in a row come to; and where these are the target's own, the above.
+-- What is claimed of a list of calls: each refused one changes no byte that it is lent and takes no reply;
+-- what the calls tell is what the replies in a row come to; and where these are the target's own, `Against`
+-- holds.
 pub record Whole (j : Job) (start x : Told) (calls : List Call) : Type 0 where
   pub refused : Refused-unchanged C2
   pub told-is : x ≡ by-replies (j .settings) (first-of (j .pages)) (j .image) (in-a-row C2 calls)
   pub against : (b : Bench) → Ready (j .settings) b → Own (j .settings) b x (in-a-row C2 calls) → Against j b start x (in-a-row C2 calls)
 
--- Whatever the driver knew before: after an accepted opening, every list of calls that may follow it.
+-- Demand 3: whatever the driver knew before, after an accepted opening, of every list of calls that may
+-- follow it.
 abbrev pub Calls-program : Type 0
 Calls-program = (j : Job) (held : List ℕ) (before : Told) (calls : List Call) → Begins held j
     → May-follow C2 (j .image) (heard C2 before (opens held j)) calls
     → Whole j (heard C2 before (opens held j)) (told C2 before (opens held j ∷ calls)) calls
 
--- There are such lists, so the claim is about something: whatever the target, some calls take its own replies
--- to the end.
+-- There are lists that `Calls-program` is about: whatever the target, some calls take its own replies to the
+-- end.
 pub record Some-calls (j : Job) (held : List ℕ) (before : Told) (b : Bench) : Type 0 where
   pub calls : List Call
   pub follow : May-follow C2 (j .image) (heard C2 before (opens held j)) calls
@@ -139,7 +149,7 @@ pub record Some-calls (j : Job) (held : List ℕ) (before : Told) (b : Bench) : 
 abbrev pub Calls-exist : Type 0
 Calls-exist = (j : Job) (held : List ℕ) (before : Told) (b : Bench) → Begins held j → Ready (j .settings) b → Some-calls j held before b
 
--- And a fresh target is ready, with any flash of size times count bytes and any delays.
+-- A fresh target is ready, with any flash of size times count bytes and any delays.
 abbrev pub Fresh-ready : Type 0
 Fresh-ready = (t : Settings) (f ds : List ℕ) → settings-refusal t ≡ 0 → length f ≡ t .size * t .count → Bytes f → Bytes ds
     → Ready t (record { target = state-of fresh; flash = f; delays = ds })

@@ -1,5 +1,5 @@
--- The exchange of the C2 wire: a step in its field asks, a bit comes back.
--- Steps written, outcome and replies taken for any list of replies are read off the tree.
+-- The exchange of the C2 wire: a step in its field asks, a bit comes back. Steps written, outcome and replies
+-- taken, for any list of replies, are read off the tree (demand 2).
 use mathlib.Core.Bool.{Bool, true, false, not, _||_}
 use mathlib.Core.List.{List, [], _∷_, map}
 use Prim.Native.Nat.{ℕ, zero, suc}
@@ -11,7 +11,7 @@ pub use Rattle.exchange.specs.Exchange.{ended, ask}
 use Rattle.c2_wire.specs.Step.{Step, off, code, drives}
 use Rattle.c2_wire.specs.Field.{Field, master}
 
--- the number that comes back, and the image offset beside it (0 but for 14)
+-- An outcome: the number that comes back, and the image offset beside it (0 but for 14).
 pub record Outcome : Type 0 where
   pub number : ℕ
   pub offset : ℕ
@@ -19,7 +19,7 @@ pub record Outcome : Type 0 where
 abbrev pub outcome : ℕ → Outcome
 outcome n = record { number = n; offset = 0 }
 
--- a step, in its field
+-- What the C2 wire asks: a step, in its field.
 pub data Ask : Type 0 where
   at : Field → Step → Ask
 
@@ -35,7 +35,7 @@ read a zero = heard false
 read a (suc zero) = heard true
 read a (suc (suc r)) = stops (outcome bad-reply)
 
--- the exchange after a reply, and after replies in a row; an ended one takes none
+-- the exchange after one reply (`after`) and after replies in a row (`fed`); an ended exchange takes none
 unfoldable pub after : Exchange → (reply : ℕ) → Exchange
 unfolding Shared.after read
 after e r = Shared.after read e r
@@ -60,16 +60,16 @@ unfoldable pub steps : Exchange → (replies : List ℕ) → List ℕ
 unfolding brought asks after
 steps e rs = map byte (brought read e rs)
 
--- how many of the replies are taken
+-- how many of the replies in a row are taken
 unfoldable pub taken : Exchange → (replies : List ℕ) → ℕ
 taken e rs = length (steps e rs)
 
--- running, or the outcome
+-- the outcome of an exchange; one that has not ended has the number 0, running
 unfoldable pub outcome-of : Exchange → Outcome
 outcome-of (ended o) = o
 outcome-of (ask a k) = outcome running
 
--- C2D is not driven, or the step stands in a field of the master's
+-- an exchange that does not drive C2D now, or whose step stands in a field of the master's
 unfoldable pub own : Exchange → Bool
 own (ended o) = true
 own (ask (at f s) k) = not (drives s) || master f

@@ -38,7 +38,7 @@ ins-code DataWrite = 1
 ins-code AddressRead = 2
 ins-code AddressWrite = 3
 
--- the frames; the byte is the one written, and a read has none
+-- the strobes of a frame; the byte is the one that a write sends, and a read has none
 unfoldable pub frame : Frame → (byte : ℕ) → List Strobe
 frame AddressWrite a = start ++ sends INS 2 (ins-code AddressWrite) ++ sends written-ADDRESS 8 a ++ stop
 frame AddressRead a = start ++ sends INS 2 (ins-code AddressRead) ++ replicate 8 (sampled read-ADDRESS) ++ stop

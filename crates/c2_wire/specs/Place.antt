@@ -1,5 +1,5 @@
--- A place in a frame: the step there, what a reply makes of it, the exchange that is left there and the most
--- strobes of it, and how far a place's numbers go.
+-- A place in a frame: its step, what a reply makes of it, the exchange that is left there with the most
+-- strobes of that, and how far a place's numbers go.
 use mathlib.Core.Bool.{Bool, cond}
 use mathlib.Core.List.{List, [], _∷_}
 use Prim.Native.Nat.{ℕ, suc, _+_, _-_, _*_, _^_, _%_}
@@ -38,16 +38,16 @@ samples (plain f s ∷ ss) = samples ss
 samples (sampled f ∷ ss) = suc (samples ss)
 samples (waits ∷ ss) = samples ss
 
--- What a reply makes of a place: the next strobe,
+-- what a reply makes of a place whose reply is not looked at: the next strobe
 abbrev pub passes : Place → Moved
 passes p = Within (place (p .strobe + 1) (p .count) (p .bits))
 
--- the next strobe with one bit more, kept to a byte,
+-- what a reply makes of a place that is sampled: the next strobe with one bit more, kept to a byte
 abbrev pub takes-bit : (weight : ℕ) → Place → Bool → Moved
 takes-bit i p b = Within (place (p .strobe + 1) (p .count) ((p .bits + bit b * 2 ^ i) % 256))
 
--- or, in a WAIT, the next strobe after a 1, and after a 0 the same strobe again, until the zero that reaches
--- the limit.
+-- what a reply makes of a place in a WAIT: after a 1 the next strobe, after a 0 the same strobe again, until
+-- the zero that reaches the limit
 abbrev pub waits-on : (wait-limit : ℕ) → Place → Bool → Moved
 waits-on l p b =
     cond b (Within (place (p .strobe + 1) 0 (p .bits)))
@@ -75,7 +75,7 @@ rest-of l (waits ∷ ss) z n v k = waiting (l - z) (strobes l ss n v k)
 unfoldable pub remaining : (wait-limit : ℕ) → List Strobe → Place → (ℕ → Exchange) → Exchange
 remaining l ss p k = rest-of l (drop (p .strobe) ss) (p .count) (samples (take (p .strobe) ss)) (p .bits) k
 
--- and after a move
+-- the exchange that is left after a reply has moved the place
 unfoldable pub moved-to : (wait-limit : ℕ) → List Strobe → Moved → (ℕ → Exchange) → Exchange
 moved-to l ss (Within p) k = remaining l ss p k
 moved-to l ss (Stopped v) k = k v
@@ -88,7 +88,7 @@ longest l (plain f s ∷ ss) = suc (longest l ss)
 longest l (sampled f ∷ ss) = suc (longest l ss)
 longest l (waits ∷ ss) = l + longest l ss
 
--- and where z zeros of the WAIT at the head, if one is there, are seen
+-- the most strobes left of a frame where z zeros of the WAIT at its head, if one is there, are seen
 unfoldable pub longest-rest : (wait-limit : ℕ) → List Strobe → (z : ℕ) → ℕ
 longest-rest l [] z = 0
 longest-rest l (plain f s ∷ ss) z = longest l (plain f s ∷ ss)

@@ -1,4 +1,4 @@
--- One step on the wire (document 01, "One step on the wire").
+-- A step, document 01's own term: one byte for the wire (document 01, "One step on the wire").
 use mathlib.Core.Bool.{Bool, true, false}
 use Prim.Native.Nat.{ℕ}
 

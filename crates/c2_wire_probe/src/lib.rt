@@ -70,7 +70,7 @@ fn numbers_of(moved: Moved) -> Followed
     }
 }
 
-// `step` and `follow` for callers in other languages, with the frame by its INS code.
+// `step` and `follow` of c2_wire for callers in other languages, with the frame by its INS code.
 #[no_mangle]
 pub extern "C" fn wire_step(ins: u8, byte: u8, strobe: usize) -> u8
     ensures { λ r. ⌜ r ≡ step-at (frame (frame-of ins) byte) strobe ⌝ }

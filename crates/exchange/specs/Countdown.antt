@@ -45,7 +45,8 @@ counter =
       Fine = λ l n. Unit {0};
     }
 
--- its calls: what the replies bring is written to a buffer, from a place on, and counted
+-- What the counter's calls are lent to write to: a buffer, and the place from which on the counts are
+-- written.
 pub record Room : Type 0 where
   pub buffer : List ℕ
   pub place : ℕ
@@ -62,7 +63,7 @@ pub record Known : Type 0 where
 unfoldable pub steps : Exchange ℕ ℕ ℕ → List ℕ → List ℕ
 steps e rs = map byte (Shared.brought read e rs)
 
--- 6 for a record that is none, 8 where there is no room
+-- the counter's refusals: 6 for a record that is none, 8 where there is no room
 abbrev pub refusal : Option ℕ → (replies : List ℕ) → Room → ℕ
 refusal none rs m = 6
 refusal (some n) rs m = cond (leb (m .place + length rs) (length (m .buffer))) 0 8

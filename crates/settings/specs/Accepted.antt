@@ -5,12 +5,15 @@ use lib.Dec.{eqb, leb}
 use Rattle.numbers.specs.Numbers.{bad-fpdat, bad-page-size, bad-page-count}
 use Rattle.settings.specs.declared.Settings.{Settings}
 
+-- a FPDAT address that is accepted
 unfoldable pub is-fpdat : ℕ → Bool
 is-fpdat a = leb 3 a
 
+-- a page size that is accepted
 unfoldable pub is-page-size : ℕ → Bool
 is-page-size size = eqb size 512 || eqb size 1024
 
+-- a page count that is accepted
 unfoldable pub is-page-count : (size count : ℕ) → Bool
 is-page-count size count = leb 1 count && leb (size * count) 65536
 

@@ -11,7 +11,7 @@ use Rattle.settings.specs.declared.Settings.{Settings}
 unfoldable pub is-image : (size length : ℕ) → Bool
 is-image size n = leb 1 n && eqb (n % size) 0
 
--- its pages, from the first page on, are pages of the device
+-- the pages of an image of this length, from the first page on, are pages of the device
 unfoldable pub are-pages : Settings → (first length : ℕ) → Bool
 are-pages s first n = leb (first + n / s .size) (s .count)
 

@@ -1,4 +1,4 @@
--- What a call that takes replies answers and leaves, at each of its returns.
+-- What a call that takes replies answers and leaves, at each of its returns, as specs/Calls.antt says it.
 use mathlib.Core.Path.{_≡_, refl, sym, ap, _∙_}
 use mathlib.Core.List.{List, _++_, append-nil}
 use Prim.Native.Nat.{ℕ, _+_, _<_, _≤_}
@@ -23,7 +23,7 @@ use Rattle.c2_opening.proofs.Laws.Follows.{Lent, outcome-is}
 use Rattle.c2.proofs.Laws.Loop.Exchange.{ran-is, wrote-is}
 use Rattle.c2_wire.specs.Exchange
 
--- answer, step buffer and record afterwards
+-- answer, step buffer and record after a call that takes replies
 abbrev pub Leaves : Unpacked → (image replies buffer : List ℕ) → (place : ℕ) → (record₀ : List ℕ) → Advanced → (buffer₁ record₁ : List ℕ) → Type 0
 Leaves u image rs buffer place r₀ a b r₁ =
     (a ≡ advance-answer u image rs buffer place) × ((b ≡ advance-steps u image rs buffer place) × (r₁ ≡ advance-record u image rs buffer place r₀))
@@ -69,7 +69,7 @@ lent-held r image s e b l =
     let h = unpacked-exactly 20 256 small s r .0 e in
     record { id = h .id; bytes = b; range = h .ranges; whole = l }
 
--- a record takes the place of the one that was held: both are 32 bytes
+-- the new record takes the place of the one that was held: both are 32 bytes
 module _ (r p : List ℕ) (s x : Session) (e : unpacked 20 256 r ≡ Held s) (f : p ≡ packed x) where
   same-size : length p ≡ length r
   same-size = ap length f ∙ packed-whole x .size ∙ sym (packed-whole s .size) ∙ ap length (unpack-pack 20 256 s r e)

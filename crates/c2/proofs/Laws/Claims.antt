@@ -1,4 +1,4 @@
--- The claims of specs/Claims.antt, each proved under its name; `Asking` has that of the figure.
+-- The claims of specs/Claims.antt, each proved under its name; StepsLeft has `figure-of-any`.
 use mathlib.Core.Path.{_≡_, refl, sym, ap, _∙_}
 use mathlib.Core.List.{List, [], _∷_}
 use Prim.Native.Nat.{ℕ, _/_}
@@ -26,7 +26,7 @@ point-reached s image (r ∷ rs) h =
     point-reached (advanced 20 256 s r image) image rs (lent-advances s image r h)
     ∙ ap (λ (x : Point.Point). reached session-limits x rs) (advances 20 256 s image (h .range) (h .whole) r)
 
--- and replies leave its settings and pages alone
+-- replies leave a session's settings and pages alone
 settings-stay : (s : Session) (image rs : List ℕ) → session-fed s image rs .settings ≡ s .settings
 unfolding session-fed advanced
 settings-stay s image [] = refl

@@ -1,4 +1,4 @@
--- What the loop of `run` keeps: at its start, after a turn, and where it is left.
+-- What the loop of `c2::run` keeps: at its start, after a turn, and where it is left.
 pub mod Exchange
 use mathlib.Core.Path.{_≡_, refl, sym, ap, _∙_}
 use mathlib.Core.Bool.{true, false}
@@ -34,7 +34,7 @@ pub record Sofar (image replies steps₀ : List ℕ) (s₀ : Session) (steps : L
   pub out : wrote image s₀ replies ≡ take i steps ++ wrote image s (drop i replies)
   pub rest : drop i steps ≡ drop i steps₀
 
--- what is due at a return
+-- what is due where the loop is left
 pub record Due (image replies steps₀ : List ℕ) (s₀ : Session) (steps : List ℕ) (s : Session) (i : ℕ) : Type 0 where
   pub session : s ≡ ran image s₀ replies
   pub taken : i ≡ length (wrote image s₀ replies)
@@ -60,7 +60,7 @@ module _ (image replies steps₀ : List ℕ) (s₀ : Session) where
           rest = rw (add-one, drop-set-lt (suc i) steps i v, ← add-one, ← drop-drop 1 i steps, k .rest, drop-drop 1 i steps₀);
         }
 
-    -- the same by what is known of the session's act
+    -- a turn of the loop for a caller that knows what the session's act does
     pub goes-known : (t : Task) → Knows t (s .point) → i < length replies → is-running (s .point) ≡ true
         → (s₁ : Session) → s₁ ≡ advanced-by 20 256 t s (getD replies i 0) image → (t₁ : Task) → t₁ ≡ task-next (s₁ .point) t
         → (v : ℕ) → v ≡ step-by t₁ s₁ image → Sofar image replies steps₀ s₀ (set steps i v) s₁ (i + 1) × Knows t₁ (s₁ .point)
@@ -72,7 +72,7 @@ module _ (image replies steps₀ : List ℕ) (s₀ : Session) where
         let f : v ≡ session-step (advanced 20 256 s (getD replies i 0) image) image = ev ∙ step-known 20 256 s₁ t₁ image k₁ ∙ ap (λ (z : Session). session-step z image) e in
         (rw (f, e) (goes h run), k₁)
 
-    -- the steps written so far are all
+    -- the loop is left: the steps written so far are all
     ends : wrote image s (drop i replies) ≡ [] → s ≡ ran image s (drop i replies) → Due image replies steps₀ s₀ steps s i
     ends e f =
         let w : wrote image s₀ replies ≡ take i steps = k .out ∙ rw (e, append-nil) in
@@ -91,8 +91,8 @@ module _ (image replies steps₀ : List ℕ) (s₀ : Session) where
     pub stops : is-running (s .point) ≡ false → Due image replies steps₀ s₀ steps s i
     stops p = ends (wrote-stops image s (drop i replies) p) (sym (ran-stops image s (drop i replies) p))
 
--- a part from a place to the end, written, is back: what stood before the place, what was written, and what
--- stood after it
+-- a part of the step buffer that was written, put back: what stood before the place, what was written, and
+-- what stood after it
 pub put-back : (place : ℕ) (xs ys w : List ℕ) (n : ℕ) → n ≡ length w → ys ≡ w ++ drop n (take (length xs - place) (drop place xs))
     → take place xs ++ (ys ++ drop (length xs - place) (drop place xs)) ≡ take place xs ++ (w ++ drop (length w) (drop place xs))
 put-back place xs ys w n e f =

@@ -1,4 +1,4 @@
--- What an opening answers and leaves, at each of its returns.
+-- What an opening answers and leaves, at each of its returns, as specs/Calls.antt says it.
 use mathlib.Core.Path.{_≡_, refl, sym, ap, _∙_}
 use mathlib.Core.List.{List, _++_, append-nil}
 use Prim.Native.Nat.{ℕ, _≤_}
@@ -15,7 +15,7 @@ use Rattle.c2.specs.declared.Opened.{Opened}
 use Rattle.c2_opening.specs.Opened.{opened-session}
 use Rattle.c2.specs.Calls.{opening-number, opening-answer, record-opened}
 
--- answer and record afterwards
+-- answer and record after an opening
 abbrev pub Opens : Settings → (first n : ℕ) → (record₀ : List ℕ) → Opened → (record₁ : List ℕ) → Type 0
 Opens t first n r a r₁ =
     (a ≡ opening-answer (opening-number (length r) t first n)) × (r₁ ≡ record-opened (opening-number (length r) t first n) (opened-session t first n) r)

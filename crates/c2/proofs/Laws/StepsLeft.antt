@@ -1,4 +1,4 @@
--- What a question is answered: the arithmetic's figure is the order's, whatever the image's bytes.
+-- What a question is answered: the figure by arithmetic is the order's, whatever the image's bytes.
 use mathlib.Core.Path.{_≡_, sym, ap, _∙_}
 use mathlib.Core.List.{List}
 use Prim.Native.Nat.{ℕ, zero, suc}

@@ -1,5 +1,5 @@
--- For the code: the session reached and the steps written, reply by reply. Nothing here needs to be believed:
--- `Meeting` in proofs/ has the laws that these are the session after the replies and the steps of the
+-- For the code: the session reached and the steps written, reply by reply. `ran-is` and `wrote-is` of
+-- proofs/Laws/Loop/Exchange are the laws that these are the session after the replies and the steps of the
 -- exchange.
 use mathlib.Core.Bool.{cond}
 use mathlib.Core.List.{List, [], _∷_}
@@ -9,10 +9,12 @@ use Rattle.c2_session.specs.Code.Step.{session-step}
 use Rattle.c2_session.specs.Code.Advance.{advanced}
 use Rattle.c2_outcome.specs.Outcome.{is-running}
 
+-- the session after the replies; one that has ended takes none
 abbrev pub ran : (image : List ℕ) → Session → List ℕ → Session
 ran image s [] = s
 ran image s (r ∷ rs) = cond (is-running (s .point)) (ran image (advanced 20 256 s r image) rs) s
 
+-- the steps written, one for each reply taken
 abbrev pub wrote : (image : List ℕ) → Session → List ℕ → List ℕ
 wrote image s [] = []
 wrote image s (r ∷ rs) =

@@ -41,7 +41,7 @@ written e rs place buffer h =
     ap (λ (x : List ℕ). take (length (steps e rs)) x) (rw l at (drop-append-seam (take place buffer) (steps e rs ++ drop (length (steps e rs)) (drop place buffer))))
     ∙ take-append-seam (steps e rs) (drop (length (steps e rs)) (drop place buffer))
 
--- an accepted call, by what its record holds
+-- what an accepted call answers and leaves, by what its record holds
 module _ (r image rs buffer : List ℕ) (place : ℕ) (s : Session) (e : unpacked 20 256 r ≡ Held s)
     (ok : held-number (Held s) (length image) (length rs) (length buffer) place ≡ 0) where
   room : place + length rs ≤ length buffer
@@ -59,12 +59,12 @@ module _ (r image rs buffer : List ℕ) (place : ℕ) (s : Session) (e : unpacke
   keeps : advance-record (unpacked 20 256 r) image rs buffer place r ≡ packed (session-fed s image rs)
   keeps = rw (e, eq-eqb _ 0 ok)
 
--- the session after replies to an accepted opening
+-- what holds of the session after replies to an accepted opening
 module _ (t : Settings) (first : ℕ) (image : List ℕ) (o : Opening t first image) where
   pub after : (rs : List ℕ) → Follows t first image rs
   after rs = replies-follow t first image rs (o .id) (o .fpdat) (o .bytes) (o .accepted)
 
-  -- a question that is lent its record
+  -- what a question is answered that is lent the session's record
   pub asked : (rs : List ℕ)
       → remaining-answer (unpacked 20 256 (packed (session-after t first image rs)))
       ≡ record { number = outcome-of (fed (exchange-of session-limits t first image) rs) .number; steps = figure session-limits (point-after session-limits t first image rs) }
@@ -80,7 +80,7 @@ module _ (t : Settings) (first : ℕ) (image : List ℕ) (o : Opening t first im
   pub left-told : (rs : List ℕ) → told-left (packed (session-after t first image rs)) ≡ figure session-limits (point-after session-limits t first image rs)
   left-told rs = ap (λ (a : Remaining). a .steps) (asked rs)
 
-  -- told after replies, a call that takes more of them
+  -- what the driver has after replies and a call that takes more of them
   abbrev kept : (replies : List ℕ) → List ℕ
   kept qs = packed (session-after t first image qs)
 
@@ -128,7 +128,7 @@ module _ (t : Settings) (first : ℕ) (image : List ℕ) (o : Opening t first im
         let left = ap told-left record-is ∙ left-told (qs ++ rs) in
         λ i. record { held = record-is i; steps = more i; taken = sum i; outcome = outcome-is i; left = left i }
 
-  -- and a question
+  -- what the driver has after replies and a question
   pub asks : (qs : List ℕ) → after-asking (by-replies t first image qs) (kept qs) ≡ by-replies t first image qs
   unfolding by-replies
   asks qs =

@@ -38,8 +38,8 @@ module _ (t : Settings) (first : ℕ) (image : List ℕ) (o : Opening t first im
       let left = left-told t first image o [] in
       rw (e, o .accepted) (λ i. record { held = packed s; steps = []; taken = 0; outcome = said i; left = left i })
 
-  -- an accepted call that may follow, and any that may follow, tells what its replies, in a row with those
-  -- before, do
+  -- an accepted call that may follow (`takes-on`), and any call that may follow (`goes-on`), tells what its
+  -- replies, in a row with those before, do
   takes-on : (c : Call) (qs : List ℕ) → refusal c ≡ 0 → As-left image (packed (session-after t first image qs)) c → accepted (by qs) c ≡ by (qs ++ replies-of c)
   unfolding accepted refusal replies-of
   takes-on (opening r i u n) qs e h = absurd h
@@ -64,7 +64,7 @@ module _ (t : Settings) (first : ℕ) (image : List ℕ) (o : Opening t first im
       let g = goes-on c qs (m .0) in
       ap (λ (x : Told). told x cs) g ∙ lists cs (qs ++ d) (rw g at (m .1)) ∙ ap by (append-assoc qs d (in-a-row cs))
 
--- told after an accepted opening
+-- what the driver has after an accepted opening and a list of calls
 whole : Lists-are-replies
 whole t first image held o e calls m =
     let p = opens t first image o held e in
@@ -92,7 +92,7 @@ like-one-call t first image held buffer o e calls m h =
     let a = accepts t first image held (in-a-row calls) buffer o e h in
     lists-alike t first image held o e calls (one ∷ []) m ((λ _. (refl, refl)), tt) (rw (eq-eqb (refusal one) 0 a) (sym (append-nil (in-a-row calls))))
 
--- a refused call
+-- a refused call changes no lent byte, takes no reply and gives its number
 refused-taking : (u : Unpacked) (r image rs buffer : List ℕ) (place : ℕ) → (held-number u (length image) (length rs) (length buffer) place ≡ 0 → ⊥)
     → (advance-record u image rs buffer place r ≡ r) × (advance-steps u image rs buffer place ≡ buffer)
     × (advance-answer u image rs buffer place ≡ refused-answer (held-number u (length image) (length rs) (length buffer) place))

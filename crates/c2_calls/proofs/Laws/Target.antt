@@ -82,7 +82,7 @@ stands t ds f s r = go (target-of s) refl (r .steps)
         }
     go Nothing h e = absurd (no-target-refuses t e)
 
--- and back
+-- a target that a session may meet is ready, by its state
 pub ready : (t : Settings) (ds f : List ℕ) (y : Target) → settings-refusal t ≡ 0 → Met session-limits (setup t ds) y f → Ready t ds f (state-of y)
 unfolding answer refusal is-step code bit state-of
 ready t ds f y ok m =

@@ -44,7 +44,7 @@ pub first-step : (t : Settings) (first : ℕ) (image : List ℕ) → asks (excha
 unfolding asks conversation session-order order lead strobes
 first-step t first image = refl
 
--- replies in a row, each taken one the target's own
+-- what holds of replies in a row of which each one taken is the target's own
 module _ (t : Settings) (first : ℕ) (image : List ℕ) (o : Opening t first image) (rs ds f : List ℕ) (s : State) (r : Ready t ds f s) where
   abbrev x : Told
   x = by-replies t first image rs

@@ -1,4 +1,4 @@
--- A new session after a cut.
+-- A new session after a cut ends as if there had been none before it: `Again` of specs/Cut.antt.
 use mathlib.Core.Path.{_≡_, refl, sym, ap, _∙_, subst}
 use mathlib.Core.Bool.{false}
 use mathlib.Core.List.{List, [], _∷_, _++_}
@@ -28,7 +28,7 @@ use Rattle.c2_cut.proofs.Laws.Cut.{at-below}
 use Rattle.c2_play.proofs.Laws.WholeStep.{programs-pages}
 use Rattle.c2_cut.proofs.Laws.Claims.{cuts}
 
--- what is left, played on, comes to the same end
+-- the rest of a run that is cut, played on, comes to the same end
 play-walked : (u : Setup) (n : ℕ) (e : Exchange) (t : Target) (f : List ℕ)
     → play u (walked (whole-step u) n e t f .left) (walked (whole-step u) n e t f .target) (walked (whole-step u) n e t f .flash) ≡ play u e t f
 unfolding walked against
@@ -36,7 +36,7 @@ play-walked u zero e t f = refl
 play-walked u (suc n) (ended o) t f = refl
 play-walked u (suc n) (ask (at g s) k) t f = play-walked u n (k (whole-step u t f s .reply)) (whole-step u t f s .target) (whole-step u t f s .flash)
 
--- the state exists on the way
+-- the state exists wherever a run is cut
 walked-lasts : (u : Setup) → Lent u → (n : ℕ) (e : Exchange) (t : Target) (f : List ℕ) → Lasts u t f
     → Lasts u (walked (whole-step u) n e t f .target) (walked (whole-step u) n e t f .flash)
 unfolding walked whole-step
@@ -82,7 +82,7 @@ find (r ∷ ps) q = go (ℕ-discrete (r .number) q) (find ps q)
         off zero p a e = d (let same : r ≡ p = cc (a .is) in ap (λ (x : Page). x .number) same ∙ e)
         off (suc i) p a e = h i p (record { later = a .later; is = a .is }) e
 
--- pages of the same numbers
+-- lists of pages with the same numbers have the same number at each place
 pub same-place : (qs ps : List Page) → numbers qs ≡ numbers ps → (i : ℕ) (p : Page) → At ps i p → (q : Page) × (At qs i q) × (q .number ≡ p .number)
 same-place qs [] h i p a = absurd (nothing-at i p a)
 same-place [] (r ∷ ps) h i p a = absurd (let z : _≡_ {A = ℕ} 0 1 = cc in omega arith)
@@ -95,7 +95,7 @@ same-place (q ∷ qs) (r ∷ ps) h (suc i) p a =
     let x = same-place qs ps e i p (record { later = a .later; is = a .is }) in
     (x .0, record { later = x .1 .later; is = x .1 .is }, x .2)
 
--- over flashes that differ in named pages alone, the same pages come to the same
+-- over flashes that differ in named pages alone, programming these pages comes to the same flash
 pub pages-again : (s : Settings) (qs : List Page) (f F : List ℕ) → Named s qs → length f ≡ s .size * s .count → length F ≡ s .size * s .count
     → ((q : ℕ) → q < s .count → ((i : ℕ) (p : Page) → At qs i p → p .number ≡ q → ⊥) → page-of (s .size) q F ≡ page-of (s .size) q f)
     → with-pages (s .size) qs F ≡ with-pages (s .size) qs f

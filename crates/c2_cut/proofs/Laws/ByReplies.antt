@@ -1,4 +1,4 @@
--- The same by replies: the steps that they bring lead the target as the run does.
+-- The claims of specs/Cut.antt by replies: the steps that they bring lead the target as the run does.
 use mathlib.Core.Path.{_≡_, refl, sym, ap, _∙_, subst, subst⁻¹}
 use mathlib.Core.List.{List, [], _∷_}
 use Prim.Native.Nat.{ℕ, zero, suc, _-_, _<_, _≤_}
@@ -81,7 +81,7 @@ given-walk u (suc n) (ask (at g s) k) t f (r ∷ rs) h hn =
     given-walk u n (after (strobe g s k) r) (x .target) (flash-after u t f (code s)) rs (tail-is r (x .reply) _ _ h) (omega arith)
     ∙ ap (λ (y : Exchange). there (walked (whole-step u) n y (x .target) (flash-after u t f (code s)))) next
 
--- and the replies are the run's
+-- replies that are the target's own are those of the run
 pub own-take : (u : Setup) (m : ℕ) (e : Exchange) (t : Target) (f rs : List ℕ) → Own-replies u t f e rs → m ≤ taken e rs
     → take m rs ≡ take m (run-replies (whole-step u) e t f)
 unfolding taken steps asks answered own-replies whole-step after run-replies
@@ -106,7 +106,7 @@ stops (ended o) (r ∷ rs) h = (o, refl)
 stops (ask (at g s) k) [] h = absurd (omega arith)
 stops (ask (at g s) k) (r ∷ rs) h = stops (after (strobe g s k) r) rs (omega arith)
 
--- once its own replies have ended it, they are as many as its run takes
+-- where the replies of its run have ended an exchange, they are as many as the run takes
 lasts-by : (step : Target → List ℕ → Step → Turn) (m : ℕ) (e : Exchange) (t : Target) (f : List ℕ) (o : Outcome)
     → fed e (take m (run-replies step e t f)) ≡ ended o → lasts step e t f ≤ m
 unfolding lasts run-replies fed
@@ -117,7 +117,7 @@ lasts-by step (suc m) (ask (at g s) k) t f o q =
     (sym (ap (λ (y : Exchange). fed y (take m (run-replies step (k (step t f s .reply)) (step t f s .target) (step t f s .flash)))) (after-bit g s k (step t f s .reply))) ∙ q) in
     omega (arith, h)
 
--- an ended exchange stays so
+-- an ended exchange stays ended
 more-ended : (m n : ℕ) (e : Exchange) (rs : List ℕ) (o : Outcome) → m ≤ n → fed e (take m rs) ≡ ended o → fed e (take n rs) ≡ ended o
 unfolding fed
 more-ended zero n e rs o h q = ap (λ (y : Exchange). fed y (take n rs)) q ∙ fed-ended o (take n rs)

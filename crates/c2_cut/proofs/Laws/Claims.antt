@@ -1,4 +1,4 @@
--- Request h over the definitions.
+-- Request h over the definitions: `Cuts` of specs/Cut.antt.
 use mathlib.Core.Path.{_≡_, refl, ap, subst⁻¹}
 use mathlib.Core.List.{List, _∷_}
 use Prim.Native.Nat.{ℕ, zero, suc}
@@ -20,7 +20,7 @@ use Rattle.c2_cut.specs.Walk.{Walk, walked}
 use Rattle.c2_cut.specs.Cut.{Cut, Cuts}
 use Rattle.c2_cut.proofs.Laws.Cut.{cut-stepped}
 
--- the target's whole step is never refused on the way
+-- the target's whole step is never refused wherever a run is cut
 pub walked-same : (u : Setup) → Lent u → settings-refusal (u .settings) ≡ 0 → (n : ℕ) (e : Exchange) (t : Target) (f : List ℕ) → Bytes f → Exists u t f
     → walked (whole-step u) n e t f ≡ walked (stepped u) n e t f
 unfolding walked

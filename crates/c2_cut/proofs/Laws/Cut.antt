@@ -1,4 +1,4 @@
--- What a cut leaves of each page.
+-- What a cut leaves of each page: `Cut` of specs/Cut.antt.
 use mathlib.Core.Path.{_≡_, sym, ap, _∙_}
 use mathlib.Core.Bool.{false}
 use mathlib.Core.List.{List, [], _∷_}
@@ -48,14 +48,14 @@ part-length size p k e =
     let w : take k (p .bytes) ≡ p .bytes = take-all k (p .bytes) (omega arith) in
     rw (length-append, length-drop, length-replicate, w) (omega arith))
 
--- a page under way leaves the others
+-- a page under way leaves the other pages as they were
 mid-other : (s : Settings) (p : Page) (q : ℕ) (g F : List ℕ) → Fits s p → length g ≡ s .size * s .count → (p .number ≡ q → ⊥) → Mid (s .size) p g F
     → page-of (s .size) q F ≡ page-of (s .size) q g
 mid-other s p q g F fits eg ne (untouched e) = ap (page-of (s .size) q) e
 mid-other s p q g F fits eg ne (written k e) =
     ap (page-of (s .size) q) e ∙ page-other (s .size) (p .number) q (part (s .size) p k) g (inside s p g fits eg) (part-length (s .size) p k (fits .whole)) ne
 
--- Where the steps fall, page by page.
+-- What a cut leaves of each page, by where the steps fall.
 module _ (s : Settings) (ps : List Page) (named : Named s ps) (f F : List ℕ) (R : ℕ → ℕ) (n : ℕ) (ef : length f ≡ s .size * s .count)
     (mono : (i j : ℕ) → i ≤ j → R i ≤ R j) (rises : (i : ℕ) (p : Page) → At ps i p → R i < R (suc i)) where
   abbrev size : ℕ
@@ -118,7 +118,7 @@ module _ (s : Settings) (ps : List Page) (named : Named s ps) (f F : List ℕ) (
       (λ eq. absurd (let z : j ≡ i = named .once j i r p b a eq in omega arith)) mid
       ∙ pages-other s ps j (p .number) f fits ef (λ k q hk c eq. absurd (let z : k ≡ i = named .once k i q p c a eq in omega arith))
 
-  -- at most one is begun and not over
+  -- at most one page is begun and its read-back not over
   only-one : (i j : ℕ) → R i ≤ n - 1 → n - 1 < R (suc i) → R j ≤ n - 1 → n - 1 < R (suc j) → i ≡ j
   only-one i j hi gi hj gj =
       by-test (ltb i j)
@@ -127,7 +127,8 @@ module _ (s : Settings) (ps : List Page) (named : Named s ps) (f F : List ℕ) (
       (λ v. let z = mono (suc j) i (ltb-true j i v) in absurd (omega (arith, z)))
       (λ v. omega (arith, ltb-false i j t, ltb-false j i v)))
 
-  -- The claim, for replies that tell as much: those before the last step, and all, exactly or one fewer.
+  -- `Cut` holds for replies that tell as much as the run's: those before the last step, and all, exactly or
+  -- one fewer.
   pub cut-by : (l : Limits) (rs : List ℕ) → Standing size ps f R n F
       → ((i : ℕ) → Over l s (take i ps) (take (n - 1) rs) → R i ≤ n - 1) → ((i : ℕ) → R i ≤ n - 1 → Over l s (take i ps) (take (n - 1) rs))
       → ((i : ℕ) → Over l s (take i ps) (take n rs) → R i ≤ n) → ((i : ℕ) → R i ≤ n - 1 → Over l s (take i ps) (take n rs))

@@ -35,7 +35,7 @@ module _ (u : Setup) (l r : ℕ) (fit : Fit u l r) where
   abbrev conv : List Act → Exchange
   conv acts = conversation (limits l r) acts
 
-  -- the last reset
+  -- the last reset leaves the flash
   pub reset-still : (t : Target) (f : List ℕ) → Between t → (n : ℕ) → walked (stepped u) n (conv (reset-pulse ∷ [])) t f .flash ≡ f
   unfolding conversation strobes walked stepped
   reset-still t f b zero = refl
@@ -50,7 +50,7 @@ module _ (u : Setup) (l r : ℕ) (fit : Fit u l r) where
     abbrev pub full-reach : List Page → Target → List ℕ → ℕ → ℕ
     full-reach ps t f i = lasts (stepped u) (conv (up-to (u .settings) (take i ps))) t f
 
-    -- after the lead
+    -- where steps fall among the pages, counted from the lead's start
     delay-by : (ps : List Page) (f g F : List ℕ) (R S : ℕ → ℕ) (m n k : ℕ) → g ≡ f → n ≡ m + k → ((i : ℕ) → R i ≡ m + S i)
         → Standing size ps g S k F → Standing size ps f R n F
     delay-by ps f g F R S m n k eg en er (leading h e) = leading (omega (arith, er 0)) (e ∙ eg)

@@ -63,7 +63,7 @@ module _ (u : Setup) (l r : ℕ) (fit : Fit u l r) where
     abbrev full : List ℕ → Type 0
     full f = length f ≡ size * u .settings .count
 
-    -- The order is the order up to some pages, and the rest.
+    -- the order is the order up to some pages, and the rest
     split-order : (ps : List Page) (i : ℕ) → order (u .settings) ps ≡ up-to (u .settings) (take i ps) ++ (acts-of (drop i ps) ++ reset-pulse ∷ [])
     unfolding order
     split-order ps i =

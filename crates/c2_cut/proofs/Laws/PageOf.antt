@@ -1,4 +1,4 @@
--- Pages of the flash with pages of an image.
+-- Pages of a flash into which pages of an image were put.
 use mathlib.Core.Path.{_≡_, refl, sym, ap, _∙_, subst}
 use mathlib.Core.List.{List, [], _∷_, _++_, append-assoc}
 use Prim.Native.Nat.{ℕ, zero, suc, _+_, _-_, _*_, _<_, _≤_}
@@ -15,7 +15,7 @@ use Rattle.c2_play.specs.Pages.{page-of, with-page, with-pages, At, Fits}
 use Rattle.c2_play.proofs.Laws.Run.{All-fit, with-page-length}
 use Rattle.c2_play.proofs.Laws.Rise.{nothing-at}
 
--- a page that lies in the first part of the flash, and one that lies past it
+-- a page that lies in the first part of the flash (`page-left`), or past it
 page-left : (size q : ℕ) (X Y : List ℕ) → q * size + size ≤ length X → page-of size q (X ++ Y) ≡ page-of size q X
 page-left size q X Y h =
     ap (take size) (drop-append-le (q * size) X Y (omega arith))

@@ -29,8 +29,8 @@ use Rattle.c2_play.proofs.Laws.Run.{All-fit, with-page-length}
 use Rattle.c2_play.proofs.Laws.Page.{Between, Mid, Held, page-leads}
 
 -- Where n steps fall among pages of which the first i, with the lead, take `reach i` steps, and the flash F
--- then: in the lead; between two pages, or after the last, where the pages before hold the image; or a page
--- is under way.
+-- then: in the lead; between two pages, or after the last, where the pages before hold the image; or where a
+-- page is under way.
 pub data Standing (size : ℕ) (ps : List Page) (f : List ℕ) (reach : ℕ → ℕ) (n : ℕ) (F : List ℕ) : Type 0 where
   leading : n < reach 0 → F ≡ f → Standing size ps f reach n F
   between : (j : ℕ) → j ≤ length ps → reach j ≤ n → (j < length ps → (n ≤ reach j) × (n < reach (suc j)))
@@ -38,7 +38,7 @@ pub data Standing (size : ℕ) (ps : List Page) (f : List ℕ) (reach : ℕ → 
   underway : (j : ℕ) (p : Page) (after : List Page) → drop j ps ≡ p ∷ after → reach j < n → n < reach (suc j)
       → Mid size p (with-pages size (take j ps) f) F → Standing size ps f reach n F
 
--- a page before the others
+-- where steps fall among pages, with one page more before the others
 shift : (size : ℕ) (p : Page) (ps : List Page) (f g F : List ℕ) (R S : ℕ → ℕ) (m n k : ℕ) → g ≡ with-page size (p .number) (p .bytes) f → n ≡ m + k
     → ((i : ℕ) → R (suc i) ≡ m + S i) → S 0 ≡ 0 → Standing size ps g S k F → Standing size (p ∷ ps) f R n F
 unfolding with-pages
@@ -89,7 +89,7 @@ module _ (u : Setup) (l r : ℕ) where
         → length F ≡ size * u .settings .count
     held-length p f F fits ef e = ap length e ∙ with-page-length size (p .number) (p .bytes) f (page-inside p f fits ef) (fits .whole) ∙ ef
 
-    -- what follows the pages leaves the flash
+    -- acts after the pages that leave the flash
     abbrev pub Still : List Act → Type 0
     Still tail = (t : Target) (f : List ℕ) → Between t → (n : ℕ) → walked (stepped u) n (conv tail) t f .flash ≡ f
 

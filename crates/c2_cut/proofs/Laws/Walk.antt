@@ -17,7 +17,7 @@ use Rattle.c2_play.proofs.Laws.Onto.{onto}
 use Rattle.c2_play.proofs.Laws.Leads.{onto-done, Leads}
 
 module _ (step : Target → List ℕ → Step → Turn) where
-  -- on the way of a run that leads somewhere
+  -- a run that leads somewhere keeps J wherever it is cut
   pub leads-way : (J : List ℕ → Type 0) (Z : Target → List ℕ → Type 0) (n : ℕ) (e : Exchange) (t : Target) (f : List ℕ) → Leads step J Z e t f
       → n < lasts step e t f → J (walked step n e t f .flash)
   unfolding Leads walked lasts
@@ -26,7 +26,7 @@ module _ (step : Target → List ℕ → Step → Turn) where
   leads-way J Z (suc n) (ask (at g s) k) t f h m =
       leads-way J Z n (k (step t f s .reply)) (step t f s .target) (step t f s .flash) (h .1) (omega arith)
 
-  -- An exchange x that follows e: while e runs, the run is that of e,
+  -- While e runs, the run of an exchange x that follows e is that of e.
   pub onto-before : (n : ℕ) (e x : Exchange) (t : Target) (f : List ℕ) → n < lasts step e t f
       → walked step n (onto e x) t f .flash ≡ walked step n e t f .flash
   unfolding onto walked lasts
@@ -35,7 +35,7 @@ module _ (step : Target → List ℕ → Step → Turn) where
   onto-before (suc n) (ask (at g s) k) x t f m =
       onto-before n (k (step t f s .reply)) x (step t f s .target) (step t f s .flash) (omega arith)
 
-  -- and where it has ended done, that of x.
+  -- Once e has ended done, the run of an exchange x that follows e is that of x.
   pub onto-after : (m n : ℕ) (e x : Exchange) (t : Target) (f : List ℕ) → against step e t f .outcome ≡ outcome done → m ≡ lasts step e t f + n
       → walked step m (onto e x) t f ≡ walked step n x (against step e t f .target) (against step e t f .flash)
   unfolding onto walked lasts against
@@ -55,8 +55,8 @@ module _ (step : Target → List ℕ → Step → Turn) where
       let h = onto-lasts (k (step t f s .reply)) x (step t f s .target) (step t f s .flash) d in
       omega (arith, h)
 
-  -- Fed the first n replies of the whole run, e has ended done exactly if they are as many as its own run
-  -- takes.
+  -- Fed the first n replies of the run of e and then x, e has ended done exactly if they are as many as its
+  -- own run takes.
   pub over-is : (n : ℕ) (e x : Exchange) (t : Target) (f : List ℕ) → against step e t f .outcome ≡ outcome done → lasts step e t f ≤ n
       → fed e (take n (run-replies step (onto e x) t f)) ≡ ended (outcome done)
   unfolding onto lasts against run-replies fed

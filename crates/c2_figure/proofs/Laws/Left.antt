@@ -1,5 +1,5 @@
--- The most steps to come by arithmetic are the figure at the point of the order that the session's numbers
--- name.
+-- The figure by arithmetic (specs/Code/Left.antt) is the order's figure at the point that the session's
+-- numbers name.
 pub mod Costs
 use mathlib.Core.Path.{_≡_, refl}
 use mathlib.Core.Bool.{true}
@@ -40,7 +40,7 @@ infixr 60 _and_
 abbrev _and_ : {A B : Type 0} → A → B → A × B
 x and y = (x, y)
 
--- what is left of a frame at a strobe
+-- the most steps left of a frame at a strobe
 module _ (w c v : ℕ) where
   address-left : (b q : ℕ) → q < 12 → strobes-left w (frame AddressWrite b) (place q c v) ≡ 12 - q
   unfolding strobes-left longest-rest longest frame sends ins-code bits
@@ -72,7 +72,7 @@ module _ (w c v : ℕ) where
       omega arith and omega arith and omega arith and omega arith and omega arith and tt
       ) q h
 
-  -- and of an act
+  -- the most steps left of an act at a strobe
   act-counts : (r : ℕ) (t : Task) (b id o q : ℕ) → q < length (strobes-in t)
       → strobes-left w (strobes-of (task-act t b id o)) (place q c v) + reads-left (limits w r) (task-act t b id o) c ≡ act-left w r t q c
   unfolding strobes-of reads-left strobes-left longest-rest longest frame sends ins-code bits
@@ -90,7 +90,7 @@ strobe-there : (w r : ℕ) (t : Task) (n q c v : ℕ) → place-in-range w n (st
 unfolding place-in-range
 strobe-there w r t n q c v e = ltb-true _ _ (both _ _ (both _ _ e .0) .0)
 
--- the law: for a session in range that is lent its image
+-- the figure by arithmetic is the order's, for a session in range that is lent its image
 pub counts : (w r : ℕ) (s : Session) (image : List ℕ) → in-range w r s ≡ true → length image ≡ s .settings .size * s .pages
     → figure (limits w r) (position s image) ≡ steps-left w r s
 unfolding steps-left point-position figure

@@ -43,7 +43,7 @@ unfolding session-fed
 after-ended s image [] e = refl
 after-ended s image (r ∷ rs) e = rw (advanced-ended s r image e) (after-ended s image rs e)
 
--- an exchange that has not ended
+-- an exchange that has not ended: it asks for a step
 abbrev pub Asked : Exchange → Type 0
 Asked (Shared.ended o) = ⊥
 Asked (ask (at f x) k) = Unit {0}
@@ -69,7 +69,7 @@ unfolding advanced
 lent-advances s image r h =
     record { id = h .id; bytes = h .bytes; range = advanced-in-range 20 256 (omega arith) (omega arith) s image (h .range) (h .whole) r; whole = h .whole }
 
--- a running session stands at an act of its order,
+-- a running session stands at an act of its order
 position-runs : (s : Session) (image : List ℕ) → Lent s image → is-running (s .point) ≡ true → Runs (position s image)
 unfolding point-position
 position-runs s image h e = go (s .point) e (point-of 20 256 s (h .range))
@@ -80,7 +80,7 @@ position-runs s image h e = go (s .point) e (point-of 20 256 s (h .range))
         rw (acts-here s image (fits-of 20 256 s image (h .range) (h .whole)) g i j k (n .page) (n .block) (n .act)) tt
     go (Ended n o) f r = absurd (let z : _≡_ {A = ℕ} 0 1 = cc in omega arith)
 
--- and so its exchange asks for a step
+-- the exchange of a running session asks for a step
 pub still-asks : (s : Session) (image : List ℕ) → Lent s image → is-running (s .point) ≡ true
     → (f : Field) × (x : Step) × (k : Bool → Exchange) × (exchange-at s image ≡ strobe f x k)
 unfolding left-to-say
@@ -103,7 +103,7 @@ ended-over s image e = go (s .point) e
     go (Running g i j k q c v) f = absurd (let z : _≡_ {A = ℕ} 0 1 = cc in omega arith)
     go (Ended n o) f = refl
 
--- and the session's number and offset are the exchange's outcome
+-- a session's number and offset are its exchange's outcome
 pub outcome-now : (s : Session) (image : List ℕ) → Lent s image
     → outcome-of (exchange-at s image) ≡ record { number = number-of (s .point); offset = offset-of (s .point) }
 unfolding outcome-of

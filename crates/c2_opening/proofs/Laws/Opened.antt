@@ -1,5 +1,5 @@
--- The session of an accepted opening: in range, at the first act of its order, with the whole exchange to
--- come.
+-- The session of an accepted opening is in range, stands at the first act of its order, and has the whole
+-- exchange to come.
 use mathlib.Core.Path.{_≡_, refl, sym, ap, _∙_}
 use mathlib.Core.List.{List}
 use Prim.Native.Nat.{ℕ, _*_, _/_, _%_, _<_, _≤_}
@@ -39,7 +39,7 @@ module _ (t : Settings) (first : ℕ) (image : List ℕ) (e : opening-refusal t 
   whole-pages : length image ≡ t .size * (length image / t .size)
   whole-pages = opened t first (length image) e .whole ∙ mul-comm (length image / t .size) (t .size)
 
-  -- a session begins in range,
+  -- the session of an accepted opening is in range, lent its image
   pub begins-lent : t .id < 256 → Bytes image → Lent (opened-session t first (length image)) image
   unfolding opened-session count-limit samples
   begins-lent i b =
@@ -55,7 +55,7 @@ module _ (t : Settings) (first : ℕ) (image : List ℕ) (e : opening-refusal t 
         whole = whole-pages;
       }
 
-  -- at the first act of its order
+  -- the session of an accepted opening stands at the first act of its order
   pub begins-at : position (opened-session t first (length image)) image ≡ begin (session-order t first image)
   unfolding opened-session point-position pages-from page-list session-order order begin lead
   begins-at = refl

@@ -1,4 +1,4 @@
--- The claims of specs/Claims.antt, proved.
+-- The claims of specs/Claims.antt, each proved under its name.
 use mathlib.Core.Path.{_≡_, refl, sym, ap, _∙_}
 use mathlib.Core.Bool.{Bool, true, false, cond}
 use mathlib.Core.List.{List, [], _∷_}
@@ -27,7 +27,7 @@ use Rattle.c2_order.proofs.Laws.Figure.Reached.{passable, way-acts}
 use Rattle.settings.proofs.Laws.Opening.{Opened, opened}
 use Rattle.exchange.specs.Exchange as Shared
 
--- points after replies
+-- what holds of points after replies
 reached-valid : (l : Limits) → Positive l → (x : Point) → Valid l x → (rs : List ℕ) → Valid l (reached l x rs)
 unfolding reached
 reached-valid l h x v [] = v
@@ -54,7 +54,7 @@ points-follow l s first image h o rs =
 pub parts-in-a-row : Parts-in-a-row
 parts-in-a-row e rs qs = record { steps-joined = steps-append e rs qs; taken-summed = taken-append e rs qs; left = fed-append e rs qs }
 
--- every driven step is the master's
+-- every step of a session's exchange that drives C2D is the master's
 own-polling : (w n : ℕ) (ok : ℕ → Bool) (e : Exchange) → Own e → Own (polling w n ok e)
 unfolding polling
 own-polling w zero ok e h = own-ended
@@ -80,7 +80,7 @@ pub driven-by-master : Driven-by-master
 driven-by-master l s first image o rs =
     own-fed (own-conversation l (session-order s first image) (every-session Sound sound s (o .id) first image (o .bytes))) rs
 
--- the figure
+-- what holds of the figure
 zero-when-ended : (l : Limits) → Positive l → (x : Point) → Valid l x → Zero-when-ended l x
 zero-when-ended l h (running a acts p) v =
     record {

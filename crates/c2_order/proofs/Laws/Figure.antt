@@ -1,5 +1,5 @@
 -- Laws of the figure of the most steps to come: it is 0 exactly at an end, each reply taken lowers it, and no
--- replies take more.
+-- replies take more steps than it.
 pub mod Start
 pub mod Reached
 use mathlib.Core.Path.{_≡_, refl, sym, ap}
@@ -42,7 +42,7 @@ reads-left-poll : (l : Limits) (ok : ℕ → Bool) (n : ℕ) → reads-left l (p
 unfolding reads-left
 reads-left-poll l ok n = rw (longest-address-read (l .wait) 0)
 
--- the first strobe of a poll's later read
+-- the most strobes left at the first strobe of a poll's later read
 read-left : (l : Limits) (n : ℕ) → strobes-left (l .wait) (frame AddressRead 0) (place 0 n 0) ≡ 12
 unfolding strobes-left longest-rest longest frame sends ins-code bits
 read-left l n = refl

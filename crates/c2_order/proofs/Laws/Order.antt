@@ -20,7 +20,7 @@ use Rattle.c2_order.specs.Acts.{Act, poll, expect, reset-pulse, pause-20
 use Rattle.c2_order.specs.Order.{Page, pages, blocks, joined, lead, page-acts, order, session-order}
 use Rattle.c2_order.proofs.Laws.Valid.{Framed, Sound, Every, none, more, _then_}
 
--- a fact of the acts that orders are made of
+-- a fact of each kind of act that orders are made of
 pub record Ground (P : Act → Type 0) : Type 0 where
   pub resets : P reset-pulse
   pub pauses : P pause-20-ms

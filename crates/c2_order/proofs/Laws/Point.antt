@@ -24,7 +24,7 @@ use Rattle.c2_order.specs.Point.{Point, running, ended, strobes-of, begi
 use Rattle.numbers.specs.Numbers.{poll-limit-reached}
 use Rattle.c2_order.proofs.Laws.Valid.{Sound, Every, reads-of, whole-of, reads-positive, Valid, begin-valid, Polled, polled, read-exists}
 
--- a poll that has a read left
+-- a poll that has a read left asks for an Address Read
 polling-read : (w n : ℕ) (ok : ℕ → Bool) (k : Exchange) → 0 < n
     → polling w n ok k ≡ framed w (frame AddressRead 0) (λ s. cond (ok s) k (polling w (n - 1) ok k))
 unfolding polling
@@ -71,7 +71,7 @@ again-says l h ok acts n g = go (decLt (n + 1) (l .reads))
         let z : l .reads - suc n ≡ 0 = omega arith in
         rw (le-ltb (n + 1) (l .reads) (omega arith), z)
 
--- a frame of the act has ended
+-- what is left to say after a frame of the act has ended
 judged-says : (l : Limits) → Positive l → (a : Act) (acts : List Act) (n x : ℕ) → Polled l a n
     → left-to-say l (judged l a acts n x) ≡ follow-up l a acts n x
 unfolding judged follow-up left-to-say
@@ -87,14 +87,14 @@ module _ (l : Limits) (h : Positive l) (a : Act) (acts : List Act) (p : Place) (
   settled-says b (Stopped x) e = judged-says l h a acts (p .count) x (polled l a p (v .2))
   settled-says b WaitLimit e = refl
 
-  -- a reply of 0 or 1
+  -- what is left to say after a reply of 0 or 1
   moves : (b : Bool) → left-to-say l (settled l a acts (p .count) (followed (l .wait) (strobes-of a) p b)) ≡ after (left-to-say l (running a acts p)) (bit b)
   unfolding left-to-say
   moves b =
       settled-says b (followed (l .wait) (strobes-of a) p b) refl
       ∙ sym (followed-after (l .wait) (reads-of l a) (strobes-of a) (whole-of l a (v .0)) (follow-up l a acts (p .count)) p b (v .2))
 
--- any reply: what is left to say moves as the exchange does
+-- what is left to say after any reply: it moves as the exchange does
 pub next-says : (l : Limits) → Positive l → (x : Point) → Valid l x → (r : ℕ) → left-to-say l (next l x r) ≡ after (left-to-say l x) r
 unfolding next left-to-say after bit
 next-says l h (ended o) v r = refl
@@ -104,7 +104,7 @@ next-says l h (running a acts p) v (suc (suc r)) =
     let node = remaining-asks (l .wait) (reads-of l a) (strobes-of a) p (follow-up l a acts (p .count)) (v .2) in
     rw (node .2)
 
--- and the point stays one that exists
+-- the point after a reply exists in the order
 judged-valid : (l : Limits) → Positive l → (a : Act) (acts : List Act) (n x : ℕ) → Sound a → Every Sound acts → Polled l a n → Valid l (judged l a acts n x)
 unfolding judged again
 judged-valid l h (send ss) acts n x f g c = begin-valid l h acts g

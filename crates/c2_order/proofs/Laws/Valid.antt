@@ -27,7 +27,7 @@ Sound (send ss) = Framed ss
 Sound (poll ok) = Unit {0}
 Sound (expect x o) = Unit {0}
 
--- something holds of every act
+-- something holds of every act of a list
 pub data Every (P : Act → Type 0) : List Act → Type 0 where
   none : Every P []
   more : {a : Act} {acts : List Act} → P a → Every P acts → Every P (a ∷ acts)

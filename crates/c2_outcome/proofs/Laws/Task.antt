@@ -1,5 +1,5 @@
--- A session of which it is known what its act does: it goes on as it does, and what the next act does is then
--- known too.
+-- A session of which it is known what its act does goes on as any session does, and what the act after a
+-- reply does is then known too.
 use mathlib.Core.Path.{_≡_, refl, sym, _∙_}
 use mathlib.Core.Bool.{Bool, true, false, cond}
 use mathlib.Core.List.{List}
@@ -119,7 +119,7 @@ module _ (w r : ℕ) (s : Session) (image : List ℕ) (a : At) where
       either (ltb 1 x) _ _ tt
       (either (eqb (alone (task-of (a .stage) (a .act))) 0) _ _ (settled-after (followed w (frame (task-frame (task-of (a .stage) (a .act))) 0) p (eqb x 1)) (task-of (a .stage) (a .act)) (p .count)) onward-after)
 
--- what the act does is known after a reply
+-- what the act does stays known after a reply
 pub known-next : (w r : ℕ) (s : Session) (t : Task) (image : List ℕ) (x : ℕ) → Knows t (s .point)
     → Knows (task-next (advanced w r s x image .point) t) (advanced w r s x image .point)
 unfolding advanced
@@ -134,7 +134,7 @@ known-next w r s t image x e = go (s .point) e
     go (Running g i j k q c v) e = told (at g i j k) (point-replied w r s (at g i j k) (place q c v) x image) e (replied-after w r s image (at g i j k) (place q c v) x)
     go (Ended n o) e = tt
 
--- and at a point it is what the point says
+-- what `task-at` says of a point is what the act there does
 pub known-at : (y : Point) → Knows (task-at y) y
 known-at (Running g i j k q c v) = refl
 known-at (Ended n o) = tt

@@ -31,7 +31,7 @@ pub stored-covers : (A Z : List ℕ) (o b a : ℕ) → length A ≡ a → bitAnd
 unfolding stored
 stored-covers A Z o b a e h = rw (getD-at A o Z 0 a e, h) (set-at A o Z b a e)
 
--- erased bytes need none
+-- erased bytes need no bit raised
 and-erased : (b : ℕ) → b < 256 → bitAnd 0xff b ≡ b
 and-erased b h = and-comm 0xff b ∙ and-mask b 8 ∙ mod-eq-of-lt h
 
@@ -101,7 +101,7 @@ module _ (u : Setup) (l r : ℕ) (fit : Fit u l r) (J : List ℕ → Type 0) (Z 
       (λ k. rw (append-snoc A b (take k (x ∷ bs) ++ (drop k (y ∷ os) ++ W))) (j (suc k)))
       (rw (append-snoc A b (x ∷ bs ++ W)) g)))
 
-  -- the bytes of a block read
+  -- the bytes of a block read are those of the flash
   compares-good : (A : List ℕ) (b : ℕ) (bs W : List ℕ) (a o : ℕ) (acts : List Act) (c : Command) → length A ≡ a → b < 256 → Bytes bs
       → good acts c Empty (A ++ (b ∷ bs ++ W))
       → good (compares o (b ∷ bs) ++ acts) c (outputs.Block a (suc (length bs))) (A ++ (b ∷ bs ++ W))

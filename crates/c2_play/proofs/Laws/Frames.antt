@@ -26,7 +26,7 @@ use Rattle.c2_target.specs.Strobes.{target, line, marked, sending, frame-begins
 use Rattle.c2_target.specs.Target.{stepped}
 use Rattle.c2_play.proofs.Laws.Leads.{Leads}
 
--- between two frames
+-- the target between two frames
 abbrev pub idle : (place : ℕ) → (collision : Bool) → Device → Target
 idle p c d = target Start p c d
 
@@ -47,7 +47,7 @@ module _ (u : Setup) (J : List ℕ → Type 0) (Z : Target → List ℕ → Type
   abbrev pub leads : Exchange → Target → List ℕ → Type 0
   leads e t f = Leads (stepped u) J Z e t f
 
-  -- and after what a frame has done at its STOP
+  -- an exchange runs well from what a frame has left at its STOP
   abbrev pub leads-after : Exchange → (collision : Bool) → Acted → Type 0
   leads-after e c r = leads e (idle (r .place) c (r .device)) (r .flash)
 
@@ -57,7 +57,7 @@ module _ (u : Setup) (J : List ℕ → Type 0) (Z : Target → List ℕ → Type
   address-write-leads l a k p c d f h j g =
       (j, (j, (j, (j, (j, (j, (j, (j, (j, (j, (j, (j, subst⁻¹ (λ (x : ℕ). leads-after (k 0) c (does u (SetAddress x) (begun d) p f)) (heard-byte a h) g))))))))))))
 
-  -- and the other way
+  -- where an Address Write runs well, so does what follows it
   pub address-write-says : (l a : ℕ) (k : ℕ → Exchange) (p : ℕ) (c : Bool) (d : Device) (f : List ℕ) → a < 256
       → leads (framed l (frame AddressWrite a) k) (idle p c d) f → leads-after (k 0) c (does u (SetAddress a) (begun d) p f)
   unfolding Leads frame sends ins-code bits bit odd drives strobes stepped strobed-at line marked frame-begins after-ins after-address does

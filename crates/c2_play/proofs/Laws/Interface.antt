@@ -1,5 +1,5 @@
--- The Programming Interface against its bytes: a put and a get, with every delay, and the flash in J all the
--- while.
+-- The Programming Interface against its bytes: a put and a get run well, with every delay, and the flash
+-- keeps J all the while.
 use mathlib.Core.Path.{_≡_, refl}
 use mathlib.Core.Bool.{Bool, true, false, not, cond, _&&_}
 use mathlib.Core.List.{List, [], _∷_, _++_}
@@ -30,7 +30,8 @@ use Rattle.c2_target.proofs.Laws.Interface.{delay-byte, late-byte, status-small
 use Rattle.c2_play.proofs.Laws.Frames.{idle, leads, address-write-leads, address-read-leads, data-write-leads, data-read-leads}
 use Rattle.c2_play.proofs.Laws.Leads.{leads-now}
 
--- What settings, delays and limits have to be. Delays are bytes, so 256 reads are enough for any poll.
+-- What settings, delays and limits have to be for a session to run well. Delays are bytes, so 256 reads are
+-- enough for any poll.
 pub record Fit (u : Setup) (l r : ℕ) : Type 0 where
   pub low : 3 ≤ u .settings .fpdat
   pub high : u .settings .fpdat < 256
@@ -40,7 +41,7 @@ pub record Fit (u : Setup) (l r : ℕ) : Type 0 where
   pub wait : u .wait ≤ l
   pub reads : 256 ≤ r
 
--- the interface on, at the FPDAT address
+-- the device with the interface on, at the FPDAT address
 abbrev pub at-fpdat : Setup → Link → Device
 at-fpdat u l = device (u .settings .fpdat) true 0 l
 
@@ -48,7 +49,7 @@ pub linked-at-fpdat : (u : Setup) (l : Link) → linked (u .settings) (at-fpdat 
 unfolding linked
 linked-at-fpdat u l = eq-eqb (u .settings .fpdat) (u .settings .fpdat) refl
 
--- not busy: InBusy reads 0, and the next read is one of the e reads
+-- while the interface is not busy InBusy reads 0, and a read is one of the e reads
 idle-status : (c : Command) (o : Output) (t : ℕ) → input-taken (status-bits (link c o 0 t)) ≡ true
 unfolding input-taken status-bits out-ready in-busy bit odd
 idle-status c o t = go (eqb t 0 && some-output o)
@@ -84,8 +85,8 @@ late-status : (c : Command) (o : Output) (t : ℕ) → output-ready (status-bits
 unfolding output-ready status-bits out-ready in-busy bit odd
 late-status c o t = rw (eqb·suc-zero t)
 
--- What the run is to keep: the flash is in J until it ends, and then the target and the flash are in Z, which
--- J has.
+-- What a run is to keep: the flash is in J until the run ends, and then the target and the flash are in Z,
+-- which implies J.
 pub record Kept (J : List ℕ → Type 0) (Z : Target → List ℕ → Type 0) : Type 0 where
   pub last : (t : Target) (f : List ℕ) → Z t f → J f
 
@@ -93,7 +94,7 @@ module _ (u : Setup) (l r : ℕ) (fit : Fit u l r) (J : List ℕ → Type 0) (Z 
   pub now : (e : Exchange) (t : Target) (f : List ℕ) → leads u J Z e t f → J f
   now e t f g = leads-now (stepped u) J Z (kept .last) e t f g
 
-  -- the four frames at FPDAT
+  -- each of the four frames at FPDAT runs well, if what follows does
   pub fpdat-address : (x : Link) (k : ℕ → Exchange) (p : ℕ) (f : List ℕ) → leads u J Z (k 0) (idle p false (at-fpdat u x)) f
       → leads u J Z (framed l (frame AddressWrite (u .settings .fpdat)) k) (idle p false (at-fpdat u x)) f
   unfolding does begun
@@ -130,7 +131,7 @@ module _ (u : Setup) (l r : ℕ) (fit : Fit u l r) (J : List ℕ → Type 0) (Z 
   unfolding Good
   good-now acts c o f g = now _ _ _ (g 0 0 (omega arith))
 
-  -- the reads of d, and one that shows InBusy 0
+  -- a poll for InBusy 0 takes the reads of d, and one that shows it
   polls-busy : (n b : ℕ) (k : Exchange) (c : Command) (o : Output) (t p : ℕ) (f : List ℕ) → b < n → t < 256
       → ((t : ℕ) → t < 256 → leads u J Z k (idle p false (at-fpdat u (link c o 0 t))) f)
       → leads u J Z (polling l n input-taken k) (idle p false (at-fpdat u (link c o b t))) f
@@ -140,7 +141,7 @@ module _ (u : Setup) (l r : ℕ) (fit : Fit u l r) (J : List ℕ → Type 0) (Z 
   polls-busy (suc n) (suc b) k c o t p f hb ht g =
       fpdat-status _ _ _ _ (rw (busy-status c o b t, counted-busy c o b t) (polls-busy n b k c o t p f (omega arith) ht g))
 
-  -- the reads of e, and one that shows OutReady 1
+  -- a poll for OutReady 1 takes the reads of e, and one that shows it
   polls-late : (n t : ℕ) (k : Exchange) (c : Command) (o : Output) (p : ℕ) (f : List ℕ) → t < n → some-output o ≡ true
       → leads u J Z k (idle p false (at-fpdat u (link c o 0 0))) f
       → leads u J Z (polling l n output-ready k) (idle p false (at-fpdat u (link c o 0 t))) f
@@ -151,7 +152,7 @@ module _ (u : Setup) (l r : ℕ) (fit : Fit u l r) (J : List ℕ → Type 0) (Z 
       let one : suc t - 1 ≡ t = omega arith in
       fpdat-status _ _ _ _ (rw (late-status c o t, counted-idle c o (suc t), one) (polls-late n t k c o p f (omega arith) w g))
 
-  -- a byte put: the command takes it
+  -- a byte put runs well: the command takes it
   pub put-good : (b : ℕ) (acts : List Act) (c : Command) (o : Output) (f : List ℕ) → b < 256 → J f
       → Good acts (takes (u .settings) c b f .command) (takes (u .settings) c b f .output) (takes (u .settings) c b f .flash)
       → Good (put b ++ acts) c o f
@@ -164,7 +165,7 @@ module _ (u : Setup) (l r : ℕ) (fit : Fit u l r) (J : List ℕ → Type 0) (Z 
       (late-of (u .delays) (x .output) (next-place (u .delays) q)) (place-after (u .delays) (x .output) (next-place (u .delays) q)) (x .flash)
       (omega (arith, delay-byte (u .delays) q (fit .delays), fit .reads)) (late-byte (u .delays) (x .output) _ (fit .delays)) (λ t ht. g t _ ht))
 
-  -- a byte got: the first of the output
+  -- a byte got runs well: it is the first of the output
   pub get-good : (b : ℕ) (bad : Outcome) (acts : List Act) (c : Command) (o : Output) (f : List ℕ) → b < 256 → some-output o ≡ true → first-byte o f ≡ b
       → Good acts c (other-bytes o) f → Good (get b bad ++ acts) c o f
   unfolding Good get get-byte conversation
@@ -173,7 +174,7 @@ module _ (u : Setup) (l r : ℕ) (fit : Fit u l r) (J : List ℕ → Type 0) (Z 
       (fpdat-read (link c o 0 0) _ p f (is-ready c o w) (rw e h) (now _ _ _ (g 0 0 (omega arith)))
       (rw (e, eq-eqb b b refl, is-ready c o w) (g _ _ (late-byte (u .delays) (other-bytes o) _ (fit .delays)))))
 
-  -- a status of 0x0D
+  -- a status of 0x0D runs well
   pub status-good : (acts : List Act) (c : Command) (f : List ℕ) → Good acts c Empty f → Good (status ++ acts) c (Status true) f
   unfolding status some-output first-byte other-bytes
   status-good acts c f g = get-good 0x0d (outcome bad-status) acts c (Status true) f (omega arith) refl refl g

@@ -1,4 +1,4 @@
--- The lead and the last reset against the target, and the whole order.
+-- The lead and the last reset against the target.
 use mathlib.Core.Path.{_≡_, refl}
 use mathlib.Core.Bool.{false, cond}
 use mathlib.Core.List.{List, [], _∷_}
@@ -21,7 +21,7 @@ use Rattle.c2_play.proofs.Laws.Leads.{Leads}
 use Rattle.c2_play.proofs.Laws.Frames.{leads, address-write-leads, data-write-leads, data-read-leads}
 use Rattle.c2_play.proofs.Laws.Page.{Between}
 
--- the interface is on, and the flash as it was
+-- after the lead the interface is on, and the flash is as it was
 pub record Led (f : List ℕ) (t : Target) (F : List ℕ) : Type 0 where
   pub between : Between t
   pub same : F ≡ f

@@ -1,5 +1,5 @@
--- The run of an exchange, and of one that goes on with another: how many steps each takes, and what it has
--- come to after any number of them.
+-- A run that ends done and keeps a property of the flash on the way; and the run of an exchange that goes on
+-- with another.
 use mathlib.Core.Path.{_≡_, ap}
 use mathlib.Core.List.{List}
 use Prim.Native.Nat.{ℕ}
@@ -27,7 +27,7 @@ module _ (step : Target → List ℕ → Step → Turn) where
   leads-now J Z z (ended o) t f h = z t f (h .1)
   leads-now J Z z (ask (at g s) k) t f h = h .0
 
-  -- its end
+  -- a run that leads somewhere ends done (`leads-done`), there (`leads-end`)
   pub leads-done : (J : List ℕ → Type 0) (Z : Target → List ℕ → Type 0) (e : Exchange) (t : Target) (f : List ℕ) → Leads J Z e t f
       → against step e t f .outcome ≡ outcome done
   unfolding Leads against

@@ -28,7 +28,7 @@ use Rattle.c2_play.proofs.Laws.WholeStep.{programmed}
 use Rattle.c2_play.proofs.Laws.OwnReplies.{own-play, own-ends, enough-end}
 use Rattle.c2_play.proofs.Laws.Playing.{play-unmarked}
 
--- a state that exists, over bytes
+-- a state exists, and the flash is bytes
 pub record Lasts (u : Setup) (t : Target) (f : List ℕ) : Type 0 where
   pub bytes : Bytes f
   pub exists : known u t f ≡ true
@@ -39,7 +39,7 @@ answer-lasts u lent t f x k =
     let y = stepped-known u lent t f (step-coded x) (k .bytes) (known-says u t f (k .exists)) in
     by-test (eqb (refusal u t f x) 0) (λ e. rw e (record { bytes = y .bytes; exists = known-is u _ _ (y .exists) })) (λ e. rw e k)
 
--- after any bytes for steps
+-- a state that exists is left so by any bytes for steps
 pub left-lasts : (u : Setup) → Lent u → (xs : List ℕ) (t : Target) (f : List ℕ) → Lasts u t f → Lasts u (left-by u t f xs .target) (left-by u t f xs .flash)
 unfolding left-by
 left-lasts u lent [] t f k = k
@@ -61,7 +61,7 @@ own-replies-leave l u first image t f rs o m h =
       reads = m .reads;
     }
 
--- Demand 3 over the definitions, by replies.
+-- demand 3 over the definitions, by replies
 pub own-replies-program : Own-replies-program
 unfolding reached fed
 own-replies-program l u first image t f rs o m h n =

@@ -24,11 +24,11 @@ use Rattle.c2_play.proofs.Laws.Frames.{leads}
 use Rattle.c2_play.proofs.Laws.Pages.{writes-good, reads-good}
 use Rattle.c2_play.proofs.Laws.Page.{Between, Held, begin-leads}
 
--- the acts: written and read back
+-- the acts of a page that is written without an erase: its blocks are written and read back
 unfoldable pub write-acts : Settings → Page → List Act
 write-acts s p = joined (map (block-write (s .fpdat)) (page-blocks s p)) ++ joined (map (block-read (s .fpdat)) (page-blocks s p))
 
--- cut anywhere, the page may be written again
+-- a page that is cut anywhere while it is written may be written again
 pub covers-part : (k : ℕ) (os bs : List ℕ) → Covers os bs → Covers (take k bs ++ drop k os) bs
 unfolding Covers
 covers-part zero os bs h = h
@@ -93,7 +93,7 @@ module _ (u : Setup) (l r : ℕ) (fit : Fit u l r) (B : ℕ) (whole : u .setting
       subst (λ (x : List ℕ). Good u l r fit J Z kept (wr ++ rd) Ready Empty x) parts
       (subst (λ (x : List Act). Good u l r fit J Z kept (wr ++ x) Ready Empty (A ++ (old ++ W))) (append-nil rd) g)
 
-  -- the acts begin by addressing FPDAT
+  -- the acts of a page that is written without an erase begin by addressing FPDAT
   starts : (p : Page) (n : ℕ) → size / 256 ≡ suc n → (acts : List Act) × (write-acts (u .settings) p ≡ address-write (u .settings .fpdat) ∷ acts)
   unfolding write-acts blocks joined block-write block-command
   starts p n e =

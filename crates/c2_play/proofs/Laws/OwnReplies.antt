@@ -1,5 +1,5 @@
--- Replies that are the target's own, each to the step before: the exchange that they lead to, played on from
--- the target as they left it, comes to the same end. So an exchange that they end has ended as it is played.
+-- Replies that are the target's own, each to the step before. The exchange that they lead to, played on from
+-- the target as they left it, comes to the same end; so an exchange that they end has ended as it is played.
 use mathlib.Core.Path.{_≡_, refl, sym, ap, _∙_}
 use mathlib.Core.Bool.{Bool}
 use mathlib.Core.List.{List, [], _∷_, _++_}
@@ -20,7 +20,7 @@ use Rattle.c2_target.specs.Target.{stepped, step-coded, refusal, answer, flash-
 use Rattle.c2_play.specs.Playing.{against, run-replies, whole-step, play, answered, Own-replies, played-after}
 use Rattle.c2_target.specs.Steps.{own-replies, left-by}
 
--- a reply is 0 or 1, a refused step's too
+-- a reply is 0 or 1, also that of a refused step
 pub reply-small : (u : Setup) (t : Target) (f : List ℕ) (x : ℕ) → answer u t f x .reply ≤ 1
 unfolding answer
 reply-small u t f x =
@@ -77,8 +77,8 @@ enough-end e n rs h m = go (fed e rs) refl
         let one : taken (fed e rs) (0 ∷ []) ≡ 1 = ap (λ (x : Exchange). taken x (0 ∷ [])) q in
         absurd (omega (arith, h (rs ++ 0 ∷ []), taken-append e rs (0 ∷ []), running-takes e rs g s k q))
 
--- There are such replies: those that the exchange is given as it is played. All are taken, they are the
--- target's own, and they end it.
+-- The replies that an exchange is given as it is played are all taken, are the target's own, and end it; so
+-- there are such replies.
 pub record Given (u : Setup) (e : Exchange) (t : Target) (f : List ℕ) (rs : List ℕ) : Type 0 where
   pub all-taken : taken e rs ≡ length rs
   pub own : Own-replies u t f e rs

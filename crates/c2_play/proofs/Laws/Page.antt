@@ -1,5 +1,4 @@
--- A page's acts from where the session comes to them, and a list of pages: where a cut falls, and what the
--- flash is then.
+-- The acts of a page against the target, from where the session comes to them.
 use mathlib.Core.Path.{_≡_, refl, sym, ap, _∙_, subst}
 use mathlib.Core.Bool.{true, false, cond}
 use mathlib.Core.List.{List, [], _∷_, _++_, append-assoc, append-nil}
@@ -24,8 +23,8 @@ use Rattle.c2_play.specs.Pages.{with-page, Fits}
 use Rattle.c2_play.proofs.Laws.Leads.{Leads}
 use Rattle.c2_play.proofs.Laws.Pages.{page-good}
 
--- between two commands: no frame, no mark, the interface on, no command or output; no key write is counted
--- once another frame has begun
+-- The target between two commands: no frame, no mark, the interface on, no command or output. No key write is
+-- counted once another frame has begun.
 pub record Between (t : Target) : Type 0 where
   pub place : ℕ
   pub address : ℕ
@@ -35,15 +34,16 @@ pub record Between (t : Target) : Type 0 where
   pub few : late < 256
   pub unkeyed : cond (eqb keys 3) 0 keys ≡ 0
 
--- A page under way over this flash: as it was, or erased and k of its bytes written.
+-- the bytes of a page that is erased, of which k are written
 abbrev pub part : (size : ℕ) → Page → ℕ → List ℕ
 part size p k = take k (p .bytes) ++ drop k (replicate size 0xff)
 
+-- The flash while a page is under way: as it was, or with the page erased and k of its bytes written.
 pub data Mid (size : ℕ) (p : Page) (f F : List ℕ) : Type 0 where
   untouched : F ≡ f → Mid size p f F
   written : (k : ℕ) → F ≡ with-page size (p .number) (part size p k) f → Mid size p f F
 
--- after the page: ready for the next, and the flash holds it
+-- After a page the target is between two commands, and the flash holds the page.
 pub record Held (size : ℕ) (p : Page) (f : List ℕ) (t : Target) (F : List ℕ) : Type 0 where
   pub between : Between t
   pub holds : F ≡ with-page size (p .number) (p .bytes) f
@@ -57,7 +57,7 @@ page-kept s p f fits =
     record { last = λ t F h. written (s .size) (h .holds ∙ ap (λ (x : List ℕ). with-page (s .size) (p .number) x f) (sym all)) }
 
 module _ (u : Setup) (l r : ℕ) (fit : Fit u l r) where
-  -- an act that addresses FPDAT, from wherever the session comes to it
+  -- an act that addresses FPDAT runs well from wherever the session comes to it
   pub begin-leads : (J : List ℕ → Type 0) (Z : Target → List ℕ → Type 0) (kept : Kept J Z) (acts : List Act) (t : Target) (f : List ℕ) → Between t
       → Good u l r fit J Z kept (address-write (u .settings .fpdat) ∷ acts) Ready Empty f
       → leads u J Z (conversation (limits l r) (address-write (u .settings .fpdat) ∷ acts)) t f

@@ -42,7 +42,7 @@ covers-drop (suc n) (o ∷ os) (b ∷ bs) h = covers-drop n os bs (h .1)
 cut : (m : ℕ) (xs W : List ℕ) → xs ++ W ≡ take m xs ++ (drop m xs ++ W)
 cut m xs W = ap (λ (x : List ℕ). x ++ W) (sym (take-append-drop m xs)) ∙ append-assoc (take m xs) (drop m xs) W
 
--- k bytes of the first block
+-- the first k bytes of a block, within those of the page
 mixed-first : (J : List ℕ → Type 0) (A bs os W : List ℕ) (m : ℕ) → m ≤ length os → m ≤ length bs
     → ((k : ℕ) → J (A ++ (take k bs ++ (drop k os ++ W)))) → (k : ℕ) → J (A ++ (take k (take m bs) ++ (drop k (take m os) ++ (drop m os ++ W))))
 mixed-first J A bs os W m ho hb j k =

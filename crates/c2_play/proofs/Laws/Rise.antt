@@ -1,4 +1,5 @@
--- Pages in rising order from a first one on, as a session has them until request g.
+-- Pages whose numbers rise, and those from a first one on: they fit, no number stands twice, and laid one by
+-- one they are the image laid over.
 use mathlib.Core.Path.{_≡_, refl, sym, ap, _∙_, subst}
 use mathlib.Core.List.{List, [], _∷_, _++_, append-assoc}
 use Prim.Native.Nat.{ℕ, zero, suc, _+_, _*_, _/_, _≤_}
@@ -25,7 +26,7 @@ nothing-at (suc i) p a = none (a .is)
     none : [] ≡ p ∷ a .later → ⊥
     none e = let z : _≡_ {A = ℕ} 0 1 = cc in omega arith
 
--- the pages that are at some place all fit
+-- pages fit, if the page at each place does
 pub all-at : (s : Settings) (ps : List Page) → ((i : ℕ) (p : Page) → At ps i p → Fits s p) → All-fit s ps
 unfolding All-fit
 all-at s [] h = tt

@@ -1,5 +1,4 @@
--- The whole run: how the pages, the order up to some of them, and the order end; and where each of these ends
--- among the steps.
+-- The whole run: how the pages, the order up to some of them, and the order end.
 use mathlib.Core.Path.{_≡_, refl, sym, ap, _∙_, subst, subst⁻¹}
 use mathlib.Core.Bool.{false}
 use mathlib.Core.List.{List, [], _∷_, _++_, map, append-assoc}
@@ -29,7 +28,7 @@ use Rattle.c2_play.proofs.Laws.Refuses.{refuses-append, refuses-page, r
 use Rattle.c2_play.proofs.Laws.Page.{Between, Mid, Held, page-leads}
 use Rattle.c2_play.proofs.Laws.Lead.{Led, lead-leads}
 
--- pages of the device
+-- all of these pages are the device's
 unfoldable pub All-fit : Settings → List Page → Type 0
 All-fit s [] = Unit {0}
 All-fit s (p ∷ ps) = Fits s p × All-fit s ps
@@ -40,13 +39,13 @@ with-page-length size n bs f h e =
     let w : length (take (n * size) f) ≡ n * size = length-take-le (n * size) f (omega arith) in
     rw (length-append, length-append, length-drop, w) (omega arith)
 
--- ended done, between two commands, with this flash
+-- a run has ended done, between two commands, with this flash
 pub record Ran (F : List ℕ) (x : Played) : Type 0 where
   pub ended : x .outcome ≡ outcome done
   pub between : Between (x .target)
   pub holds : x .flash ≡ F
 
--- pages in a row
+-- the acts of pages in a row are the acts of the first and those of the others
 pub acts-append : (s : Settings) (ps qs : List Page) → joined (map (page-acts s) (ps ++ qs)) ≡ joined (map (page-acts s) ps) ++ joined (map (page-acts s) qs)
 unfolding joined
 acts-append s [] qs = refl
@@ -64,7 +63,7 @@ module _ (u : Setup) (l r : ℕ) (fit : Fit u l r) where
   abbrev run : List Act → Target → List ℕ → Played
   run acts t f = against (stepped u) (conv acts) t f
 
-  -- acts in a row
+  -- the run of acts in a row is the run of the first, and from there that of the others
   run-append : (xs ys : List Act) (t : Target) (f : List ℕ) → Refuses xs → run xs t f .outcome ≡ outcome done
       → run (xs ++ ys) t f ≡ run ys (run xs t f .target) (run xs t f .flash)
   run-append xs ys t f h d =
@@ -109,7 +108,7 @@ module _ (u : Setup) (l r : ℕ) (fit : Fit u l r) where
         subst⁻¹ (Ran (with-pages size ps f)) (run-append A (acts-of ps) t f (refuses-lead (u .settings)) d)
         (subst (λ (x : List ℕ). Ran (with-pages size ps x) (run (acts-of ps) (run A t f .target) (run A t f .flash))) (h .same) rest)
 
-    -- Demand 3's end, over any pages.
+    -- demand 3's end, over any pages
     pub order-programs : (ps : List Page) (t : Target) (f : List ℕ) → t .collision ≡ false → All-fit (u .settings) ps → full f
         → Programmed (with-pages size ps f) (run (order (u .settings) ps) t f)
     unfolding order

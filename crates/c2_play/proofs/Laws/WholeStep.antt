@@ -28,7 +28,7 @@ use Rattle.c2_play.proofs.Laws.Rise.{all-at, rising-named, laid-is}
 use Rattle.settings.proofs.Laws.Accepted.{Facts, facts}
 use Rattle.c2_target.proofs.Laws.Known.{Lent, Exists, known-says, known-is, stepped-known}
 
--- a step's byte is the step
+-- the byte of a step is a step's (`is-step-code`), and that step's (`step-of-code`)
 is-step-code : (s : Step) → is-step (code s) ≡ true
 unfolding is-step code
 is-step-code released = refl
@@ -61,7 +61,7 @@ pub whole-is-stepped : (u : Setup) (t : Target) (f : List ℕ) (s : Step) → se
 unfolding whole-step answer flash-after
 whole-is-stepped u t f s a k = rw (not-refused u t f s a k, step-of-code s, bit-again (stepped u t f s .reply))
 
--- every exchange
+-- every exchange is played as against the steps that are not refused
 pub play-is-playing : (u : Setup) → Lent u → settings-refusal (u .settings) ≡ 0 → (e : Exchange) (t : Target) (f : List ℕ) → Bytes f → Exists u t f
     → play u e t f ≡ against (stepped u) e t f
 unfolding against
@@ -71,7 +71,7 @@ play-is-playing u lent a (ask (at g s) k) t f hf x =
     rw (whole-is-stepped u t f s a (known-is u t f x))
     (play-is-playing u lent a (k (stepped u t f s .reply)) (stepped u t f s .target) (stepped u t f s .flash) (y .bytes) (y .exists))
 
--- Demand 3 over any pages,
+-- demand 3 over any pages
 pub programs-pages : Programs-pages
 programs-pages l u ps t f h =
     let a = h .accepted in
@@ -85,7 +85,7 @@ programs-pages l u ps t f h =
     (order-programs u (l .wait) (l .reads) fit (x .blocks) (x .size) (omega (arith, x .some)) (x .bytes) ps t f (met .unmarked)
     (all-at (u .settings) ps (h .named .fits)) (k .flash))
 
--- and over an image from a first page on.
+-- demand 3 over an image from a first page on
 pub programmed : Programs
 unfolding session-order
 programmed l u first image t f o m =

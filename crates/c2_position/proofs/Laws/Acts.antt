@@ -1,4 +1,5 @@
--- The act that the code finds by arithmetic is the one that stands at that place in the session's order.
+-- The act that the code finds by arithmetic (specs/Code/Acts.antt of c2_acts) is the one that stands at that
+-- place in the session's order.
 use mathlib.Core.Path.{_≡_, refl, ap, _∙_}
 use mathlib.Core.Bool.{Bool, true, false, cond}
 use mathlib.Core.List.{List, [], _∷_, _++_}
@@ -22,7 +23,7 @@ use Rattle.c2_acts.specs.declared.Task.the-variants.{Reset, Pause, Address, Sen
 use Rattle.c2_acts.specs.Code.Acts.{task-of}
 use Rattle.c2_session.specs.Code.Bytes.{lead-byte}
 
--- the act of a task that sends this byte, expects this one at this image offset, on a device with this ID
+-- the act of a task: it sends this byte, or expects it, with this image offset, on a device with this ID
 abbrev pub task-act : Task → (byte id offset : ℕ) → Act
 task-act Reset b id o = reset-pulse
 task-act Pause b id o = pause-20-ms
@@ -79,7 +80,7 @@ unfolding compares get
 length-compares o [] = refl
 length-compares o (b ∷ bs) = omega (arith, length-compares (suc o) bs)
 
--- the lead, and an erase
+-- the acts of the lead (`lead-at`) and of an erase (`erase-at`)
 pub lead-at : (s : Settings) (k : ℕ) (d : Act) (o : ℕ) → k < 8 → getD (lead s) k d ≡ task-act (task-of Lead k) (lead-byte k) (s .id) o
 unfolding lead lead-byte
 lead-at s k d o h = same-below (λ n. getD (lead s) n d) (λ n. task-act (task-of Lead n) (lead-byte n) (s .id) o) 8 (below s d) k h
@@ -97,7 +98,7 @@ erase-at f p k d id o h = same-below (λ n. getD (erase f p) n d) (λ n. task-ac
     below : (f p : ℕ) (d : Act) → upto (λ n. getD (erase f p) n d) 13 ≡ upto (λ n. task-act (task-of Erase n) (erase-act-byte f p n) id o) 13
     below f p d = refl
 
--- a block's command
+-- the byte that an act of a block's command sends
 abbrev pub command-byte : (fpdat command : ℕ) → Block → (k : ℕ) → ℕ
 command-byte f c b k =
     cond (eqb k 0) f (cond (eqb k 1) c (cond (eqb k 5) (b .address / 256) (cond (eqb k 7) (b .address % 256) (cond (eqb k 9) (length-code (length (b .bytes))) 0))))
@@ -115,7 +116,7 @@ pub length-command : (f c : ℕ) (b : Block) → length (block-command f c b) �
 unfolding block-command put get status
 length-command f c b = refl
 
--- a list in three parts, of which the first has 11
+-- the act at a place of a list in three parts, of which the first has 11 acts
 module _ (C P S : List Act) (d : Act) (n : ℕ) (c : length C ≡ 11) (p : length P ≡ n) where
   first-part : (k : ℕ) → k < 11 → getD (C ++ P ++ S) k d ≡ getD C k d
   first-part k h = List·getD-append (C ++ P) S d k (omega (arith, length-append C P)) ∙ List·getD-append C P d k (omega arith)

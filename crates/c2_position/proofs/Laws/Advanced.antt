@@ -148,7 +148,7 @@ module _ (s : Session) (image : List ℕ) (h : Fits s image) (w r : ℕ)
   abbrev after : List Act
   after = rest-from s image h g i j k
 
-  -- a point of the same act
+  -- another strobe of the act's frame stays at the act of the order
   stays-here : (p : Place) → point-position s image (strobe-point (at g i j k) p) ≡ Point.running here after p
   unfolding point-position
   stays-here p = ap (λ (x : List Act). at-act x p) (acts-here s image h g i j k gi gj gk)
@@ -170,7 +170,7 @@ module _ (s : Session) (image : List ℕ) (h : Fits s image) (w r : ℕ)
   again-as t q n =
       again-here n ∙ ap (λ (x : Task). Point.again (limits w r) (task-act x (act-byte s image h g a) (s .settings .id) (compared-offset s a)) after n) q
 
-  -- a frame of the act has ended with a byte
+  -- the point after a frame of the act has ended with a byte
   judged-here : (t : Task) → task-of g k ≡ t → (n x : ℕ)
       → point-position s image (frame-judged r t s (at g i j k) n x image) ≡ Point.judged (limits w r) (task-act t (act-byte s image h g a) (s .settings .id) (compared-offset s a)) after n x
   unfolding Point.judged compared differs point-position output-ready odd
@@ -199,7 +199,7 @@ module _ (s : Session) (image : List ℕ) (h : Fits s image) (w r : ℕ)
   settled-here t q n (Stopped x) = judged-here t q n x
   settled-here t q n WaitLimit = refl
 
-  -- a reply of 0 or 1
+  -- the point after a reply of 0 or 1
   framed-here : (t : Task) → task-of g k ≡ t → (p : Place) (b : Bool) (m : Moved)
       → followed w (strobes-of (task-act t (act-byte s image h g a) (s .settings .id) (compared-offset s a))) p b ≡ m
       → point-position s image (frame-answered r m t s (at g i j k) (p .count) image)
@@ -222,7 +222,7 @@ module _ (s : Session) (image : List ℕ) (h : Fits s image) (w r : ℕ)
   taken-here Status q p b = framed-here Status q p b _ refl
   taken-here Compare q p b = framed-here Compare q p b _ refl
 
-  -- the point that the session is at, and any reply
+  -- the point of the order after any reply at this point of the session
   pub replied-here : (p : Place) (x : ℕ)
       → point-position s image (Advance.point-replied w r s (at g i j k) p x image) ≡ Point.next (limits w r) (point-position s image (strobe-point (at g i j k) p)) x
   unfolding Advance.point-replied Point.next point-position
@@ -259,7 +259,7 @@ exists-of w r s g i j k q c v e =
     let d = both _ _ (b .0) in
     record { page = ltb-true _ _ (d .0); block = ltb-true _ _ (d .1); act = ltb-true _ _ (b .1); place = a .1 }
 
--- where a point stands goes by settings and pages alone
+-- the point of the order that a point names goes by the session's settings and pages alone (`position-keeps`)
 abbrev pub SessionPoint : Type 0
 SessionPoint = Rattle.c2_session.specs.declared.Point.Point
 

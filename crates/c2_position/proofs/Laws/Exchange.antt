@@ -37,7 +37,7 @@ use Rattle.c2_position.proofs.Laws.Onward.{acts-here}
 use Rattle.c2_position.proofs.Laws.Advanced.{exists-of, fits-of, point-of, SessionPoint, advances}
 use Rattle.c2_position.proofs.Laws.Range.{place-exists}
 
--- parts of a list of which something holds of every act
+-- what holds of every act of a list holds of every act of its parts
 every-drop : {P : Act → Type 0} (k : ℕ) (xs : List Act) → Every P xs → Every P (drop k xs)
 every-drop zero xs f = f
 every-drop (suc k) [] none = none
@@ -109,7 +109,7 @@ module _ (s : Session) (image : List ℕ) (id : s .settings .id < 256) (b : Byte
   acts-sound : (g : Stage) (i j k : ℕ) → Every Sound (acts-from g s image i j k)
   acts-sound g i j k = every-drop k (stage-acts g s image i j) (stage-sound g i j) then later-sound g i j
 
--- the first of sound acts, and the others
+-- of sound acts the first is sound, and the others are
 first-sound : {a : Act} {acts : List Act} → Every Sound (a ∷ acts) → Sound a × Every Sound acts
 first-sound (more p f) = (p, f)
 
@@ -145,7 +145,7 @@ position-valid w r s image id b e l = go (s .point) (point-of w r s e)
         rw a (both .0, both .1, task-exists w r (task-of g k) (act-byte s image h g (at g i j k)) (s .settings .id) _ (place q c v) x)
     go (Ended n o) f = tt
 
--- what a session leaves to say, after a reply
+-- what a session leaves to say after a reply is what the reply leaves of the exchange
 pub exchange-advances : (w r : ℕ) → 0 < w → 0 < r → (s : Session) (image : List ℕ) → s .settings .id < 256 → Bytes image → in-range w r s ≡ true
     → length image ≡ s .settings .size * s .pages → (x : ℕ)
     → left-to-say (limits w r) (position (advanced w r s x image) image) ≡ after (left-to-say (limits w r) (position s image)) x

@@ -36,7 +36,7 @@ module _ (s : Session) (image : List ℕ) (h : Fits s image) where
   block-count : (i : ℕ) → length (blocks-at s image i) ≡ s .settings .size / 256
   block-count i = length-blocks (s .settings .size / 256) (page-at s image i .number * s .settings .size) (page-at s image i .offset) (page-at s image i .bytes)
 
-  -- from a page, or a block, on: it, and from the next on
+  -- the acts from a page or a block on are those of that page or block, and then those from the next on
   pub pages-on : (i : ℕ) → i < s .pages → pages-from s image i ≡ acts-from Erase s image i 0 0
   unfolding pages-from writes-from reads-from page-acts joined
   pages-on i g =
@@ -80,7 +80,7 @@ module _ (s : Session) (image : List ℕ) (h : Fits s image) where
       simp (length-append, length-command, length-compares, length-status, b)
   stage-length Close i j gi gj = refl
 
-  -- after the last act of a stage
+  -- the acts after the last act of a stage
   blocks-some : 0 < s .settings .size / 256
   blocks-some = omega (arith, h .settings .size, h .settings .some)
 
@@ -127,7 +127,7 @@ module _ (s : Session) (image : List ℕ) (h : Fits s image) where
           (begins-at Close 0 0 0 (pages-from s image (suc i)) (pages-over (suc i) (omega arith)))
   stage-over Close i j k gi gj = begin-at []
 
-  -- the act here, and what follows it
+  -- the acts from an act of a stage on are that act and what follows it
   abbrev pub rest-from : Stage → (page block act : ℕ) → List Act
   rest-from g i j k = drop (suc k) (stage-acts g s image i j) ++ after-stage g s image i j
 

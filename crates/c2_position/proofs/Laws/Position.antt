@@ -44,7 +44,7 @@ module _ (s : Session) (image : List ℕ) (h : Fits s image) where
   unfolding page-list
   page-number i g = ap (λ (p : Page). p .number) (pages-at size (s .first) (s .pages) 0 i image _ g)
 
-  -- the block at a page and a number
+  -- the block at a page and a number is the image's part at its address
   pub block-is : (i j : ℕ) → i < s .pages → j < size / 256
       → block-at s image i j ≡ record { address = (s .first + i) * size + j * 256; offset = i * size + j * 256; bytes = take 256 (drop (j * 256) (take size (drop (i * size) image))) }
   unfolding page-list
@@ -114,7 +114,7 @@ module _ (s : Session) (image : List ℕ) (h : Fits s image) where
   abbrev pub act-here : Stage → At → Act
   act-here g a = task-act (task-of g (a .act)) (act-byte g a) (s .settings .id) (compared-offset s a)
 
-  -- a byte of the image that is there
+  -- a byte of the image at an offset below its length is there
   pub image-there : (n : ℕ) → n < length image → byte-of (image-byte image n) ≡ getD image n 0
   unfolding image-byte
   image-there n g = rw (lt-ltb n (length image) g)
@@ -123,7 +123,7 @@ module _ (s : Session) (image : List ℕ) (h : Fits s image) where
   cond-same true x = refl
   cond-same false x = refl
 
-  -- the bytes of a block's command
+  -- the bytes of a block's command are those that the code finds
   command-is : (i j k c : ℕ) → i < s .pages → j < size / 256 → (g : Stage) (bs : List ℕ) → length bs ≡ 256
       → command-byte (s .settings .fpdat) c (record { address = (s .first + i) * size + j * 256; offset = i * size + j * 256; bytes = bs }) k
       ≡ block-byte s (at g i j k) c
@@ -204,7 +204,7 @@ module _ (s : Session) (image : List ℕ) (h : Fits s image) where
           = block-byte-at i j n gi gj (omega arith) ∙ sym (image-there (i * size + j * 256 + n) (omega (arith, page-inside i gi, block-inside j gj))) in
           rw (le-ltb k 11 (omega arith)) (rw (le-ltb k 11 (omega arith)) at (ap (λ (x : ℕ). task-act (task-of Read k) x (s .settings .id) o) e))
 
-  -- at every point of a stage
+  -- at every point of a stage the session's numbers stand for the act of the order
   pub stands : (g : Stage) (i j k : ℕ) (d : Act) → i < pages-in g (s .pages) → j < blocks-in g size → k < acts-in g
       → getD (stage-acts g s image i j) k d ≡ act-here g (at g i j k)
   stands Lead i j k d gi gj gk = lead-here i j k d gk

@@ -72,7 +72,7 @@ reads-some r h Ident = omega arith
 reads-some r h Status = omega arith
 reads-some r h Compare = omega arith
 
--- a place in range exists in the frame, and the other way round
+-- a place in range exists in the frame (`place-exists`), and the other way round (`exists-place`)
 pub place-exists : (w r : ℕ) (ss : List Strobe) (p : Place) → place-in-range w r ss (p .strobe) (p .count) (p .bits) ≡ true → Exists w r ss p
 unfolding place-in-range
 place-exists w r ss p e =
@@ -145,7 +145,7 @@ module _ (w r : ℕ) (hw : 0 < w) (hr : 0 < r) (s : Session) (image : List ℕ) 
       go (no y) = rw (le-ltb (k + 1) (acts-in g) (omega arith)) (stage-in g i j k gi gj)
 
   module _ (g : Stage) (i j k : ℕ) (gi : i < pages-in g (s .pages)) (gj : j < blocks-in g (s .settings .size)) (gk : k < acts-in g) where
-    -- a poll's next read
+    -- a poll's next read is in range
     again-in : (t : Task) → task-of g k ≡ t → reads-in r t ≡ r → strobes-in t ≡ frame AddressRead 0 → (n : ℕ) → In (read-again r (at g i j k) n)
     unfolding read-again ended-in-range ends-session offsets-of
     again-in t q e f n = go (decLt (n + 1) r)

@@ -62,7 +62,7 @@ sent-byte s image h Read i j k e = go (decLt k 11)
     go (no y) = absurd (let z : false ≡ true = sym (late-unsent k (omega arith)) ∙ e in let n : _≡_ {A = ℕ} 0 1 = cc in omega arith)
 sent-byte s image h Close i j k e = refl
 
--- at a place that exists
+-- at a place that exists the exchange asks for the step of that strobe
 asks-place : (w r : ℕ) (a : Act) (acts : List Act) (p : Place) → (n : ℕ) → Exists w n (strobes-of a) p
     → asks (left-to-say (limits w r) (Point.running a acts p)) ≡ step-at (strobes-of a) (p .strobe)
 unfolding left-to-say asks step-at
@@ -105,7 +105,7 @@ module _ (s : Session) (image : List ℕ) (h : Fits s image) (w r : ℕ) (g : St
   asks-task Status q e = asks-place w r (act-of Status) acts p 1 e
   asks-task Compare q e = asks-place w r (act-of Compare) acts p 1 e
 
--- the step that a session in range waits at, lent its image
+-- the step that a session in range waits at, lent its image, is the one that its exchange asks for
 pub asks-step : (w r : ℕ) (s : Session) (image : List ℕ) → in-range w r s ≡ true → length image ≡ s .settings .size * s .pages
     → session-step s image ≡ asks (left-to-say (limits w r) (position s image))
 unfolding session-step point-position asks left-to-say code

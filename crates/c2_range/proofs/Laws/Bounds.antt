@@ -1,4 +1,4 @@
--- The numbers by which the code knows a frame are those of its list of strobes.
+-- The numbers by which the code knows a frame (specs/Code/Bounds.antt) are those of its list of strobes.
 use mathlib.Core.Path.{_≡_, refl, sym, _∙_}
 use mathlib.Core.Bool.{Bool, _&&_}
 use Prim.Native.Nat.{ℕ, _^_, _<_}
@@ -53,7 +53,7 @@ samples-are Ident = refl
 samples-are Status = refl
 samples-are Compare = refl
 
--- a place in a frame, tested by these numbers
+-- a place of a frame is in range exactly if it is below these bounds
 pub place-by : (w r : ℕ) (t : Task) (q c v : ℕ)
     → place-in-range w (reads-in r t) (strobes-in t) q c v ≡ below-bounds (strobes-by t) (limit-by w r t q) (sampled-by t q) q c v
 unfolding place-in-range

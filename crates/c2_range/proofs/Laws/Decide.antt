@@ -15,14 +15,14 @@ use Rattle.c2_acts.specs.Code.Acts.{task-of, acts-in}
 use Rattle.c2_range.specs.Range.{pages-in, blocks-in, strobes-in, reads-in, place-in-range, running-in-range, point-in-range, in-range}
 use Rattle.c2_range.specs.Code.Bounds.{below-bounds, inside}
 
--- a power of two of up to eight bits is no remainder
+-- a power of two of up to eight bits fits 64 bits
 pub power-fits : (n : ℕ) → n ≤ 8 → (1 * 2 ^ n) % 18446744073709551616 ≡ 2 ^ n
 power-fits n h =
     let b = pow-le-pow-right {n = 2} (omega arith) {i = n} {j = 8} h in
     let e : 1 * 2 ^ n ≡ 2 ^ n = omega arith in
     rw e (mod-eq-of-lt (omega (arith, b)))
 
--- a place
+-- what the tests of a place decide
 module _ (n m k q c v : ℕ) where
   pub strobe-past : n ≤ q → false ≡ below-bounds n m k q c v
   strobe-past h = rw (le-ltb q n h)
@@ -33,7 +33,7 @@ module _ (n m k q c v : ℕ) where
   pub bits-decide : q < n → c < m → (b : ℕ) → b ≡ 2 ^ k → ltb v b ≡ below-bounds n m k q c v
   bits-decide h l b e = rw (← e, lt-ltb q n h, lt-ltb c m l)
 
--- an act
+-- what the tests of an act decide
 module _ (n m a i j k : ℕ) where
   pub page-past : n ≤ i → false ≡ inside n m a i j k
   page-past h = rw (le-ltb i n h)
@@ -49,7 +49,7 @@ pub act-is : (size pages : ℕ) (at : At) (g : Stage) (b : Bool) → at .stage �
     → b ≡ inside (pages-in (at .stage) pages) (blocks-in (at .stage) size) (acts-in (at .stage)) (at .page) (at .block) (at .act)
 act-is size pages at g b e h = rw (ap (λ x. pages-in x pages) e, ap (λ x. blocks-in x size) e) h
 
--- a running point
+-- what the tests of a running point decide
 module _ (w r size pages : ℕ) (g : Stage) (i j k q c v : ℕ) (a : Bool) (ea : a ≡ inside (pages-in g pages) (blocks-in g size) (acts-in g) i j k) where
   pub act-fails : a ≡ false → false ≡ running-in-range w r size pages g i j k q c v
   unfolding running-in-range
@@ -61,7 +61,7 @@ module _ (w r size pages : ℕ) (g : Stage) (i j k q c v : ℕ) (a : Bool) (ea :
   unfolding running-in-range
   place-decides h t et b eb = rw (← ea, h, ← et) eb
 
--- a session
+-- what the tests of a session decide
 module _ (w r : ℕ) (s : Session) (b n : ℕ) (eb : b ≡ s .settings .size * s .pages) (en : n ≡ opening-refusal (s .settings) (s .first) b) where
   pub point-decides : n ≡ 0 → (t : Bool) → t ≡ point-in-range w r (s .settings .size) (s .pages) (s .point) → t ≡ in-range w r s
   unfolding in-range

@@ -22,7 +22,7 @@ use Rattle.c2_acts.specs.Code.Acts.{task-of, acts-in}
 use Rattle.c2_range.specs.Range.{pages-in, blocks-in, strobes-in, reads-in, place-in-range, running-in-range, ends-session, offsets-of, ended-in-range, point-in-range, in-range}
 use Rattle.c2_range.specs.Claims.{Opening-passes, Point-exists, Outcome-stands, Point-stands, Within-ranges, Ranges-are}
 
--- tests of settings
+-- what the tests of settings say
 either : (a b : Bool) → a || b ≡ true → (a ≡ true) ⊎ (b ≡ true)
 either true b e = inl refl
 either false b e = inr e
@@ -93,7 +93,7 @@ opening-would-pass t first pages o =
       le-leb (first + pages) (t .count) (o .inside),
     )
 
--- the point
+-- what the tests of a point say
 module _ (w l size pages : ℕ) where
   point-exists : (g : Stage) (i j k q c v : ℕ) → running-in-range w l size pages g i j k q c v ≡ true → Point-exists w l size pages g i j k q c v
   unfolding running-in-range place-in-range
@@ -126,7 +126,7 @@ module _ (w l size pages : ℕ) where
         lt-ltb v (2 ^ samples (take q (strobes-in (task-of g k)))) (p .bits),
       )
 
--- the outcome
+-- what the tests of an outcome say
 ends : (n : ℕ) → ends-session n ≡ true → (n ≡ done) ⊎ ((bad-reply ≤ n) × (n ≤ no-image-byte))
 unfolding ends-session
 ends n e =
@@ -166,7 +166,7 @@ module _ (w l size pages : ℕ) where
   standing-point (Running g i j k q c v) e = point-is-in-range w l size pages g i j k q c v e
   standing-point (Ended n o) e = outcome-is-in-range (size * pages) n o e
 
--- the session
+-- what the tests of a session say
 pub within-ranges : (w l : ℕ) (s : Session) → in-range w l s ≡ true → Within-ranges w l s
 unfolding in-range
 within-ranges w l s e =

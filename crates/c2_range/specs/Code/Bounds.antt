@@ -1,13 +1,14 @@
--- For the code: the frame of an act as numbers, and tests of numbers below others. Nothing here needs to be
--- believed: `Shapes` in proofs/ has the law that these are the strobes, counts and sampled bits of the
--- frames.
+-- For the code: the frame of an act as numbers, and tests of numbers below others. `place-by` of
+-- proofs/Laws/Bounds is the law that these are the strobes, counts and sampled bits of the frames;
+-- `act-fails` and `place-decides` of proofs/Laws/Decide, that the tests decide whether a running point is in
+-- range.
 use mathlib.Core.Bool.{Bool, cond, _&&_}
 use Prim.Native.Nat.{ℕ, _-_, _^_}
 use lib.Dec.{eqb, ltb}
 use Rattle.c2_acts.specs.declared.Task.{Task}
 use Rattle.c2_acts.specs.declared.Task.the-variants.{Reset, Pause, Address, Send, Input, Output, Ident, Status, Compare}
 
--- how many strobes there are
+-- how many strobes an act's frame has
 abbrev pub strobes-by : Task → ℕ
 strobes-by Reset = 1
 strobes-by Pause = 1
@@ -19,10 +20,11 @@ strobes-by Ident = 15
 strobes-by Status = 15
 strobes-by Compare = 15
 
--- what a count is below, where the WAIT has this number
+-- what a count is below at a strobe, where the WAIT is the strobe of this number
 abbrev pub limit-from : (waits wait-limit strobe : ℕ) → ℕ
 limit-from a w q = cond (eqb q a) w 1
 
+-- what a count is below at a strobe of an act
 abbrev pub limit-by : (wait-limit poll-limit : ℕ) → Task → (strobe : ℕ) → ℕ
 limit-by w r Reset q = 1
 limit-by w r Pause q = 1
@@ -38,6 +40,7 @@ limit-by w r Compare q = limit-from 5 w q
 abbrev pub sampled-from : (first strobe : ℕ) → ℕ
 sampled-from a q = cond (ltb q a) 0 (cond (ltb (q - a) 8) (q - a) 8)
 
+-- how many bits an act's frame has sampled before a strobe
 abbrev pub sampled-by : Task → (strobe : ℕ) → ℕ
 sampled-by Reset q = 0
 sampled-by Pause q = 0
@@ -49,10 +52,10 @@ sampled-by Ident q = sampled-from 6 q
 sampled-by Status q = sampled-from 6 q
 sampled-by Compare q = sampled-from 6 q
 
--- a place below such numbers
+-- whether a place is below bounds of these kinds: strobe, count and sampled bits
 abbrev pub below-bounds : (strobes limit sampled : ℕ) → (strobe count bits : ℕ) → Bool
 below-bounds n m k q c v = ltb q n && ltb c m && ltb v (2 ^ k)
 
--- an act of so many, in one of so many blocks of so many pages
+-- whether an act is one of so many, in one of so many blocks of so many pages
 abbrev pub inside : (pages blocks acts : ℕ) → (page block act : ℕ) → Bool
 inside n m a i j k = ltb i n && ltb j m && ltb k a

@@ -1,4 +1,4 @@
--- The claims of specs/Claims.antt, proved.
+-- The claims of specs/Claims.antt, each proved under its name.
 use mathlib.Core.Path.{_≡_, refl, sym, ap, _∙_}
 use mathlib.Core.Bool.{true}
 use mathlib.Core.List.{List, [], _∷_, map}

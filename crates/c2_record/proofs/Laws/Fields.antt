@@ -32,7 +32,7 @@ at-most : (t : Bool) (x y k : ℕ) → x ≤ k → y ≤ k → cond t x y ≤ k
 at-most true x y k p q = p
 at-most false x y k p q = q
 
--- the numbers of a frame
+-- the numbers of a frame fit a byte
 strobes-most : (t : Task) → strobes-by t ≤ 15
 strobes-most Reset = omega arith
 strobes-most Pause = omega arith
@@ -71,7 +71,7 @@ sampled-most Ident q = from-most 6 q
 sampled-most Status q = from-most 6 q
 sampled-most Compare q = from-most 6 q
 
--- the numbers of a stage
+-- the numbers of a stage fit their fields
 pages-most : (g : Stage) (n : ℕ) → n ≤ 128 → pages-in g n ≤ 128
 pages-most Lead n h = omega arith
 pages-most Erase n h = h
@@ -93,7 +93,7 @@ acts-most Write = omega arith
 acts-most Read = omega arith
 acts-most Close = omega arith
 
--- settings and pages
+-- settings and pages of a session in range fit their fields
 pub record Opening-fits (t : Settings) (first pages : ℕ) : Type 0 where
   pub size : t .size ≤ 1024
   pub count : t .count ≤ 128
@@ -119,7 +119,7 @@ opening-fits t first pages o = go (o .size)
     go (inl e) = fits 512 e (omega arith) (omega arith) (omega arith)
     go (inr e) = fits 1024 e (omega arith) (omega arith) (omega arith)
 
--- a running point
+-- the numbers of a running point fit their fields
 pub record Point-fits (i j k q c v : ℕ) : Type 0 where
   pub page : i < 256
   pub block : j < 256
@@ -147,7 +147,7 @@ module _ (w l : ℕ) (s : Small w l) (size pages : ℕ) (hs : size ≤ 1024) (hp
         bits = omega (arith, ltb-true v (2 ^ sampled-by t q) (a .1), pow-le-pow-right {n = 2} (omega arith) {i = sampled-by t q} {j = 8} (sampled-most t q));
       }
 
--- an outcome
+-- the numbers of an outcome fit their fields
 pub record Outcome-fits (n o : ℕ) : Type 0 where
   pub number : n < 256
   pub ended : 0 < n
@@ -161,7 +161,7 @@ outcome-fits bytes n o h x =
       offset = by-test (eqb n 14) (λ p. omega (arith, x .inside (eqb-true n 14 p))) (λ p. omega (arith, x .otherwise (eqb-false n 14 p)));
     }
 
--- fields read back
+-- a number that fits its field is read back
 pub one-back : (x : ℕ) → x < 256 → x % 256 ≡ x
 one-back x h = omega arith
 
@@ -176,7 +176,7 @@ stage-back Write = refl
 stage-back Read = refl
 stage-back Close = refl
 
--- the point of a record is read back,
+-- the point of a record is read back
 module _ (w l : ℕ) (small : Small w l) (t : Settings) (first pages : ℕ) (o : Opening-fits t first pages) where
   pub point-back : (p : Point) → Point-stands w l (t .size) pages p → point-of (fields-read (laid t first pages (fields-of p))) ≡ At p
   unfolding point-of fields-read laid
@@ -196,7 +196,7 @@ module _ (w l : ℕ) (small : Small w l) (t : Settings) (first pages : ℕ) (o :
       let z : eqb n 0 ≡ false = ne-eqb n 0 (λ h. omega (arith, f .ended)) in
       simp (one-back n (f .number), z, two-back e (f .offset))
 
--- and so are settings and pages
+-- settings and pages of a record are read back
 pub session-back : (s : Session) → s .settings .id < 256 → s .settings .fpdat < 256 → Opening-fits (s .settings) (s .first) (s .pages)
     → session-read (packed s) (s .point) ≡ s
 unfolding packed laid settings-read

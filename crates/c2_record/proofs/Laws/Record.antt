@@ -39,7 +39,7 @@ pub packed-length : (s : Session) → length (packed s) ≡ 32
 unfolding packed laid
 packed-length s = refl
 
--- a session that is in range, and its record
+-- a session is held by its record alone, and only in range
 module _ (w l : ℕ) (s : Session) (r : List ℕ) where
   pub is-held : in-range w l s ≡ true → packed s ≡ r → Held s ≡ checked w l s r
   unfolding checked

@@ -139,7 +139,7 @@ fills r n b e =
     high : (i : ℕ) → pair r i / 256 % 256 ≡ byte r (i + 1)
     high i = high-back (byte r i) (byte r (i + 1)) (b i) (b (i + 1))
 
--- tests in another order
+-- the code's tests decide as the definition's do, which come in another order
 reorder : (a b i : Bool) (x y : Unpacked) → cond a (cond b (cond i x y) y) y ≡ cond i (cond (cond a b false) x y) y
 reorder true true i x y = refl
 reorder true false true x y = refl
@@ -187,7 +187,7 @@ module _ (r : List ℕ) (n : length r ≡ 32) (b : (i : ℕ) → byte r i < 256)
       (λ u. let x = zeros-are r 10 (rw d at u) in rw (x .0, x .1, x .2, x .3, x .4, x .5, x .6, x .7))
       (λ e. let at = byte-again (session-read r (ended-read r)) r e in rw (d, zeros-pass r 10 (at 10, at 11, at 12, at 13, at 14, at 15, at 16, at 17)))
 
-  -- So a session that was read is unpacked where the code's tests pass.
+  -- A session that was read is unpacked where the code's tests pass.
   pub as-checked : (w l : ℕ) (p : Point) (x : Unpacked) → At p ≡ point-of (fields-read r) → x ≡ checked-by w l (session-read r p) r → x ≡ unpacked w l r
   unfolding checked checked-by
   as-checked w l p x e h =

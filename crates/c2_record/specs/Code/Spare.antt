@@ -1,6 +1,6 @@
--- For the code: the bytes of a record that a session leaves at 0, tested several at once. Nothing here needs
--- to be believed: `Sparing` in proofs/ has the law that a session read from a record passes these tests
--- exactly where `checked` takes it.
+-- For the code: the bytes of a record that a session leaves at 0, tested several at once. `as-checked` of
+-- proofs/Laws/Spare is the law that a session read from a record passes these tests exactly where `checked`
+-- takes it.
 use mathlib.Core.Bool.{Bool, false, cond}
 use mathlib.Core.List.{List}
 use Prim.Native.Nat.{ℕ, _+_, _*_}
@@ -15,19 +15,20 @@ use Rattle.c2_record.specs.Record.{byte, pair}
 abbrev pub four : (a b c d : ℕ) → ℕ
 four a b c d = a + b * 256 + c * 65536 + d * 16777216
 
--- the eight bytes from this one on are 0
+-- whether the eight bytes from this one on are 0
 unfoldable pub zeros : List ℕ → ℕ → Bool
 zeros r i =
     cond (eqb (four (byte r i) (byte r (i + 1)) (byte r (i + 2)) (byte r (i + 3))) 0)
     (eqb (four (byte r (i + 4)) (byte r (i + 5)) (byte r (i + 6)) (byte r (i + 7))) 0) false
 
--- the offset of a session that runs, or the point of one that has ended
+-- whether the fields not in use are 0: the offset of a session that runs, or the point of one that has ended
 unfoldable pub unused : List ℕ → Bool
 unused r = cond (eqb (byte r 7) 0) (eqb (pair r 8) 0) (zeros r 10)
 
--- the spare bytes, 18 to 31
+-- whether the spare bytes, 18 to 31, are 0
 unfoldable pub spare : List ℕ → Bool
 spare r = cond (zeros r 18) (zeros r 24) false
 
+-- the session that was read, if the tests of its bytes pass and it is in range
 unfoldable pub checked-by : (wait-limit poll-limit : ℕ) → Session → List ℕ → Unpacked
 checked-by w l s r = cond (unused r) (cond (spare r) (cond (in-range w l s) (Held s) Refused) Refused) Refused

@@ -1,4 +1,5 @@
--- A budget that no replies exceed runs an exchange to its end: as it is played against the target.
+-- The claim of specs/Claims.antt: a budget that no replies exceed runs an exchange to its end, as it is
+-- played against the target.
 use mathlib.Core.Path.{_≡_, refl, ap, _∙_}
 use mathlib.Core.List.{List, [], _∷_}
 use Prim.Native.Nat.{ℕ, zero, suc, _*_, _≤_}
@@ -21,7 +22,7 @@ use Rattle.c2_run.specs.Run.{Left, played, run-refusal, run, run-answer,
 use Rattle.c2_run.specs.Claims.{Runs-program}
 use Rattle.c2_play.proofs.Laws.Fresh.{fresh-met}
 
--- the end of an exchange against the target
+-- a run is the exchange played to its end against the target
 pub record Ends (u : Setup) (e : Exchange) (y : Target) (f : List ℕ) (p : Left) : Type 0 where
   pub exchange : p .exchange ≡ ended (play u e y f .outcome)
   pub target : p .target ≡ play u e y f .target

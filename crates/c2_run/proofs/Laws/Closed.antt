@@ -1,5 +1,5 @@
--- The session and the target, step by step, are the exchange played against the target; and what the function
--- answers by them.
+-- The session and the target, step by step (specs/Code/Closed.antt), are the exchange played against the
+-- target; and what `c2_program` answers by them.
 use mathlib.Core.Path.{_≡_, refl, sym, ap, _∙_}
 use mathlib.Core.Bool.{Bool, true, false}
 use mathlib.Core.List.{List}
@@ -36,14 +36,14 @@ use Rattle.c2_run.specs.Run.{Left, one-more, played, run-refusal, run, r
 use Rattle.c2_run.specs.declared.Run.{Run}
 use Rattle.c2_wire.specs.Exchange
 
--- one as the other, from any session and target on
+-- the exchange played and the session and target step by step stand at the same
 pub record Same (image : List ℕ) (i : ℕ) (p : Left) (c : Closed) : Type 0 where
   pub exchange : p .exchange ≡ exchange-at (c .session) image
   pub target : p .target ≡ c .target
   pub flash : p .flash ≡ c .flash
   pub replies : i + p .replies ≡ c .replies
 
--- one reply more, of an exchange that has not ended
+-- an exchange that has not ended is played on by one reply more
 played-on : (n : ℕ) (u : Setup) (e : Exchange) (y : Target) (f : List ℕ) {g : Field} {x : Step} {k : Bool → Exchange} → e ≡ strobe g x k
     → played (suc n) u e y f
     ≡ one-more (played n u (Exchange.after e (answer u y f (asks e) .reply)) (answer u y f (asks e) .target) (flash-after u y f (asks e)))
@@ -88,7 +88,7 @@ closed-lent (suc n) i t ds image s y f h =
     let k = closed-lent n (i + 1) t ds image (advanced 20 256 s (a .reply % 256) image) (a .target) (flash-after (setup t ds) y f (session-step s image)) (lent-advances s image (a .reply % 256) h) in
     by-test (is-running (s .point)) (λ p. rw p k) (λ p. rw p h)
 
--- what the function answers and leaves, at each of its returns
+-- what `c2_program` answers and leaves, at each of its returns
 abbrev pub Leaves : Settings → (first : ℕ) → (image flash delays : List ℕ) → (budget : ℕ) → Run → (flash₁ : List ℕ) → Type 0
 Leaves t first image f ds n a f₁ = (a ≡ run-answer t first image f ds n) × (f₁ ≡ run-flash t first image f ds n)
 

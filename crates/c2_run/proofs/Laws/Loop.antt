@@ -1,4 +1,4 @@
--- What the loop of `play` keeps: at its start, after a turn, and where it is left.
+-- What the loop of `c2_run::play::play` keeps: at its start, after a turn, and where it is left.
 use mathlib.Core.Path.{_≡_, refl, sym, ap, _∙_}
 use mathlib.Core.Bool.{true, false}
 use mathlib.Core.List.{List}
@@ -42,7 +42,7 @@ module _ (t : Settings) (image f₀ ds : List ℕ) (budget : ℕ) (s₀ : Sessio
         let z : budget - n ≡ suc (budget - (n + 1)) = omega arith in
         record { small = omega arith; long = l ∙ k .long; same = k .same ∙ rw (z, run) }
 
-    -- the same by what is known of the session's act and of the target
+    -- a turn of the loop for a caller that knows what the session's act does and that the target exists
     pub goes-known : Lent (setup t ds) → settings-refusal t ≡ 0 → Lasts (setup t ds) y f → (task : Task) → Knows task (s .point) → n < budget
         → is-running (s .point) ≡ true → (x : ℕ) → x ≡ step-by task s image → (a : Replied) → a ≡ answer-on (setup t ds) y f x
         → (f₁ : List ℕ) → f₁ ≡ flash-on (setup t ds) y f x → length f₁ ≡ length f → (r : ℕ) → r ≡ a .reply % 256

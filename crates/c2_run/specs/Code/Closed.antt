@@ -1,6 +1,5 @@
--- For the code: a session and a target, step by step, for a budget of replies. Nothing here needs to be
--- believed: `Running` in proofs/ has the law that this is the exchange of the order played against the
--- target.
+-- For the code: a session and a target, step by step, for a budget of replies. `same` of proofs/Laws/Closed
+-- is the law that this is the exchange of the order played against the target.
 use mathlib.Core.Bool.{cond}
 use mathlib.Core.List.{List}
 use Prim.Native.Nat.{ℕ, zero, suc, _+_, _%_}

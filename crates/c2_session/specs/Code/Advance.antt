@@ -1,5 +1,5 @@
--- For the code: the session after a reply, lent its image. `Advanced` of c2_position has the law that for an
--- image of its length it is at the next point of the order.
+-- For the code: the session after a reply, lent its image. `advances` of proofs/Laws/Advanced in c2_position
+-- is the law that for an image of the session's length it is at the next point of the order.
 use mathlib.Core.Bool.{Bool, cond}
 use mathlib.Core.List.{List}
 use Prim.Native.Nat.{ℕ}
@@ -18,19 +18,20 @@ use Rattle.c2_session.specs.Code.Next.{at, end-point, next-act}
 use Rattle.c2_session.specs.Code.Judge.{frame-answered}
 use Rattle.c2_session.specs.Code.Step.{alone, task-frame}
 
--- a reply of 0 or 1; a step that stands in no frame is over at its reply
+-- the point after a reply of 0 or 1; a step that stands in no frame is over at its reply
 abbrev pub task-taken : (wait-limit poll-limit : ℕ) → Task → Session → At → Place → Bool → List ℕ → Point
 task-taken w r k s a p b image =
     cond (eqb (alone k) 0) (frame-answered r (followed w (frame (task-frame k) 0) p b) k s a (p .count) image) (next-act s a)
 
--- a reply in an act that does this; one that is neither 0 nor 1 comes first
+-- the point after a reply, in an act that does this; a reply that is neither 0 nor 1 comes first
 abbrev pub replied-by : (wait-limit poll-limit : ℕ) → Task → Session → At → Place → (reply : ℕ) → List ℕ → Point
 replied-by w r k s a p reply image = cond (ltb 1 reply) (end-point bad-reply) (task-taken w r k s a p (eqb reply 1) image)
 
+-- the point after a reply, in any act
 unfoldable pub point-replied : (wait-limit poll-limit : ℕ) → Session → At → Place → (reply : ℕ) → List ℕ → Point
 point-replied w r s a p reply image = replied-by w r (task-of (a .stage) (a .act)) s a p reply image
 
--- an ended session takes no reply
+-- the point after a reply, of any session: one that has ended takes none
 abbrev pub point-advanced : (wait-limit poll-limit : ℕ) → Point → Session → (reply : ℕ) → List ℕ → Point
 point-advanced w r (Running g i j k q c v) s reply image = point-replied w r s (at g i j k) (place q c v) reply image
 point-advanced w r (Ended n o) s reply image = Ended n o
@@ -40,12 +41,13 @@ unfoldable pub advanced : (wait-limit poll-limit : ℕ) → Session → (reply :
 advanced w r s reply image =
     record { settings = s .settings; first = s .first; pages = s .pages; point = point-advanced w r (s .point) s reply image }
 
--- For the code: the same in an act of which it is known what it does. `Knowing` of the crate outcome has the
--- law that it is the same.
+-- the point after a reply for a caller that knows what the act does; `advanced-known` of proofs/Laws/Task in
+-- c2_outcome is the law that it is the same
 abbrev pub point-advanced-by : (wait-limit poll-limit : ℕ) → Task → Point → Session → (reply : ℕ) → List ℕ → Point
 point-advanced-by w r t (Running g i j k q c v) s reply image = replied-by w r t s (at g i j k) (place q c v) reply image
 point-advanced-by w r t (Ended n o) s reply image = Ended n o
 
+-- the session after a reply for a caller that knows what the act does
 unfoldable pub advanced-by : (wait-limit poll-limit : ℕ) → Task → Session → (reply : ℕ) → List ℕ → Session
 advanced-by w r t s reply image =
     record { settings = s .settings; first = s .first; pages = s .pages; point = point-advanced-by w r t (s .point) s reply image }

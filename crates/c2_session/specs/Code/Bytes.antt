@@ -1,6 +1,6 @@
--- The byte that an act sends or compares, by arithmetic. `Standing` of the crate position has the law that
--- these are the bytes of the session's order, so that they need no belief; `image-byte` says besides which
--- bytes a shorter image lacks (number 15).
+-- For the code: the byte that an act sends or compares, by arithmetic. `stands` of proofs/Laws/Position in
+-- c2_position is the law that for an image of the session's length these are the bytes of the order;
+-- `image-byte` says besides which bytes a shorter image lacks (number 15).
 use mathlib.Core.Bool.{cond}
 use mathlib.Core.List.{List}
 use Prim.Native.Nat.{ℕ, _+_, _-_, _*_, _/_, _%_}
@@ -18,39 +18,43 @@ use Rattle.c2_session.specs.declared.Wanted.the-variants.{Byte, Missing}
 abbrev pub block-offset : Settings → At → ℕ
 block-offset t at = at .page * t .size + at .block * 256
 
--- and the high byte of its address in the flash; the low byte is 0
+-- the high byte of a block's address in the flash; the low byte is 0
 abbrev pub high-byte : Session → At → ℕ
 high-byte s at = (s .first * s .settings .size + block-offset (s .settings) at) / 256 % 256
 
+-- the byte that an act of the lead sends: 0x02 as the address, then the keys 0x02, 0x04, 0x01
 unfoldable pub lead-byte : ℕ → ℕ
 lead-byte act = cond (eqb act 3) 2 (cond (eqb act 4) 2 (cond (eqb act 5) 4 1))
 
+-- the byte that an act of an erase sends
 unfoldable pub erase-byte : Session → At → ℕ
 erase-byte s at =
     cond (eqb (at .act) 0) (s .settings .fpdat)
     (cond (eqb (at .act) 1) 8 (cond (eqb (at .act) 5) ((s .first + at .page) % 256) 0))
 
+-- the byte that an act of a block's command sends, before the bytes of the image
 unfoldable pub block-byte : Session → At → (command : ℕ) → ℕ
 block-byte s at command =
     cond (eqb (at .act) 0) (s .settings .fpdat)
     (cond (eqb (at .act) 1) command (cond (eqb (at .act) 5) (high-byte s at) 0))
 
--- a byte of the image, if it has one there
+-- a byte of the image, or that the image has none there
 unfoldable pub image-byte : List ℕ → ℕ → Wanted
 image-byte image i = cond (ltb i (length image)) (Byte (getD image i 0)) Missing
 
--- the image offset of the byte that a block write's act sends, and of the one that a block read's act
--- compares
+-- the image offset of the byte that an act sends (`sent-offset`, in a block write) or compares
+-- (`compared-offset`, in a block read)
 unfoldable pub sent-offset : Session → At → ℕ
 sent-offset s at = block-offset (s .settings) at + (at .act - 11) / 2
 
 unfoldable pub compared-offset : Session → At → ℕ
 compared-offset s at = block-offset (s .settings) at + (at .act - 14) / 2
 
+-- the byte that an act of a block write sends
 unfoldable pub write-byte : Session → At → List ℕ → Wanted
 write-byte s at image = cond (ltb (at .act) 11) (Byte (block-byte s at 7)) (image-byte image (sent-offset s at))
 
--- the byte that an act sends
+-- the byte that an act of any stage sends
 abbrev pub stage-byte : Stage → Session → At → List ℕ → Wanted
 stage-byte Lead s at image = Byte (lead-byte (at .act))
 stage-byte Erase s at image = Byte (erase-byte s at)
@@ -58,7 +62,7 @@ stage-byte Write s at image = write-byte s at image
 stage-byte Read s at image = Byte (block-byte s at 6)
 stage-byte Close s at image = Byte 0
 
--- 0 where there is none
+-- the byte that is wanted, 0 where the image has none
 abbrev pub byte-of : Wanted → ℕ
 byte-of (Byte b) = b
 byte-of Missing = 0

@@ -1,5 +1,5 @@
--- For the code: the point after an act, by arithmetic on the session's numbers. `Onward` of c2_position has
--- the law that this goes through the order.
+-- For the code: the point after an act, by arithmetic on the session's numbers. `goes-on` of
+-- proofs/Laws/Onward in c2_position is the law that it goes through the order.
 use mathlib.Core.Bool.{cond}
 use Prim.Native.Nat.{ℕ, _+_, _/_}
 use lib.Dec.{ltb}
@@ -17,9 +17,11 @@ use Rattle.c2_acts.specs.Code.Acts.{acts-in}
 abbrev pub at : Stage → (page block act : ℕ) → At
 at stage page block act = record { stage = stage; page = page; block = block; act = act }
 
+-- the point of a running session, from its act and its place
 abbrev pub strobe-point : At → Place → Point
 strobe-point a p = Running (a .stage) (a .page) (a .block) (a .act) (p .strobe) (p .count) (p .bits)
 
+-- the point of a session that has ended, with offset 0
 abbrev pub end-point : ℕ → Point
 end-point n = Ended n 0
 
@@ -27,16 +29,19 @@ end-point n = Ended n 0
 abbrev pub first-strobe : Stage → (page block act : ℕ) → Point
 first-strobe stage page block act = strobe-point (at stage page block act) (place 0 0 0)
 
--- the point after an act: the next act of the stage, or the first of the stage after it
+-- the point after the last act of a block write: the page's next block write, or its first block read
 unfoldable pub next-write : Session → At → Point
 next-write s a = cond (ltb (a .block + 1) (s .settings .size / 256)) (first-strobe Write (a .page) (a .block + 1) 0) (first-strobe Read (a .page) 0 0)
 
+-- the point after the last act of a page: the next page's erase, or the last reset
 unfoldable pub next-page : Session → (page : ℕ) → Point
 next-page s page = cond (ltb (page + 1) (s .pages)) (first-strobe Erase (page + 1) 0 0) (first-strobe Close 0 0 0)
 
+-- the point after the last act of a block read: the page's next block read, or what follows the page
 unfoldable pub next-read : Session → At → Point
 next-read s a = cond (ltb (a .block + 1) (s .settings .size / 256)) (first-strobe Read (a .page) (a .block + 1) 0) (next-page s (a .page))
 
+-- the point after the last act of a stage
 abbrev pub next-stage : Stage → Session → At → Point
 next-stage Lead s a = first-strobe Erase 0 0 0
 next-stage Erase s a = first-strobe Write (a .page) 0 0
@@ -44,6 +49,7 @@ next-stage Write s a = next-write s a
 next-stage Read s a = next-read s a
 next-stage Close s a = end-point done
 
+-- the point after an act: the next act of its stage, or what follows the stage
 unfoldable pub next-act : Session → At → Point
 next-act s a =
     cond (ltb (a .act + 1) (acts-in (a .stage))) (first-strobe (a .stage) (a .page) (a .block) (a .act + 1)) (next-stage (a .stage) s a)

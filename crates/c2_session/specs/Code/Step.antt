@@ -1,5 +1,5 @@
--- For the code: the step that a session waits at. `Step` of c2_position has the law that it is the one that
--- the exchange of its order asks for.
+-- For the code: the step that a session waits at. `asks-step` of proofs/Laws/Step in c2_position is the law
+-- that it is the one that the exchange of the session's order asks for.
 use mathlib.Core.Bool.{Bool, true, false, cond}
 use mathlib.Core.List.{List}
 use Prim.Native.Nat.{ℕ}
@@ -18,8 +18,7 @@ use Rattle.c2_acts.specs.Code.Acts.{task-of}
 use Rattle.c2_session.specs.Code.Bytes.{stage-byte, byte-of}
 use Rattle.c2_session.specs.Code.Next.{at}
 
--- The step of an act that stands in no frame, 0 for any other act; the frame of any other act (what is said
--- of Reset and Pause is not used); and whether that frame sends a byte.
+-- the step of an act that stands in no frame, 0 for any other act
 abbrev pub alone : Task → ℕ
 alone Reset = 4
 alone Pause = 5
@@ -31,6 +30,7 @@ alone Ident = 0
 alone Status = 0
 alone Compare = 0
 
+-- the frame of an act; what is said of Reset and Pause, which stand in no frame, is not used
 abbrev pub task-frame : Task → Frame
 task-frame Reset = AddressWrite
 task-frame Pause = AddressWrite
@@ -42,6 +42,7 @@ task-frame Ident = DataRead
 task-frame Status = DataRead
 task-frame Compare = DataRead
 
+-- whether an act's frame sends a byte
 abbrev pub task-sends : Task → Bool
 task-sends Reset = false
 task-sends Pause = false
@@ -53,20 +54,25 @@ task-sends Ident = false
 task-sends Status = false
 task-sends Compare = false
 
--- the step that a session waits at
+-- the byte that an act's frame sends, 0 for a frame that reads
 abbrev pub task-byte : Task → Session → At → List ℕ → ℕ
 task-byte k s a image = cond (task-sends k) (byte-of (stage-byte (a .stage) s a image)) 0
 
+-- the step at a strobe of an act
 abbrev pub task-step : Task → Session → At → (strobe : ℕ) → List ℕ → ℕ
 task-step k s a q image = cond (eqb (alone k) 0) (step-at (frame (task-frame k) (task-byte k s a image)) q) (alone k)
 
+-- the step at a point; 6 once the session has ended
 abbrev pub point-step : Point → Session → List ℕ → ℕ
 point-step (Running g i j k q c v) s image = task-step (task-of g k) s (at g i j k) q image
 point-step (Ended n o) s image = 6
 
+-- the step that a session waits at
 unfoldable pub session-step : Session → List ℕ → ℕ
 session-step s image = point-step (s .point) s image
 
+-- the step for a caller that knows what the act does; `step-known` of proofs/Laws/Task in c2_outcome is the
+-- law that it is the same
 abbrev pub point-step-by : Task → Point → Session → List ℕ → ℕ
 point-step-by t (Running g i j k q c v) s image = task-step t s (at g i j k) q image
 point-step-by t (Ended n o) s image = 6

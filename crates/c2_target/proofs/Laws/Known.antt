@@ -37,7 +37,7 @@ use Rattle.c2_target.specs.Target.{cleared, after-reset, after-pause, st
 use Rattle.c2_target.proofs.Laws.Interface.{delay-byte, late-byte, status-small}
 use Rattle.c2_target.proofs.Laws.KnownPoint.{and-true, ins-known, write-length-known, read-length-known, address-known, data-known, long-data-known, sent-known, wait-known}
 
--- bytes in lists
+-- lists of bytes, joined, taken and set, are bytes
 bytes-append : (a b : List ℕ) → Bytes a → Bytes b → Bytes (a ++ b)
 bytes-append [] b h g = g
 bytes-append (x ∷ a) b h g = (h .0, bytes-append a b (h .1) g)
@@ -57,7 +57,7 @@ bytes-at [] i h = omega arith
 bytes-at (x ∷ a) zero h = h .0
 bytes-at (x ∷ a) (suc i) h = bytes-at a i (h .1)
 
--- the two changes of the flash keep its length and its bytes
+-- an erase and a byte stored keep the flash's length, and that it is bytes
 length-erased : (size count p : ℕ) (f : List ℕ) → p < count → length f ≡ size * count → length (erased size p f) ≡ length f
 unfolding erased
 length-erased size count p f h e =
@@ -86,7 +86,7 @@ coded-count b h =
     by-test (eqb b 0) (λ e. rw e)
     (λ e. rw e (and-true (le-leb 1 b (omega (arith, eqb-false b 0 e))) (le-leb b 256 (omega arith))))
 
--- one byte less
+-- one byte less of a block is still a block's count
 count-less : (n : ℕ) → is-count n ≡ true → ltb 1 n ≡ true → is-count (n - 1) ≡ true
 unfolding is-count
 count-less n k e =
@@ -99,7 +99,7 @@ block-less end a n k e =
     let h = both (is-count n) (leb (a + n) end) k in
     and-true (count-less n (h .0) e) (le-leb (a + 1 + (n - 1)) end (omega (arith, leb-true (a + n) end (h .1), ltb-true 1 n e)))
 
--- what a byte put leaves
+-- what a byte put leaves exists
 pub record Took (count : ℕ) (f : List ℕ) (x : Taken) : Type 0 where
   pub size : length (x .flash) ≡ length f
   pub bytes : Bytes (x .flash)
@@ -141,19 +141,19 @@ takes-known s (PastEnd n) b f hb hf ef k =
     (λ e. rw e (record { size = refl; bytes = hf; command = count-less n k e; output = refl }))
     (λ e. rw e (record { size = refl; bytes = hf; command = refl; output = refl }))
 
--- what a put, a get or a count leaves of the interface
+-- what a put, a get or a count leaves of the interface exists
 record Serves (count : ℕ) (f : List ℕ) (x : Served) : Type 0 where
   size : length (x .flash) ≡ length f
   bytes : Bytes (x .flash)
   link : known-link count (length f) (x .link) ≡ true
 
--- a device that exists
+-- whether a device exists, before a flash of this length
 pub record Device-known (count end : ℕ) (d : Device) : Type 0 where
   pub address : is-byte (d .address) ≡ true
   pub keys : leb (d .keys) 3 ≡ true
   pub link : known-link count end (d .link) ≡ true
 
--- what a frame leaves at its STOP
+-- what a frame leaves at its STOP exists
 record Acts (count : ℕ) (f : List ℕ) (x : Acted) : Type 0 where
   size : length (x .flash) ≡ length f
   bytes : Bytes (x .flash)
@@ -223,12 +223,12 @@ known-is u t f k =
     and-true (eq-eqb (length f) (u .settings .size * u .settings .count) (k .flash))
     (and-true (k .point) (and-true (k .device .address) (and-true (k .device .keys) (k .device .link))))
 
--- the target and the flash after a step
+-- the target and the flash after a step exist, and the flash is bytes
 pub record Stays (u : Setup) (x : Turn) : Type 0 where
   pub bytes : Bytes (x .flash)
   pub exists : Exists u (x .target) (x .flash)
 
--- what the target is lent: a byte for the ID, and bytes for delays
+-- what the target is lent are bytes: the ID, and the delays
 pub record Lent (u : Setup) : Type 0 where
   pub id : u .settings .id < 256
   pub delays : Bytes (u .delays)

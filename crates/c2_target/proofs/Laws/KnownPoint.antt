@@ -36,7 +36,7 @@ hearing-says : (w n v : ℕ) → hearing w n v ≡ true → (n < w) × (v < 2 ^ 
 unfolding hearing
 hearing-says w n v e = let h = both (ltb n w) (ltb v (2 ^ n)) e in (ltb-true n w (h .0), ltb-true v (2 ^ n) (h .1))
 
--- one bit more, above those heard
+-- a value with one bit more, above those heard, fits one bit more
 one-more : (n v : ℕ) (b : Bool) → v < 2 ^ n → v + bit b * 2 ^ n < 2 ^ (n + 1)
 unfolding bit
 one-more n v true h = rw add-one (omega (arith, pow-suc 2 n))
@@ -106,7 +106,7 @@ module _ (l : ℕ) where
       (λ e. rw e (and-true (le-leb 1 (n - 1) (omega (arith, ltb-true 1 n e))) (le-leb (n - 1) 32 (omega (arith, leb-true n 32 (h .1))))))
       (λ e. rw e)
 
-  -- bits to be sent, and the STOP
+  -- the point before bits are sent, or the STOP, exists
   send-known : (n v : ℕ) (e : Effect) → known-effect e ≡ true → (1 ≤ n → is-sent n v e ≡ true) → known-point l (sending n v e) ≡ true
   unfolding sending known-point
   send-known zero v e k h = k
@@ -135,7 +135,7 @@ module _ (l : ℕ) where
       go CountDown one k = send-known (n - 1) (v / 2) CountDown refl (λ _. halved one k)
       go Read one k = send-known (n - 1) (v / 2) Read refl (λ _. halved one k)
 
-  -- a strobe of a WAIT that has z zeros left, fewer than the limit
+  -- the point after a strobe of a WAIT exists, where fewer zeros are left than the limit
   pub wait-known : (u : Setup) (z n : ℕ) (e : Effect) (d : Device) (f : List ℕ) → given (u .settings) d f < 256 → z < l → after-its-wait n e ≡ true
       → known-point l (after-wait u z n e d f) ≡ true
   unfolding after-wait known-point known-effect is-sent after-its-wait value-sent

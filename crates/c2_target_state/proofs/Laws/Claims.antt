@@ -1,4 +1,4 @@
--- What `Claims` says of a target's state, proved.
+-- The claims of specs/Claims.antt, each proved under its name.
 use mathlib.Core.Path.{refl, sym, _∙_}
 use lib.Dec.{eqb}
 use Rattle.laws.proofs.Tests.{by-test}

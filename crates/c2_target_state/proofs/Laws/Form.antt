@@ -27,7 +27,7 @@ use Rattle.c2_target_state.specs.Code.Form.{none, effect-in-form, later-
 use Rattle.c2_target_state.proofs.Laws.State.{same-itself, same-says}
 use Rattle.c2_target_state.proofs.Laws.State.Fits.{not-so}
 
--- The state of any target is in form: what a frame does at its STOP,
+-- what a frame does at its STOP is in form, in the state of any target
 effect-forms : (e : Effect) → effect-in-form (effect-code e) (effect-byte e) ≡ true
 unfolding effect-in-form effect-code effect-byte
 effect-forms Nothing = refl
@@ -36,7 +36,7 @@ effect-forms (Write b) = refl
 effect-forms CountDown = refl
 effect-forms Read = refl
 
--- the point,
+-- the point is in form, in the state of any target
 abbrev point-passes : PointFields → Bool
 point-passes f = point-in-form (f .point) (f .heard) (f .value) (f .left) (f .zeros) (f .effect) (f .byte)
 
@@ -54,13 +54,13 @@ point-forms (Waiting z n e) = effect-forms e
 point-forms (Send n v e) = effect-forms e
 point-forms (Stop e) = effect-forms e
 
--- truth values,
+-- truth values are 0 or 1, in the state of any target
 flag-forms : (b : Bool) → ltb (bit b) 2 ≡ true
 unfolding bit
 flag-forms true = refl
 flag-forms false = refl
 
--- the command,
+-- the command is in form, in the state of any target
 abbrev command-passes : CommandFields → Bool
 command-passes f = command-in-form (f .command) (f .write) (f .page) (f .high) (f .start) (f .rest)
 
@@ -75,7 +75,7 @@ command-forms (LengthCode w a) = flag-forms w
 command-forms (Byte a n) = refl
 command-forms (PastEnd n) = refl
 
--- the output,
+-- the output is in form, in the state of any target
 abbrev output-passes : OutputFields → Bool
 output-passes f = output-in-form (f .output) (f .passed) (f .next) (f .count)
 
@@ -87,7 +87,7 @@ output-forms (Status false) = refl
 output-forms (StatusBlock a n) = refl
 output-forms (Block a n) = refl
 
--- and all of it.
+-- the state of any target is in form
 target-forms : (t : Target) → in-form (state-of t) ≡ true
 unfolding in-form state-of
 target-forms t =
@@ -106,7 +106,7 @@ none-says a b c d k =
     let e = eqb-true (a + b + c + d) 0 k in
     record { first = omega arith; second = omega arith; third = omega arith; fourth = omega arith }
 
--- A state in form is that of the target that it says: what a frame does at its STOP,
+-- what a frame does at its STOP is read back, from a state in form
 effect-said : (e b : ℕ) → b < 256 → effect-in-form e b ≡ true → (effect-code (effect-of e b) ≡ e) × (effect-byte (effect-of e b) ≡ b)
 unfolding effect-in-form effect-of effect-code effect-byte
 effect-said e b small k =
@@ -121,7 +121,7 @@ effect-said e b small k =
     four : (e : ℕ) → e < 5 → (e ≡ 0 → ⊥) → (e ≡ 1 → ⊥) → (e ≡ 2 → ⊥) → (e ≡ 3 → ⊥) → e ≡ 4
     four e l a b c d = omega arith
 
--- truth values,
+-- truth values are read back, from a state in form
 flag-said : (w : ℕ) → ltb w 2 ≡ true → bit (eqb w 1) ≡ w
 unfolding bit
 flag-said w k =
@@ -150,7 +150,7 @@ pub record Small (s : State) : Type 0 where
   pub count : s .count < 65536
 
 module _ (s : State) (m : Small s) where
-  -- the point,
+  -- the point is read back, from a state in form
   abbrev point-numbers : PointFields
   point-numbers = record { point = s .point; heard = s .heard; value = s .value; left = s .left; zeros = s .zeros; effect = s .effect; byte = s .byte }
 
@@ -211,7 +211,7 @@ module _ (s : State) (m : Small s) where
       (λ l. let q = not-second (eqb (s .heard) 0) _ (rw l at k) in
       later-said (eqb-true (s .heard) 0 (q .0)) (q .1))
 
-  -- the command,
+  -- the command is read back, from a state in form
   abbrev command-numbers : CommandFields
   command-numbers = record { command = s .command; write = s .write; page = s .page; high = s .high; start = s .start; rest = s .rest }
 
@@ -262,7 +262,7 @@ module _ (s : State) (m : Small s) where
       (λ f. let r = not-second (eqb (s .start) 0) _ (rw f at (q .1)) in
       early-said (eqb-true (s .start) 0 (r .0)) (eqb-true (s .rest) 0 (q .0)) (r .1))))
 
-  -- the output,
+  -- the output is read back, from a state in form
   abbrev output-numbers : OutputFields
   output-numbers = record { output = s .output; passed = s .passed; next = s .next; count = s .count }
 
@@ -293,7 +293,7 @@ module _ (s : State) (m : Small s) where
       three : (o : ℕ) → 2 ≤ o → o < 4 → (o ≡ 2 → ⊥) → o ≡ 3
       three o l m h = omega arith
 
-  -- and all of it.
+  -- a state in form is that of the target that it says
   state-said : in-form s ≡ true → state-of (target-read s) ≡ s
   unfolding in-form state-of target-read
   state-said k =
@@ -307,7 +307,7 @@ module _ (s : State) (m : Small s) where
       let d : s .late % 256 ≡ s .late = mod-eq-of-lt (m .late) in
       rw (point-said (k4 .1), command-said (k4 .0), output-said (k3 .0), flag-said (s .collision) (k1 .0), flag-said (s .on) (k2 .0), a, y, b, d)
 
-  -- So the test decides whether a state is a target's.
+  -- The test of the form decides whether a state is a target's.
   pub held-form : in-form s ≡ true → target-of s ≡ seen.Held (target-read s)
   unfolding target-of
   held-form k = rw (state-said k, same-itself s)

@@ -15,12 +15,12 @@ use Rattle.c2_target_state.specs.State.{state-of, target-read, same-poin
 eqb-same : (n : ℕ) → eqb n n ≡ true
 eqb-same n = eq-eqb n n refl
 
--- a state is the same as itself,
+-- a state is the same as itself
 pub same-itself : (s : State) → same-state s s ≡ true
 unfolding same-state same-point same-device same-command same-output
 same-itself s = simp eqb-same
 
--- and only as itself: states with the same numbers, by four groups of them
+-- states that are the same have the same numbers, in four groups of them
 record Point-numbers (a b : State) : Type 0 where
   pub point : a .point ≡ b .point
   pub heard : a .heard ≡ b .heard

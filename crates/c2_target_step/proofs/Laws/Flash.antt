@@ -23,13 +23,13 @@ use Rattle.c2_target.specs.Interface.{out-ready, linked, put-byte, get-byte, do
 use Rattle.c2_target.specs.Strobes.{strobed-at}
 use Rattle.c2_target_step.specs.Code.Parts.{effect-flash, strobe-flash}
 
--- of the bytes put, a new command,
+-- the first byte of a command changes no flash
 pub opens-keeps : (b : ℕ) (f : List ℕ) → opens b f .flash ≡ f
 unfolding opens
 opens-keeps b f =
     by-test (eqb b 0x08) (λ e. rw e) (λ e. rw e (by-test (eqb b 0x07) (λ e. rw e) (λ e. rw e (by-test (eqb b 0x06) (λ e. rw e) (λ e. rw e)))))
 
--- a page and a length code change nothing
+-- the page of an erase (`page-keeps`) and the length code of a block (`length-keeps`) change no flash
 pub page-keeps : (s : Settings) (b : ℕ) (f : List ℕ) → takes s ErasePage b f .flash ≡ f
 unfolding takes
 page-keeps s b f = by-test (ltb b (s .count)) (λ e. rw e) (λ e. rw e)
@@ -63,7 +63,7 @@ does-flash u (Write b) d p f = by-test (linked (u .settings) d) (λ e. rw e) (λ
 does-flash u CountDown d p f = refl
 does-flash u Read d p f = by-test (linked (u .settings) d) (λ e. rw e (get-keeps u d p f)) (λ e. rw e)
 
--- a strobe changes it as the code does
+-- a strobe changes the flash as the code does
 pub strobed-flash : (u : Setup) (p : Point) (t : Target) (f : List ℕ) (x : Step) → strobed-at u p t f x .flash ≡ strobe-flash (u .settings) p (t .device) f
 unfolding strobed-at
 strobed-flash u Start t f x = refl

@@ -41,7 +41,7 @@ block-says end a n e =
     let h = both (leb 1 n && leb n 256) (leb (a + n) end) e in
     (leb-true 1 n (both (leb 1 n) (leb n 256) (h .0) .0), leb-true (a + n) end (h .1))
 
--- so does a page
+-- a page of the device lies in the flash
 pub page-says : (size count p end : ℕ) → ltb p count ≡ true → end ≡ size * count → p * size + size ≤ end
 page-says size count p end e h = let k : suc p * size ≤ count * size = mul-le-mul-right size (ltb-true p count e) in omega arith
 
@@ -68,17 +68,17 @@ exists u t f k =
     let c = both (is-byte (d .address)) _ (b .1) in
     record { flash = eqb-true (length f) (u .settings .size * u .settings .count) (a .0); point = b .0; link = both (leb (d .keys) 3) _ (c .1) .1 }
 
--- at a STOP all of the state has been tested
+-- at a STOP all of the state has been tested, so it exists
 pub stop-exists : (u : Setup) (t : Target) (f : List ℕ) (e : Effect) → t .point ≡ Stop e → known-on u t f ≡ true → Exists u t f
 unfolding known-on
 stop-exists u t f e p k = let a : at-stop (t .point) ≡ true = ap (λ (y : Point). at-stop y) p in exists u t f (rw a at k)
 
--- and a state that exists passes everywhere
+-- a state that exists passes the test of a state that is handed on, at every point
 pub exists-on : (u : Setup) (t : Target) (f : List ℕ) → known u t f ≡ true → known-on u t f ≡ true
 unfolding known-on
 exists-on u t f k = by-test (at-stop (t .point)) (λ a. rw a k) (λ a. rw a (exists u t f k .point))
 
--- the test by its parts
+-- the test of a state that is handed on, by its parts
 pub on-behind : (u : Setup) (t : Target) (f : List ℕ) → known-point (u .wait) (t .point) ≡ true → at-stop (t .point) ≡ true
     → known-on u t f ≡ known-behind (u .settings) (t .device) f
 unfolding known-on known known-behind known-device
@@ -102,7 +102,7 @@ room a n end h =
 pub no-room : (a n end : ℕ) → end < a → false ≡ leb (a + n) end
 no-room a n end h = sym (lt-leb (a + n) end (omega arith))
 
--- a power of two of up to eight bits is no remainder
+-- a power of two of up to eight bits fits 64 bits
 pub power-fits : (n : ℕ) → n ≤ 8 → (1 * 2 ^ n) % 18446744073709551616 ≡ 2 ^ n
 power-fits n h =
     let b = pow-le-pow-right {n = 2} (omega arith) {i = n} {j = 8} h in

@@ -29,7 +29,7 @@ line-high x e =
     by-test (eqb x 0) (λ a. rw a)
     (λ a. rw (a, e) (by-test (eqb x 3) (λ b. rw b) (λ b. rw b (by-test (eqb x 4) (λ d. rw d) (λ d. rw d (by-test (eqb x 5) (λ g. rw g) (λ g. rw g)))))))
 
--- only steps 2 and 3 drive it
+-- only steps 2 and 3 drive the line
 pub not-driving : (x : ℕ) → eqb x 2 ≡ false → eqb x 3 ≡ false → drives (step-coded x) ≡ false
 unfolding drives step-coded
 not-driving x e h =
@@ -57,7 +57,8 @@ is-strobe u t f x k p q r =
     not-one : not (eqb x 1) ≡ true → x ≡ 1 → ⊥
     not-one g e = let w : false ≡ true = rw (eq-eqb x 1 e) at g in let z : _≡_ {A = ℕ} 0 1 = cc in omega arith
 
--- what a step gives by the number m of its refusal: a strobe,
+-- what a step gives by the number m of its refusal: a strobe (`strobe-answered`), and any other step or a
+-- refused one (`still-answered`)
 module _ (u : Setup) (t : Target) (f : List ℕ) (x n m : ℕ) (e : m ≡ n) where
   pub strobe-answered : m ≡ 0 → is-step x ≡ true → x < 4 → (r : Replied) → r ≡ turn-replied (strobed u t f (step-coded x)) → (f₁ : List ℕ)
       → f₁ ≡ strobe-flash (u .settings) (t .point) (t .device) f → (r ≡ answered n u t f x) × (f₁ ≡ flash-left n u t f x)
@@ -66,7 +67,7 @@ module _ (u : Setup) (t : Target) (f : List ℕ) (x n m : ℕ) (e : m ≡ n) whe
       let z = eq-eqb n 0 (sym e ∙ h) in
       (rw (z, s) er, rw (z, s) (ef ∙ sym (strobed-flash u (t .point) t f (step-coded x))))
 
-  -- and any other, or a refused one
+  -- a step that is no strobe gives what `still` says
   still-is : (x < 4 → ⊥) → stepped u t f (step-coded x) ≡ turn true (cond (eqb x 4) (after-reset t) (cond (eqb x 5) (after-pause t) t)) f
   unfolding stepped step-coded
   still-is h =
@@ -95,7 +96,7 @@ accepts-on u t f x n e h =
     let p = passes (known-on u t f) (cond (is-step x) 0 no-step) no-point (omega arith) (sym e ∙ h) in
     (p .0, passes (is-step x) 0 no-step (omega arith) (p .1) .0)
 
--- from a state that exists, with settings that pass, both are the same step
+-- from a state that exists, with settings that pass, `answer-on` and `answer` are the same step
 pub same-on : (u : Setup) (t : Target) (f : List ℕ) (x : ℕ) → settings-refusal (u .settings) ≡ 0 → known u t f ≡ true
     → (answer-on u t f x ≡ answer u t f x) × (flash-on u t f x ≡ flash-after u t f x)
 unfolding answer-on answer flash-on flash-after refusal-on refusal

@@ -1,5 +1,6 @@
 -- For the code, which gives reply and target and writes the flash apart: parts of what the definitions give.
--- Nothing here needs to be believed.
+-- `strobe-answered` and `still-answered` of proofs/Laws/Target, `strobed-flash` of proofs/Laws/Flash and
+-- `on-behind` of proofs/Laws/Known join them to the definitions.
 use mathlib.Core.Bool.{Bool, cond, _&&_}
 use mathlib.Core.List.{List}
 use Prim.Native.Nat.{ℕ, _*_}
@@ -25,10 +26,11 @@ use Rattle.c2_target.specs.Target.{after-reset, after-pause}
 abbrev pub replying : (reply : ℕ) → Target → Replied
 replying r t = record { number = 0; reply = r; target = t }
 
+-- what a strobe gives that is not refused
 abbrev pub turn-replied : Turn → Replied
 turn-replied r = replying (bit (r .reply)) (r .target)
 
--- a step that is no strobe, by the number of its refusal
+-- what a step gives that is no strobe, by the number of its refusal
 abbrev pub still : (number : ℕ) → Target → (step : ℕ) → Replied
 still n t x =
     cond (eqb n 0) (replying 1 (cond (eqb x 4) (after-reset t) (cond (eqb x 5) (after-pause t) t))) (record { number = n; reply = 1; target = t })
@@ -41,7 +43,7 @@ stopped t a = target Start (a .place) (t .collision) (a .device)
 abbrev pub taking : Taken → Taking
 taking r = record { command = r .command; output = r .output }
 
--- What a STOP makes of the flash: only a put changes it,
+-- the flash after a frame's STOP, by what the frame does: only a put changes it
 abbrev pub effect-flash : Settings → Effect → Device → List ℕ → List ℕ
 effect-flash s Nothing d f = f
 effect-flash s (SetAddress a) d f = f
@@ -49,7 +51,7 @@ effect-flash s (Write b) d f = cond (linked s d) (takes s (d .link .command) b f
 effect-flash s CountDown d f = f
 effect-flash s Read d f = f
 
--- and so only at a STOP.
+-- the flash after a strobe: only a STOP changes it
 abbrev pub strobe-flash : Settings → Point → Device → List ℕ → List ℕ
 strobe-flash s Start d f = f
 strobe-flash s (Ins n v) d f = f
@@ -63,10 +65,10 @@ strobe-flash s (Waiting z n e) d f = f
 strobe-flash s (Send n v e) d f = f
 strobe-flash s (Stop e) d f = effect-flash s e d f
 
--- a device that exists
+-- whether a device exists, before a flash of this length
 unfoldable pub known-device : Settings → Device → (end : ℕ) → Bool
 known-device s d end = is-byte (d .address) && (leb (d .keys) 3 && known-link (s .count) end (d .link))
 
--- and a flash of the right length before it
+-- whether a device exists, and the flash before it has the right length
 unfoldable pub known-behind : Settings → Device → (flash : List ℕ) → Bool
 known-behind s d f = eqb (length f) (s .size * s .count) && known-device s d (length f)

@@ -35,7 +35,7 @@ off-keeps : (u : Setup) (t : Target) (f : List ℕ) → left-by u t f (6 ∷ [])
 unfolding left-by answer flash-after stepped step-coded
 off-keeps u t f = by-test (eqb (refusal u t f 6) 0) (λ e. rw e) (λ e. rw e)
 
--- one step more of an exchange that, played on, ends unmarked
+-- a target after one step more of an exchange that, played on, ends unmarked, is unmarked
 one-more : (u : Setup) (z : Exchange) (t : Target) (f : List ℕ) → play u z t f .target .collision ≡ false → left-by u t f (asks z ∷ []) .target .collision ≡ false
 unfolding left-by asks against whole-step code
 one-more u (ended q) t f h = ap (λ (z : State). z .target .collision) (off-keeps u t f) ∙ h

@@ -1,4 +1,4 @@
--- C2's calls go on by their replies, so what is shared holds of them.
+-- C2's calls go on by their replies, so what the crate exchange has for every family holds of them.
 use mathlib.Core.Path.{_≡_, refl, sym, ap, _∙_}
 use mathlib.Core.List.{List, [], _∷_, _++_, append-nil}
 use Prim.Native.Nat.{ℕ}
@@ -18,7 +18,7 @@ use Rattle.exchange.proofs.Laws.Calls.{lists-are-replies, lists-alike}
 use Rattle.c2_whole.specs.Family.{C2, Taking-done, does, hears, takes, untouched}
 use Rattle.c2_calls.proofs.Laws.Calls
 
--- an accepted call, as the landed definitions have it
+-- an accepted call that takes replies, as specs/Calls.antt of c2 has it
 same : (u : Unpacked) (r image rs buffer : List ℕ) (place : ℕ) → held-number u (length image) (length rs) (length buffer) place ≡ 0
     → takes u r image rs buffer place
     ≡ record {

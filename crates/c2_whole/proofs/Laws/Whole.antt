@@ -1,5 +1,5 @@
--- The page's claim, from the landed ones and two laws: pages laid one by one are the image laid over, and the
--- target is ready at every step.
+-- The claims of specs/Whole.antt, from those of c2_calls and two laws: pages laid one by one are the image
+-- laid over, and the target is ready at every step.
 use mathlib.Core.Path.{_≡_, refl, sym, ap, _∙_, subst⁻¹}
 use mathlib.Core.List.{List, [], _∷_, append-nil}
 use Prim.Native.Nat.{ℕ, zero, suc, _+_, _*_, _/_, _≤_}
@@ -62,7 +62,7 @@ use Rattle.c2_calls.proofs.Laws.Claims
 use Rattle.exchange.specs.Calls as Shared
 use Rattle.c2_calls.specs.Whole as Landed
 
--- the target in steps, as the landed definitions have it
+-- the target's replies and its flash after steps in a row, as c2_calls has them
 replies-are : (t : Settings) (b : Bench) (xs : List ℕ) → replies t b xs ≡ own-replies t (b .delays) (b .target) (b .flash) xs
 unfolding replies own-replies
 replies-are t b [] = refl
@@ -103,7 +103,7 @@ module _ (j : Job) (held : List ℕ) (g : Begins held j) where
   told-are before calls m =
       ap (λ (x : Told). told C2 x calls) (starts before) ∙ c2-lists (j .settings) first (j .image) opening-of calls (rw (starts before) at m)
 
-  -- replies in a row, by the landed claim of the one call that takes them all
+  -- what replies in a row come to, by the claim of c2_calls for the one call that takes them all
   module _ (rs : List ℕ) where
     abbrev x : Told
     x = by-replies (j .settings) first (j .image) rs
@@ -144,7 +144,7 @@ module _ (j : Job) (held : List ℕ) (g : Begins held j) where
           let p = landed .programs (b .delays) (b .flash) (b .target) ready-is own-is (rw (same, e) (λ z. omega arith)) in
           flash-is (j .settings) b (take (x .taken) (sent x)) ∙ (rw same at (p .holds))
 
--- what a list of rising pages says
+-- what holds of a list of rising pages
 rising-length : (n first : ℕ) → length (rising first n) ≡ n
 unfolding rising
 rising-length zero first = refl
@@ -163,7 +163,7 @@ named-is t first image o =
     let x = Facts.opened t first (length image) (o .accepted) in
     rising-named t (length image / t .size) first 0 image (omega (arith, x .whole)) (o .bytes) (x .inside)
 
--- the target along the steps
+-- Along the steps the target stays ready, and after the last the flash holds the image.
 pub record Along (j : Job) (b : Bench) (x : Told) : Type 0 where
   pub ready : (n : ℕ) → Ready (j .settings) (given (j .settings) b (take n (sent x)))
   pub last : x .outcome ≡ outcome done → (n : ℕ) → x .taken ≤ n
@@ -268,7 +268,7 @@ module _ (j : Job) (held : List ℕ) (g : Begins held j) (rs : List ℕ) (b : Be
           last = λ d n l. rw sent-is (last-one d n l);
         }
 
-    -- cut after n steps
+    -- the flash after a cut after n steps
     abbrev F : ℕ → List ℕ
     F n = given (j .settings) b (take n (sent (by-replies (j .settings) (first-of (j .pages)) (j .image) rs))) .flash
 

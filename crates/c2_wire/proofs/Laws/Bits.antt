@@ -40,7 +40,7 @@ unfolding number bit
 number-small [] = omega arith
 number-small (b ∷ bs) = omega (arith, bit-small b, number-small bs, pow-suc 2 (length bs))
 
--- one bit more, above the others
+-- one bit more, above the others, adds its power of two
 pub number-snoc : (bs : List Bool) (b : Bool) → number (bs ++ b ∷ []) ≡ number bs + bit b * 2 ^ length bs
 unfolding number bit
 number-snoc [] b = omega arith

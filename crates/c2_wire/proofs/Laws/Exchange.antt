@@ -1,4 +1,5 @@
--- Laws of exchanges: replies in parts and in a row, what an ended exchange does, ways through an exchange.
+-- Laws of exchanges: replies in parts and in a row, what an ended exchange does, ways through an exchange,
+-- and exchanges that drive C2D in fields of the master's alone.
 use mathlib.Core.Path.{_≡_, refl, sym, ap, _∙_}
 use mathlib.Core.Bool.{Bool, true, false, not, _||_}
 use mathlib.Core.List.{List, [], _∷_, _++_, map}
@@ -75,7 +76,7 @@ own-after (own-strobe p h) zero = h false
 own-after (own-strobe p h) (suc zero) = h true
 own-after (own-strobe p h) (suc (suc r)) = own-ended
 
--- so it is whatever the replies
+-- an exchange whose steps are all the master's own or released is at such a step whatever the replies
 pub own-fed : {e : Exchange} → Own e → (rs : List ℕ) → own (fed e rs) ≡ true
 unfolding fed own
 own-fed own-ended [] = refl

@@ -1,5 +1,5 @@
--- Laws of the four frames: each is whole, how long it takes at the most, and that its driven strobes are the
--- master's.
+-- Laws of the four frames: each is whole, how long it takes at the most, and that the strobes it drives are
+-- the master's.
 use mathlib.Core.Path.{_≡_, refl}
 use mathlib.Core.Bool.{Bool, true, false, not, cond, _&&_, _||_}
 use mathlib.Core.List.{List, [], _∷_}
@@ -17,7 +17,7 @@ use Rattle.c2_wire.specs.declared.Frame.the-variants.{AddressWrite, Addr
 use Rattle.c2_wire.proofs.Laws.Exchange.{Own, own-ended, own-strobe}
 use Rattle.c2_wire.proofs.Laws.Place.{Whole, waits-in}
 
--- each frame's longest exchange
+-- the most strobes of each frame
 pub longest-address-write : (l a : ℕ) → longest l (frame AddressWrite a) ≡ 12
 unfolding frame sends ins-code bits longest
 longest-address-write l a = refl
@@ -51,7 +51,7 @@ pub whole-data-read : (a : ℕ) → Whole 1 (frame DataRead a)
 unfolding frame sends ins-code bits samples waits-in
 whole-data-read a = record { ends = λ i e. let h : i ≡ 14 = omega arith in (STOP, released, rw h); byte = omega arith; calm = λ h. refl }
 
--- a step outside every frame, as the reset pulse
+-- a step that stands in no frame, such as the reset pulse, is whole too
 pub whole-step : (f : Field) (s : Step) → Whole 1 (plain f s ∷ [])
 unfolding samples waits-in
 whole-step f s = record { ends = λ i e. let h : i ≡ 0 = omega arith in (f, s, rw h); byte = omega arith; calm = λ h. refl }

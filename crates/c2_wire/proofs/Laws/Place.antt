@@ -53,7 +53,7 @@ waits-at (plain f s ∷ ss) (suc i) e = waits-at ss i e
 waits-at (sampled f ∷ ss) (suc i) e = waits-at ss i e
 waits-at (waits ∷ ss) (suc i) e = omega arith
 
--- one strobe more is passed
+-- how many strobes are sampled after one strobe more
 samples-snoc : (ss : List Strobe) (x : Strobe) → samples (ss ++ x ∷ []) ≡ samples ss + samples (x ∷ [])
 unfolding samples
 samples-snoc [] x = omega arith
@@ -103,7 +103,7 @@ sampled-byte n v b h m =
     mod-eq-of-lt (omega (arith, sampled-fits n v b h m, pow-le-pow-right {n = 2} (omega arith) {i = suc n} {j = 8} m))
 
 module _ (l r : ℕ) (ss : List Strobe) (w : Whole r ss) (k : ℕ → Exchange) where
-  -- after a strobe at place i, outside a WAIT or at its end
+  -- what is left after a strobe at place i, outside a WAIT or at its end
   passed : (i c v : ℕ) → (0 < waits-in ss → c ≡ 0)
       → remaining l ss (place (i + 1) c v) k ≡ strobes l (drop (suc i) ss) (samples (take (i + 1) ss)) v k
   unfolding remaining
@@ -263,7 +263,7 @@ module _ (l r : ℕ) (ss : List Strobe) (w : Whole r ss) (hl : 0 < l) (hr : 0 < 
           let last = w .ends (p .strobe) (omega (arith, h .inside)) in
           rw (le-ltb (p .strobe + 1) (length ss) (omega arith), last .2) (omega arith)
 
-  -- at the frame's first strobe
+  -- the frame's first strobe is a place that exists
   pub first-exists : 0 < length ss → Exists l r ss (place 0 0 0)
   unfolding samples
   first-exists h = record { inside = h; counted = next-counted 0 0 hr (λ _. refl); sampled-only = omega arith }
@@ -282,7 +282,7 @@ first-remaining l (plain f s ∷ ss) k = refl
 first-remaining l (sampled f ∷ ss) k = refl
 first-remaining l (waits ∷ ss) k = rest-fresh l 0 0 0 k (waits ∷ ss) (λ _. refl)
 
--- outside a WAIT the count is kept
+-- outside a WAIT a reply keeps the count
 abbrev pub count-after : (c : ℕ) → Moved → Type 0
 count-after c (Within p) = p .count ≡ c
 count-after c (Stopped v) = Unit {0}
@@ -298,7 +298,7 @@ followed-count l ss p b h = go (ltb (p .strobe + 1) (length ss)) (strobe-at ss (
     go true (sampled f) e = refl
     go true waits e = absurd (omega (arith, waits-at ss (p .strobe) e))
 
--- and is below that of the reads
+-- the count at a place of strobes without a WAIT is below that of the reads
 pub counted-reads : (l r : ℕ) (ss : List Strobe) (p : Place) → waits-in ss ≡ 0 → Exists l r ss p → p .count < r
 unfolding count-limit
 counted-reads l r ss p h e = go (strobe-at ss (p .strobe)) refl (e .counted)

@@ -1,4 +1,4 @@
--- The roles that the code finds by arithmetic are the strobes of the frames.
+-- The roles that the code finds by arithmetic (specs/Code/Role.antt) are the strobes of the frames.
 use mathlib.Core.Path.{_≡_, refl, ap, _∙_, sym}
 use mathlib.Core.Bool.{Bool, true, false, cond}
 use Prim.Native.Nat.{ℕ, _+_, _-_, _/_, _%_, _^_, _<_, _≤_}
@@ -89,7 +89,7 @@ role-follows-at f a l p b = go (decLt (p .strobe) 15)
         (follows-below f a l (p .count) (p .bits) b) (p .strobe) y
     go (no y) = rw (role-past f (p .strobe) (omega arith), le-ltb (p .strobe + 1) (length (frame f a)) (omega (arith, length-frame f a)))
 
--- and the code's sums stay small
+-- the sums that the code makes of a strobe's number and its role stay small
 by-test : (t : Bool) (x y : Role) (i : ℕ) → (t ≡ true → Role-fits x i) → (t ≡ false → Role-fits y i) → Role-fits (cond t x y) i
 by-test true x y i f g = f refl
 by-test false x y i f g = g refl
@@ -117,7 +117,7 @@ role-fits f i =
 pub followed-any-byte : (f : Frame) (a b l : ℕ) (p : Place) (t : Bool) → followed l (frame f a) p t ≡ followed l (frame f b) p t
 followed-any-byte f a b l p t = sym (role-follows-at f a l p t) ∙ role-follows-at f b l p t
 
--- and a place exists in a frame whatever byte the frame writes
+-- a place exists in a frame whatever byte the frame writes
 counts-below : (f : Frame) (a b l r : ℕ) → upto (λ i. count-limit l r (strobe-at (frame f a) i)) 15 ≡ upto (λ i. count-limit l r (strobe-at (frame f b) i)) 15
 unfolding frame sends ins-code bits count-limit
 counts-below AddressWrite a b l r = refl

@@ -1,6 +1,6 @@
--- For the code: what each strobe of a frame is, by arithmetic on its number. Nothing here needs to be
--- believed: `Roles` in proofs/ has the laws that these are the strobes of Frames.antt, and the public
--- contracts cite those.
+-- For the code: what each strobe of a frame is, by arithmetic on its number. `role-step-at` and
+-- `role-follows-at` of proofs/Laws/Role join it to the strobes of specs/Frames.antt, which the public
+-- contracts cite.
 use mathlib.Core.Bool.{Bool, false, cond}
 use Prim.Native.Nat.{ℕ, _-_, _<_}
 use lib.Dec.{ltb, eqb}
@@ -17,7 +17,7 @@ use Rattle.c2_wire.specs.declared.Place.{Place}
 use Rattle.c2_wire.specs.declared.Moved.{Moved}
 use Rattle.c2_wire.specs.declared.Moved.the-variants.{Stopped}
 
--- the strobes after START and INS
+-- the role of a strobe after START and INS
 abbrev pub body-role : Frame → ℕ → Role
 body-role AddressWrite i = cond (ltb i 8) (Sent i) Stop
 body-role AddressRead i = cond (ltb i 8) (Sampled i) Stop
@@ -41,7 +41,7 @@ role-step f a (Sampled i) = 0
 role-step f a Wait = 0
 role-step f a Stop = 0
 
--- a reply to a strobe of the role
+-- what a reply makes of a place whose strobe has this role
 abbrev pub role-follows : (wait-limit : ℕ) → Role → Place → Bool → Moved
 role-follows l Released p b = passes p
 role-follows l (Ins i) p b = passes p

@@ -1,4 +1,4 @@
--- What follows for every family of calls.
+-- What follows for every family of calls: the claims of specs/Calls.antt.
 use mathlib.Core.Path.{_≡_, refl, sym, ap, _∙_}
 use mathlib.Core.Bool.{cond}
 use mathlib.Core.List.{List, [], _∷_, _++_, append-nil, append-assoc}

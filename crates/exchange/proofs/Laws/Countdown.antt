@@ -1,4 +1,4 @@
--- The counter is sound, so what is shared holds of it: its lists of calls are the replies in a row.
+-- The counter is sound, so what is shared holds of it.
 use mathlib.Core.Path.{_≡_, refl, sym, ap, _∙_}
 use mathlib.Core.List.{List, [], _∷_, _++_, map}
 use Prim.Native.Nat.{ℕ, zero, suc, _+_, _-_, _≤_}
@@ -61,6 +61,6 @@ adds-up e s l qs rs m ok =
     let n = sym (ap length (steps-append e qs rs) ∙ length-append (steps e qs) (steps (fed counter e qs) rs)) in
     λ i. record { steps = j i; taken = n i }
 
--- so its lists of calls are the replies in a row
+-- the counter's lists of calls are the replies in a row
 pub counter-lists : (n : ℕ) → Lists-are-replies (family counter face) tt (by-replies counter face tt n)
 counter-lists n = served counter face sound adds-up tt n tt

@@ -18,7 +18,7 @@ pub record Opened (s : Settings) (first n : ℕ) : Type 0 where
   pub whole : n ≡ n / s .size * s .size
   pub inside : first + n / s .size ≤ s .count
 
--- its settings pass
+-- the settings of an accepted opening pass
 pub settings-pass : (s : Settings) (first n : ℕ) → opening-refusal s first n ≡ 0 → settings-refusal s ≡ 0
 unfolding opening-refusal
 settings-pass s first n e = by-test (eqb (settings-refusal s) 0) (λ p. eqb-true (settings-refusal s) 0 p) (λ p. rw p at e)

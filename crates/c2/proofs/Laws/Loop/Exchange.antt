@@ -1,4 +1,4 @@
--- The loop's steps and session are those of the exchange: what the calls' definitions say of them.
+-- The loop's session and steps (specs/Code/Loop.antt) are those of the exchange.
 use mathlib.Core.Path.{_≡_, refl, sym, ap, _∙_}
 use mathlib.Core.Bool.{Bool, true, false, cond}
 use mathlib.Core.List.{List, [], _∷_}

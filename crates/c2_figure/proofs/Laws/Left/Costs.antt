@@ -1,4 +1,4 @@
--- What the acts of a stage after one of them cost, and what comes after the stage: as the code counts them.
+-- What the acts of a stage after one of them cost, and what comes after the stage, as the code counts them.
 use mathlib.Core.Path.{_≡_, refl, sym, ap, _∙_}
 use mathlib.Core.List.{List, [], _++_}
 use Prim.Native.Nat.{ℕ, zero, suc, _+_, _-_, _*_, _/_, _%_, _<_}
@@ -134,7 +134,7 @@ module _ (w r : ℕ) where
   stage-ends Close = refl
 
   module _ (s : Session) (image : List ℕ) (h : Fits s image) where
-    -- the acts of a stage after one of them
+    -- the cost of the acts of a stage after one of them
     pub stage-costs : (g : Stage) (i j k : ℕ) → i < pages-in g (s .pages) → j < blocks-in g (s .settings .size) → k < acts-in g
         → costs (limits w r) (drop (suc k) (stage-acts g s image i j)) ≡ stage-left w r g k
     unfolding costs
@@ -152,11 +152,11 @@ module _ (w r : ℕ) where
             rw (drop-cons (stage-acts g s image i j) (suc k) reset-pulse l, stands s image h g i j (suc k) reset-pulse gi gj (omega arith))
             (omega (arith, c, down m (suc k) (omega arith), stage-on g k (omega arith)))
 
-    -- a block that is there
+    -- a block of a page that is there has 256 bytes
     block-whole : (i j : ℕ) → i < s .pages → j < s .settings .size / 256 → length (block-at s image i j .bytes) ≡ 256
     block-whole i j gi gj = ap (λ (x : Block). length (x .bytes)) (block-is s image h i j gi gj) ∙ block-length s image h i j gi gj
 
-    -- from a block on
+    -- the cost of the blocks of a page from a block on
     writes-cost : (m i j : ℕ) → i < s .pages → j + m ≡ s .settings .size / 256 → costs (limits w r) (writes-from s image i j) ≡ m * block-cost w r
     unfolding costs
     writes-cost zero i j gi e = rw (writes-over s image h i j (omega arith)) (omega arith)
@@ -181,7 +181,7 @@ module _ (w r : ℕ) where
           reads-cost m i (suc j) gi (omega arith),
         ))
 
-    -- from a page on, with the last reset
+    -- the cost of the pages from a page on, and of the last reset
     pages-cost : (m i : ℕ) → i + m ≡ s .pages → costs (limits w r) (pages-from s image i) ≡ m * page-cost w r (s .settings .size / 256) + 1
     unfolding costs
     pages-cost zero i e = rw (pages-over s image h i (omega arith)) (omega (arith, act-costs Reset 0 0 0))
@@ -201,7 +201,7 @@ module _ (w r : ℕ) where
           pages-cost m (suc i) (omega arith),
         ))
 
-    -- after a stage
+    -- the cost of what comes after a stage
     pub after-costs : (g : Stage) (i j : ℕ) → i < pages-in g (s .pages) → j < blocks-in g (s .settings .size)
         → costs (limits w r) (after-stage g s image i j) ≡ after-left w r g s i j
     unfolding costs

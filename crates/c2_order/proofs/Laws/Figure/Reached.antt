@@ -23,7 +23,7 @@ use Rattle.c2_order.specs.Figure.{cost, costs}
 use Rattle.c2_order.proofs.Laws.Valid.{Every, none, more}
 use Rattle.c2_order.proofs.Laws.Order.{Ground}
 
--- a WAIT to its last strobe
+-- the way through a WAIT to its last strobe
 way-waiting : (n : ℕ) (e : Exchange) → 0 < n → Way (waiting n e) n e
 unfolding waiting
 way-waiting zero e h = absurd (not-suc-le-zero h)
@@ -36,7 +36,7 @@ weighed v n x b =
     let q : (bit b + 2 * x) * 2 ^ n ≡ bit b * 2 ^ n + 2 * x * 2 ^ n = add-mul (bit b) (2 * x) (2 ^ n) in
     omega (arith, p, q)
 
--- the strobes of a frame, with these bits sampled
+-- the way through the strobes of a frame, with these bits sampled
 way-strobes : (l : ℕ) → 0 < l → (ss : List Strobe) (n v : ℕ) (k : ℕ → Exchange) (bs : List Bool) → length bs ≡ samples ss
     → Way (strobes l ss n v k) (longest l ss) (k (v + number bs * 2 ^ n))
 unfolding strobes longest samples number
@@ -48,7 +48,7 @@ way-strobes l hl (sampled f ∷ ss) n v k (b ∷ bs) h =
     on b (rw (weighed v n (number bs) b) at (way-strobes l hl ss (suc n) (v + bit b * 2 ^ n) k bs (omega arith)))
 way-strobes l hl (waits ∷ ss) n v k bs h = way-append (way-waiting l _ hl) (way-strobes l hl ss n v k bs h)
 
--- a whole frame that samples a byte, and one that samples none
+-- the way through a whole frame that samples a byte, and through one that samples none
 way-read : (l : ℕ) → 0 < l → (ss : List Strobe) (k : ℕ → Exchange) (x : ℕ) → samples ss ≡ 8 → x < 256 → Way (framed l ss k) (longest l ss) (k x)
 way-read l hl ss k x h g =
     let e : 0 + number (bits 8 x) * 2 ^ 0 ≡ x = omega (arith, number-bits 8 x g, mul-one (number (bits 8 x))) in
@@ -57,7 +57,7 @@ way-read l hl ss k x h g =
 way-sent : (l : ℕ) → 0 < l → (ss : List Strobe) (e : Exchange) → samples ss ≡ 0 → Way (framed l ss (λ _. e)) (longest l ss) e
 way-sent l hl ss e h = way-strobes l hl ss 0 0 (λ _. e) [] (sym h)
 
--- a poll to its last read: y does not pass, and x does
+-- the way through a poll to its last read: the status y does not pass, and x does
 way-poll : (w n : ℕ) → 0 < w → (ok : ℕ → Bool) (e : Exchange) (x y : ℕ) → x < 256 → y < 256 → ok x ≡ true → ok y ≡ false
     → Way (polling w (suc n) ok e) (suc n * longest w (frame AddressRead 0)) e
 unfolding polling samples frame sends ins-code bits

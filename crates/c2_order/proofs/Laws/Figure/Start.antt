@@ -71,7 +71,7 @@ module _ (l : Limits) where
   unfolding block-read
   costs-block-read f b e = simp (costs-append, costs-command, costs-compares, costs-status, e) (omega arith)
 
-  -- acts over a list of blocks, each with 256 bytes and each of one cost
+  -- the cost of acts over a list of blocks, each of 256 bytes and each of one cost
   costs-blocks : (acts : Block → List Act) (c : ℕ) → ((b : Block) → length (b .bytes) ≡ 256 → costs l (acts b) ≡ c)
       → (n a o : ℕ) (bs : List ℕ) → 256 * n ≤ length bs → costs l (joined (map acts (blocks n a o bs))) ≡ n * c
   unfolding blocks joined costs
@@ -86,7 +86,7 @@ module _ (l : Limits) where
       )
 
   module _ (s : Settings) (B : ℕ) (e : s .size ≡ 256 * B) where
-    -- a page of B blocks
+    -- the cost of a page of B blocks
     abbrev pub page-cost : ℕ
     page-cost = 12 + 6 * byte-cost + 2 * (B * (12 + 262 * byte-cost))
 
@@ -133,7 +133,7 @@ module _ (l : Limits) where
         let over = costs-pages (rising first k) 0 image few ∙ ap (λ (m : ℕ). m * page-cost) (length-rising first k) in
         simp (n, costs-append, costs-lead) (omega (arith, over))
 
--- with the session's limits it is document 01's: 152 + k × (18,648 + 2 × B × 813,784)
+-- with the session's limits the figure at the start is document 01's: 152 + k × (18,648 + 2 × B × 813,784)
 pub starting-figure : (s : Settings) (B first k : ℕ) (image : List ℕ) → s .size ≡ 256 * B → 1 ≤ B → length image ≡ k * s .size
     → costs session-limits (session-order s first image) ≡ 152 + k * (18648 + 2 * B * 813784)
 starting-figure s B first k image e one h = costs-session session-limits s B e first k image one h ∙ ap (λ (m : ℕ). 152 + k * m) (omega arith)

@@ -38,7 +38,7 @@ bit-back false = refl
 pub not-so : {A : Type 0} → false ≡ true → A
 not-so e = absurd (let z : _≡_ {A = ℕ} 0 1 = cc in omega arith)
 
--- what a frame does at its STOP
+-- what a frame does at its STOP is read back
 effect-back : (e : Effect) → known-effect e ≡ true → effect-of (effect-code e) (effect-byte e) ≡ e
 unfolding effect-of effect-code effect-byte known-effect
 effect-back Nothing k = refl
@@ -47,7 +47,7 @@ effect-back (Write b) k = let h = byte-says b k in rw (mod-eq-of-lt h)
 effect-back CountDown k = refl
 effect-back Read k = refl
 
--- the bits of a WAIT that fit
+-- the bits after a WAIT fit a byte
 long-bits : (n : ℕ) → (eqb n 0 || (eqb n 16 || (eqb n 24 || eqb n 32))) ≡ true → n < 256
 long-bits n k =
     by-test (eqb n 0) (λ e. let z = eqb-true n 0 e in omega arith)
@@ -63,7 +63,7 @@ waits-effect n (Write b) k = let h = both (eqb n 0) (is-byte b) k in let z = eqb
 waits-effect n CountDown k = not-so k
 waits-effect n Read k = let z = eqb-true n 8 k in (omega arith, refl)
 
--- bits that are sent, and their value
+-- bits that are sent fit a byte, and so does their value
 sent-byte : (n v : ℕ) → (leb n 8 && ltb v (2 ^ n)) ≡ true → (n < 256) × (v < 256)
 sent-byte n v k =
     let h = both (leb n 8) (ltb v (2 ^ n)) k in
@@ -92,7 +92,7 @@ sent-effect n v Read k = let h = sent-byte n v k in record { left = h .0; value 
 heard-back : (w n v : ℕ) → w ≤ 8 → hearing w n v ≡ true → (n % 256 ≡ n) × (v % 256 ≡ v)
 heard-back w n v h k = let g = hearing-says w n v h k in (mod-eq-of-lt (omega arith), mod-eq-of-lt (g .1))
 
--- the point, whatever stands beside it
+-- the point is read back, whatever stands beside it
 module _ (place : ℕ) (mark : Bool) (d : Device) where
   point-back : (p : Point) → known-point 20 p ≡ true → state-point (state-of (target p place mark d)) ≡ p
   unfolding known-point state-point later-point state-of point-fields
@@ -122,7 +122,7 @@ count-says : (n : ℕ) → is-count n ≡ true → n ≤ 256
 unfolding is-count
 count-says n k = leb-true n 256 (both (leb 1 n) (leb n 256) k .1)
 
--- a block in a flash of at most 65,536 bytes
+-- a block in a flash of at most 65,536 bytes fits two bytes each for address and length
 block-back : (end a n : ℕ) → end ≤ 65536 → known-block end a n ≡ true → (a % 65536 ≡ a) × (n % 65536 ≡ n)
 unfolding known-block
 block-back end a n h k =
@@ -130,7 +130,7 @@ block-back end a n h k =
     let c = count-says n (both (is-count n) (leb (a + n) end) k .0) in
     (mod-eq-of-lt (omega arith), mod-eq-of-lt (omega arith))
 
--- the command and the output
+-- the command and the output are read back
 module _ (p : Point) (place : ℕ) (mark : Bool) (address : ℕ) (on : Bool) (keys busy late : ℕ) (end : ℕ) (small : end ≤ 65536) where
   command-back : (pages : ℕ) → pages ≤ 256 → (c : Command) (o : Output) → known-command pages end c ≡ true
       → command-of (state-of (target p place mark (device address on keys (link c o busy late)))) ≡ c
@@ -177,14 +177,14 @@ sized s h =
         by-test (eqb size 512) (λ e. let w = rw (eqb-true size 512 e) at m in omega arith)
         (λ e. let w = rw (eqb-true size 1024 (rw e at k)) at m in omega arith)
 
--- a target by its parts
+-- a target is read back if its parts are
 parts : (t : Target) → state-point (state-of t) ≡ t .point → command-of (state-of t) ≡ t .device .link .command → output-of (state-of t) ≡ t .device .link .output
     → t .device .address % 256 ≡ t .device .address → t .device .keys % 256 ≡ t .device .keys → t .device .link .busy % 256 ≡ t .device .link .busy
     → t .device .link .late % 256 ≡ t .device .link .late → target-read (state-of t) ≡ t
 unfolding target-read state-of
 parts t p c o a y b e = rw (p, c, o, bit-back (t .collision), bit-back (t .device .on), a, y, b, e)
 
--- and so the target
+-- a target that exists is read back
 pub target-back : (s : Settings) (t : Target) (f ds : List ℕ) → settings-refusal s ≡ 0 → known (setup s ds) t f ≡ true → target-read (state-of t) ≡ t
 unfolding target-read known known-link is-byte
 target-back s t f ds r k =

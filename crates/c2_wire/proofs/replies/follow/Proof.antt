@@ -1,4 +1,4 @@
--- `c2_wire::replies::follow` meets its contract: by the laws of Role.
+-- `c2_wire::replies::follow` meets its contract: by `role-follows-at` of Laws/Role.
 use borrow.Author.Needs.{needs}
 use Rattle.c2_wire.proofs.Laws.Role.{role-fits, role-follows-at}
 use Rattle.c2_wire.proofs.replies.follow.Statement.{statement}

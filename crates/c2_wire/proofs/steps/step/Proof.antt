@@ -1,4 +1,4 @@
--- `c2_wire::steps::step` meets its contract: by the laws of Role.
+-- `c2_wire::steps::step` meets its contract: by `role-step-at` of Laws/Role.
 use borrow.Author.Needs.{needs}
 use Rattle.c2_wire.proofs.Laws.Role.{role-step-at}
 use Rattle.c2_wire.proofs.steps.step.Statement.{statement}
