@@ -8,6 +8,12 @@ ghost use Rattle.c2_order.specs.Acts.{coded-length};
 ghost use Rattle.c2_target.specs.Commands.{opens, takes, some-output, first-byte, other-bytes};
 ghost use Rattle.c2_target.specs.Known.{known-command, known-output};
 ghost use Rattle.c2_target_step.specs.Code.Parts.{taking};
+use crate::BLOCK_READ;
+use crate::BLOCK_WRITE;
+use crate::CONFIRM;
+use crate::FAILED;
+use crate::OKAY;
+use crate::PAGE_ERASE;
 use crate::Taking;
 use crate::flash::byte_at;
 use crate::flash::in_flash;
@@ -19,9 +25,9 @@ fn status_byte(passed: bool) -> usize
     ensures { λ r. ⌜ r ≡ cond passed 0x0d 0x00 ⌝ }
 {
     if passed {
-        return 0x0d;
+        return OKAY;
     }
-    0x00
+    FAILED
 }
 
 pub(crate) fn some_output(output: Output) -> bool
@@ -50,7 +56,7 @@ pub(crate) fn first_byte(output: Output, flash: &[u8]) -> usize
         Output::StatusBlock {
             address: _,
             count: _,
-        } => 0x0d,
+        } => OKAY,
         Output::Block { address, count: _ } => byte_at(flash, address),
     }
 }
@@ -88,19 +94,19 @@ pub(crate) fn other_bytes(output: Output, flash: &[u8]) -> Output
 fn opens(byte: usize) -> Taking
     ensures { λ r. ⌜ ((f : List ℕ) → r ≡ taking (opens byte f)) ⌝ }
 {
-    if byte == 0x08 {
+    if byte == PAGE_ERASE {
         return Taking {
             command: Command::ErasePage,
             output: Output::Status { passed: true },
         };
     }
-    if byte == 0x07 {
+    if byte == BLOCK_WRITE {
         return Taking {
             command: Command::High { write: true },
             output: Output::Status { passed: true },
         };
     }
-    if byte == 0x06 {
+    if byte == BLOCK_READ {
         return Taking {
             command: Command::High { write: false },
             output: Output::Status { passed: true },
@@ -132,7 +138,7 @@ fn page_taken(t: Settings, page: usize) -> Taking
 fn confirm_taken(byte: usize) -> Taking
     ensures { λ r. ⌜ ((t : Settings) (page : ℕ) (f : List ℕ) → r ≡ taking (takes t (Command.EraseConfirm page) byte f)) ⌝ }
 {
-    if byte == 0x00 {
+    if byte == CONFIRM {
         return Taking {
             command: Command::Ready,
             output: Output::Status { passed: true },

@@ -5,6 +5,7 @@ ghost use Prim.Native.Nat.{_+_, _*_, _<_, _≤_};
 ghost use lib.ListN.{length, getD, replicate};
 ghost use Rattle.c2_target.specs.Commands.{erased, stored, in-flash, takes};
 ghost use Rattle.c2_target.specs.Known.{known-command};
+use crate::CONFIRM;
 use crate::delays::wide;
 use c2_target::Command;
 use settings::Settings;
@@ -60,7 +61,7 @@ fn confirm_writes(t: Settings, page: usize, byte: usize, flash: &mut [u8])
     requires { ⌜ page * t .size + t .size ≤ length (now flash) ⌝ }
     ensures { λ r. ⌜ now (flash .exit) ≡ takes t (Command.EraseConfirm page) byte (now (flash .entry)) .flash ⌝ }
 {
-    if byte == 0x00 {
+    if byte == CONFIRM {
         erase(flash, t.size as usize, page);
     }
 }

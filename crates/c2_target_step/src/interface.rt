@@ -11,6 +11,10 @@ ghost use Rattle.c2_target.specs.Commands.{first-byte};
 ghost use Rattle.c2_target.specs.Interface.{link, device, in-busy, out-ready, status-bits, linked, shown, given, late-of, place-after, put-byte, get-byte, counted, next-keys, begun, acted, served, with-served, does};
 ghost use Rattle.c2_target.specs.Known.{known-effect, known-command, known-output, known-link};
 ghost use Rattle.c2_target_step.specs.Code.Parts.{stopped, taking, effect-flash};
+use crate::FPCTL;
+use crate::KEY_1;
+use crate::KEY_2;
+use crate::KEY_3;
 use crate::Taking;
 use crate::commands::first_byte;
 use crate::commands::other_bytes;
@@ -97,17 +101,17 @@ fn counted(l: Link) -> Link
 fn next_keys(address: usize, keys: usize, byte: usize) -> usize
     ensures { λ r. ⌜ r ≡ next-keys address keys byte ⌝ }
 {
-    if address == 0x02 {
-        if byte == 0x02 {
+    if address == FPCTL {
+        if byte == KEY_1 {
             return 1;
         }
-        if byte == 0x04 {
+        if byte == KEY_2 {
             if keys == 1 {
                 return 2;
             }
             return 0;
         }
-        if byte == 0x01 {
+        if byte == KEY_3 {
             if keys == 2 {
                 return 3;
             }

@@ -21,6 +21,9 @@ use c2_target::Output;
 use c2_target::Point;
 use c2_target::Replied;
 use c2_target::Target;
+use c2_wire::OFF;
+use c2_wire::PAUSE;
+use c2_wire::RESET;
 use numbers::NO_POINT;
 use numbers::NO_STEP;
 use settings::Settings;
@@ -111,7 +114,7 @@ fn keyed(keys: usize, point: Point) -> bool
 fn is_step(x: u8) -> bool
     ensures { λ r. ⌜ r ≡ is-step x ⌝ }
 {
-    if x <= 6 {
+    if x <= OFF {
         return x != 1;
     }
     false
@@ -168,10 +171,10 @@ fn still(number: u32, target: Target, x: u8) -> Replied
             target: target,
         };
     }
-    if x == 4 {
+    if x == RESET {
         return accepted(after_reset(target));
     }
-    if x == 5 {
+    if x == PAUSE {
         return accepted(after_pause(target));
     }
     accepted(target)
@@ -185,7 +188,7 @@ pub fn step(t: Settings, target: Target, flash: &mut [u8], delays: &[u8], x: u8)
 {
     let number = refusal(t, target, flash, x);
     if number == 0 {
-        if x < 4 {
+        if x < RESET {
             let replied = strobed(target, t, flash, delays, x);
             strobe_writes(t, target, flash);
             return replied;
@@ -201,7 +204,7 @@ pub fn step_on(t: Settings, target: Target, flash: &mut [u8], delays: &[u8], x: 
 {
     let number = refusal_on(t, target, flash, x);
     if number == 0 {
-        if x < 4 {
+        if x < RESET {
             let replied = strobed(target, t, flash, delays, x);
             strobe_writes(t, target, flash);
             return replied;

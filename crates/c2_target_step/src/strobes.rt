@@ -27,13 +27,15 @@ use c2_target::Effect;
 use c2_target::Point;
 use c2_target::Replied;
 use c2_target::Target;
+use c2_wire::HIGH;
+use c2_wire::LOW;
 use settings::Settings;
 
 // The bit on the line in a strobe of the master's: a released one reads 1.
 fn line(x: u8) -> u32
     ensures { λ r. ⌜ r ≡ bit (line (step-coded x)) ⌝ }
 {
-    if x == 2 {
+    if x == LOW {
         return 0;
     }
     1
@@ -43,10 +45,10 @@ fn line(x: u8) -> u32
 fn marked(x: u8, collision: bool) -> bool
     ensures { λ r. ⌜ r ≡ marked (step-coded x) collision ⌝ }
 {
-    if x == 2 {
+    if x == LOW {
         return true;
     }
-    if x == 3 {
+    if x == HIGH {
         return true;
     }
     collision
@@ -59,7 +61,7 @@ fn with_bit(heard: usize, value: usize, x: u8) -> usize
     ensures { λ r. ⌜ r ≡ with-bit heard value (step-coded x) ⌝ }
     ensures { λ r. ⌜ r < 512 ⌝ }
 {
-    if x == 2 {
+    if x == LOW {
         return value;
     }
     value + (1usize << heard)

@@ -11,7 +11,8 @@ use Rattle.c2_target.specs.Delays.{list-place, delay}
 use Rattle.c2_target.specs.Commands.{some-output}
 use Rattle.c2_target.specs.Interface.{in-busy, out-ready, status-bits, late-of}
 
-getD-byte : (ds : List ℕ) (i : ℕ) → Bytes ds → getD ds i 0 < 256
+-- a byte of a list of bytes, or the 0 past its end, is below 256
+pub getD-byte : (ds : List ℕ) (i : ℕ) → Bytes ds → getD ds i 0 < 256
 getD-byte [] i h = omega arith
 getD-byte (d ∷ ds) zero h = h .0
 getD-byte (d ∷ ds) (suc i) h = getD-byte ds i (h .1)

@@ -34,7 +34,7 @@ use Rattle.c2_target.specs.Interface.{link, device, Served, Acted, in-bu
 use Rattle.c2_target.specs.Strobes.{target, Turn, line, strobed-at}
 use Rattle.c2_target.specs.Known.{hearing, is-byte, known-effect, after-its-wait, known-point, is-count, known-block, known-command, known-output, known-link, known}
 use Rattle.c2_target.specs.Target.{cleared, after-reset, after-pause, stepped}
-use Rattle.c2_target.proofs.Laws.Interface.{delay-byte, late-byte, status-small}
+use Rattle.c2_target.proofs.Laws.Interface.{getD-byte, delay-byte, late-byte, status-small}
 use Rattle.c2_target.proofs.Laws.KnownPoint.{and-true, ins-known, write-length-known, read-length-known, address-known, data-known, long-data-known, sent-known, wait-known}
 
 -- lists of bytes, joined, taken and set, are bytes
@@ -51,11 +51,6 @@ bytes-set [] zero x h g = tt
 bytes-set [] (suc i) x h g = tt
 bytes-set (y ∷ a) zero x h g = (g, h .1)
 bytes-set (y ∷ a) (suc i) x h g = (h .0, bytes-set a i x (h .1) g)
-
-bytes-at : (a : List ℕ) (i : ℕ) → Bytes a → getD a i 0 < 256
-bytes-at [] i h = omega arith
-bytes-at (x ∷ a) zero h = h .0
-bytes-at (x ∷ a) (suc i) h = bytes-at a i (h .1)
 
 -- an erase and a byte stored keep the flash's length, and that it is bytes
 length-erased : (size count p : ℕ) (f : List ℕ) → p < count → length f ≡ size * count → length (erased size p f) ≡ length f
@@ -77,7 +72,7 @@ length-stored a b f = length-set f a (bitAnd (getD f a 0) b)
 
 bytes-stored : (a b : ℕ) (f : List ℕ) → Bytes f → Bytes (stored a b f)
 unfolding stored
-bytes-stored a b f h = bytes-set f a _ h (omega (arith, and-le-l (getD f a 0) b, bytes-at f a h))
+bytes-stored a b f h = bytes-set f a _ h (omega (arith, and-le-l (getD f a 0) b, getD-byte f a h))
 
 -- a length code means 1 to 256 bytes
 coded-count : (b : ℕ) → b < 256 → is-count (coded-length b) ≡ true
@@ -191,7 +186,7 @@ first-small Empty f h = omega arith
 first-small (Status true) f h = omega arith
 first-small (Status false) f h = omega arith
 first-small (StatusBlock a n) f h = omega arith
-first-small (Block a n) f h = bytes-at f a h
+first-small (Block a n) f h = getD-byte f a h
 
 keys-few : (a n b : ℕ) → leb (next-keys a n b) 3 ≡ true
 unfolding next-keys

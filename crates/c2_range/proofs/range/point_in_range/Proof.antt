@@ -21,7 +21,7 @@ returns : tie.Need-returns
 returns c = rw (c .before .before .point .given .1) (c .running-in-range .ensures)
 
 returns-2 : tie.Need-returns-2
-returns-2 c = cc
+returns-2 c = rw (c .before .before .before .point2 .given .1) (rw (c .before .image-bytes .ensures) at (c .ended-in-range .ensures))
 
 pub point-in-range-spec : {M : Type 1} → statement M
 point-in-range-spec =

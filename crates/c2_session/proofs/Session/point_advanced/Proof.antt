@@ -20,7 +20,7 @@ unfolding point-replied
 returns c = rw (c .before .before .before .point .given .1) (rw (c .before .task-of .ensures) at (c .taken .ensures))
 
 returns-2 : tie.Need-returns-2
-returns-2 c = cc
+returns-2 c = rw (c .before .point2 .given .1)
 
 pub point-advanced-spec : {M : Type 1} → statement M
 point-advanced-spec =

@@ -4,7 +4,7 @@ use Rattle.settings.proofs.accepted.count_refusal.Statement.{statement}
 use Rattle.settings.proofs.accepted.count_refusal.Tie as tie
 
 returns : tie.Need-returns
-returns c = cc
+returns c = rw (c .if1 .taken)
 
 returns-2 : tie.Need-returns-2
 returns-2 c =

@@ -11,7 +11,7 @@ cast-size c = search needs
 
 returns : tie.Need-returns
 unfolding is-image are-pages
-returns c = cc
+returns c = rw (c .if1 .taken)
 
 rem-if2 : tie.Need-rem-if2
 rem-if2 c = search needs
