@@ -1,4 +1,4 @@
-// Taking replies.
+// The call that takes replies.
 ghost use mathlib.Core.Path.{_≡_};
 ghost use mathlib.Core.List.{_++_};
 ghost use Prim.Native.Nat.{_≤_};

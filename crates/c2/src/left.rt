@@ -1,4 +1,4 @@
-// How much is left.
+// The call that tells how much is left.
 ghost use mathlib.Core.Path.{_≡_};
 ghost use Rattle.c2_record.specs.Record.{unpacked};
 ghost use Rattle.c2.specs.Calls.{remaining-answer};

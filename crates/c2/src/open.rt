@@ -1,4 +1,4 @@
-// Opening a session.
+// The call that opens a session.
 ghost use mathlib.Core.Path.{_≡_};
 ghost use lib.ListN.{length};
 ghost use Rattle.c2_opening.specs.Opened.{opened-session};
@@ -11,7 +11,7 @@ use numbers::BAD_RECORD;
 use numbers::RUNNING;
 use settings::Settings;
 
-// The step of an accepted opening, and of a refused one.
+// The step of an accepted opening (`FIRST_STEP`), and of a refused one (`NO_STEP`).
 const FIRST_STEP: u32 = RESET as u32;
 
 const NO_STEP: u32 = OFF as u32;

@@ -1,4 +1,4 @@
-// The modelled target.
+// The calls of the modelled target.
 ghost use mathlib.Core.Path.{_≡_};
 ghost use Rattle.c2_target.specs.Target.{fresh};
 ghost use Rattle.c2_target_state.specs.State.{state-of};

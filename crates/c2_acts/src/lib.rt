@@ -20,8 +20,8 @@ pub const SECOND_KEY: u16 = 5;
 
 pub const LEAD_PAUSE: u16 = 7;
 
-// Acts of every command: the Address Write of FPDAT, the put of the command byte, its status, and the put of what
-// comes next, a page or the high byte of an address.
+// Acts of every command: the Address Write of FPDAT, the put of the command byte, the poll and the read of
+// its status, and the put of what comes next, a page or the high byte of an address.
 pub const COMMAND_ADDRESS: u16 = 0;
 
 pub const COMMAND_BYTE: u16 = 1;
@@ -32,8 +32,8 @@ pub const COMMAND_STATUS: u16 = 4;
 
 pub const COMMAND_PLACE: u16 = 5;
 
-// The act after a block's length code: the put of the first byte in a block write, the poll for the status in a
-// block read.
+// The act after a block's length code: the put of the first byte in a block write, the poll for the status in
+// a block read.
 pub const BLOCK_BODY: u16 = 11;
 
 // The poll for the status of a block write, the status of a block read, and its first compare.

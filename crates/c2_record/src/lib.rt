@@ -12,7 +12,8 @@ mod write;
 pub use held::unpack;
 pub use write::pack;
 
-// The length of a record, and the places of its fields (docs/RECORD.md). One of two bytes has its low byte first.
+// The length of a record, and the places of its fields (docs/RECORD.md). A field of two bytes has its low
+// byte first.
 pub const RECORD_BYTES: usize = 32;
 
 const DEVICE_ID: usize = 0;

@@ -1,5 +1,5 @@
--- The corners of the modelled target, sentence by sentence (document 01, "The modelled target"): what the definitions
--- give, in one table.
+-- The corners of the modelled target, sentence by sentence (document 01, "The modelled target"): what the
+-- definitions give, in one table. proofs/Laws/Corners computes it.
 use mathlib.Core.Path.{_≡_}
 use mathlib.Core.Bool.{true, false}
 use mathlib.Core.List.{List, [], _∷_, _++_, map}

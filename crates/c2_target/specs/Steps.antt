@@ -10,7 +10,7 @@ unfoldable pub own-replies : Setup → Target → List ℕ → (steps : List ℕ
 own-replies u t f [] = []
 own-replies u t f (x ∷ xs) = answer u t f x .reply ∷ own-replies u (answer u t f x .target) (flash-after u t f x) xs
 
--- the target and its flash
+-- A target and its flash.
 pub record State : Type 0 where
   pub target : Target
   pub flash : List ℕ

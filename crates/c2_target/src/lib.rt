@@ -1,4 +1,4 @@
-// The modelled target: one step on the wire in, one reply out. It is lent its flash and its delays.
+// The modelled target: its parts as types. specs/ has what a step makes of them, c2_target_step the code.
 
 // What a frame does at its STOP.
 pub enum Effect {
@@ -95,7 +95,7 @@ pub enum Output {
     Status { passed: bool },
     // the status 0x0D, then so many bytes of the flash from this address
     StatusBlock { address: usize, count: usize },
-    // so many bytes of the flash from this address
+    // the rest of a block: so many bytes of the flash from this address
     Block { address: usize, count: usize },
 }
 

@@ -168,7 +168,7 @@ pub(crate) fn given(d: Device, t: Settings, flash: &[u8]) -> usize
     0
 }
 
-// A START takes three key writes away.
+// The device after a START, which takes three key writes away.
 pub(crate) fn begun(d: Device) -> Device
     ensures { λ r. ⌜ r ≡ begun d ⌝ }
 {

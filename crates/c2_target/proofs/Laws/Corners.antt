@@ -1,4 +1,4 @@
--- The corners, by computing.
+-- The corners of specs/Corners.antt, by computing.
 use mathlib.Core.Path.{refl}
 use Rattle.c2_wire.specs.Bits.{bits, bit, odd}
 use Rattle.c2_wire.specs.Step.{code, drives}

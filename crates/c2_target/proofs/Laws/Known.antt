@@ -142,7 +142,7 @@ record Serves (count : ℕ) (f : List ℕ) (x : Served) : Type 0 where
   bytes : Bytes (x .flash)
   link : known-link count (length f) (x .link) ≡ true
 
--- whether a device exists, before a flash of this length
+-- a device exists, fact by fact
 pub record Device-known (count end : ℕ) (d : Device) : Type 0 where
   pub address : is-byte (d .address) ≡ true
   pub keys : leb (d .keys) 3 ≡ true

@@ -1,5 +1,5 @@
--- `c2::advance::c2_advance` meets its contract: each return by the laws of Advance, the loop's part of the step buffer
--- put back by Loop.
+-- `c2::advance::c2_advance` meets its contract: each return by the laws of Advance, the loop's part of the
+-- step buffer put back by Loop.
 use mathlib.Core.Path.{refl, sym, _∙_}
 use native.Mathlib.Omega.{arith}
 use borrow.Author.Needs.{needs}

@@ -1,5 +1,5 @@
--- `c2::advance::run` meets its contract: the loop keeps `Sofar`, by the laws of Loop, and what the session's act does,
--- by those of Task.
+-- `c2::advance::run` meets its contract: the loop keeps `Sofar`, by the laws of Loop, and what the session's
+-- act does, by those of Task.
 use mathlib.Core.Path.{sym, _∙_}
 use Prim.Native.Nat.{_-_}
 use native.Mathlib.Omega.{arith}

@@ -1,4 +1,4 @@
--- `c2_target_step::known::known_on` meets its contract: each return by the laws of Range.
+-- `c2_target_step::known::known_on` meets its contract: each return by the laws of Known.
 use mathlib.Core.Path.{sym, _∙_}
 use borrow.Author.Needs.{needs}
 use Rattle.c2_target.specs.Delays.{setup}

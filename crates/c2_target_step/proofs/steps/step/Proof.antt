@@ -1,5 +1,5 @@
--- `c2_target_step::steps::step` meets its contract: a strobe, and a step that is none or is refused, by the laws
--- of Target.
+-- `c2_target_step::steps::step` meets its contract: a strobe, and a step that is none or is refused, by the
+-- laws of Target.
 use mathlib.Core.Logic.{⊎-elim}
 use mathlib.Core.List.{[]}
 use native.Mathlib.Omega.{arith}
