@@ -7,8 +7,8 @@ mod steps;
 pub use replies::follow;
 pub use steps::step;
 
-// Steps on the wire: C2D released, driven low or driven high in a strobe, the reset pulse, the wait of 20 ms, and
-// both drivers off.
+// Steps on the wire: C2D released, driven low or driven high in a strobe, the reset pulse, the wait of 20 ms,
+// and both drivers off.
 pub const RELEASED: u8 = 0;
 
 pub const LOW: u8 = 2;
