@@ -127,7 +127,7 @@ module _ (s : Session) (image : List ℕ) (h : Fits s image) where
           (begins-at Close 0 0 0 (pages-from s image (suc i)) (pages-over (suc i) (omega arith)))
   stage-over Close i j k gi gj = begin-at []
 
-  -- the acts from an act of a stage on are that act and what follows it
+  -- what follows an act of a stage (`rest-from`); the acts from it on are that act and these (`acts-here`)
   abbrev pub rest-from : Stage → (page block act : ℕ) → List Act
   rest-from g i j k = drop (suc k) (stage-acts g s image i j) ++ after-stage g s image i j
 

@@ -37,7 +37,7 @@ use Rattle.c2_target.specs.Target.{cleared, after-reset, after-pause, st
 use Rattle.c2_target.proofs.Laws.Interface.{getD-byte, delay-byte, late-byte, status-small}
 use Rattle.c2_target.proofs.Laws.KnownPoint.{and-true, ins-known, write-length-known, read-length-known, address-known, data-known, long-data-known, sent-known, wait-known}
 
--- lists of bytes, joined, taken and set, are bytes
+-- bytes that are joined, repeated or set in a list are bytes
 bytes-append : (a b : List ℕ) → Bytes a → Bytes b → Bytes (a ++ b)
 bytes-append [] b h g = g
 bytes-append (x ∷ a) b h g = (h .0, bytes-append a b (h .1) g)

@@ -163,7 +163,7 @@ named-is t first image o =
     let x = Facts.opened t first (length image) (o .accepted) in
     rising-named t (length image / t .size) first 0 image (omega (arith, x .whole)) (o .bytes) (x .inside)
 
--- Along the steps the target stays ready, and after the last the flash holds the image.
+-- Along the steps the target stays ready; once the session has ended done, its last step changes no flash.
 pub record Along (j : Job) (b : Bench) (x : Told) : Type 0 where
   pub ready : (n : ℕ) → Ready (j .settings) (given (j .settings) b (take n (sent x)))
   pub last : x .outcome ≡ outcome done → (n : ℕ) → x .taken ≤ n
