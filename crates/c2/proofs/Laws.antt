@@ -3,4 +3,3 @@ pub mod Loop
 pub mod Open
 pub mod Advance
 pub mod StepsLeft
-pub mod Claims

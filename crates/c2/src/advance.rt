@@ -3,12 +3,13 @@ ghost use mathlib.Core.Path.{_≡_};
 ghost use mathlib.Core.List.{_++_};
 ghost use Prim.Native.Nat.{_≤_};
 ghost use lib.ListN.{length, drop};
-ghost use Rattle.c2_record.specs.Record.{unpacked};
 ghost use Rattle.c2_outcome.specs.Outcome.{number-of, offset-of};
-ghost use Rattle.c2.specs.Calls.{refused-answer, advance-answer, advance-steps, advance-record};
+ghost use Rattle.exchange.specs.Calls.{done};
+ghost use Rattle.c2_calls.specs.Calls.{taking, refused-answer};
+ghost use Rattle.c2_calls.specs.Family.{C2};
 ghost use Rattle.c2.specs.Code.Loop.{ran, wrote};
-use crate::Advanced;
 use crate::Ran;
+use c2_calls::Advanced;
 use c2_outcome::is_running;
 use c2_outcome::outcome_of;
 use c2_outcome::same_session;
@@ -83,9 +84,9 @@ pub extern "C" fn c2_advance(
     steps: &mut [u8],
     place: usize,
 ) -> Advanced
-    ensures { λ r. ⌜ r ≡ advance-answer (unpacked 20 256 (now (held .entry))) (now (image .entry)) (now (replies .entry)) (now (steps .entry)) place ⌝ }
-    ensures { λ _. ⌜ now (steps .exit) ≡ advance-steps (unpacked 20 256 (now (held .entry))) (now (image .entry)) (now (replies .entry)) (now (steps .entry)) place ⌝ }
-    ensures { λ _. ⌜ now (held .exit) ≡ advance-record (unpacked 20 256 (now (held .entry))) (now (image .entry)) (now (replies .entry)) (now (steps .entry)) place (now (held .entry)) ⌝ }
+    ensures { λ r. ⌜ r ≡ done C2 (taking (now (held .entry)) (now (image .entry)) (now (replies .entry)) (now (steps .entry)) place) .answer ⌝ }
+    ensures { λ _. ⌜ now (steps .exit) ≡ done C2 (taking (now (held .entry)) (now (image .entry)) (now (replies .entry)) (now (steps .entry)) place) .steps ⌝ }
+    ensures { λ _. ⌜ now (held .exit) ≡ done C2 (taking (now (held .entry)) (now (image .entry)) (now (replies .entry)) (now (steps .entry)) place) .held ⌝ }
 {
     let Unpacked::Held(s) = c2_record::unpack(held) else {
         return refused(BAD_RECORD);

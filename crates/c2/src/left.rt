@@ -1,8 +1,9 @@
 // The call that tells how much is left.
 ghost use mathlib.Core.Path.{_≡_};
-ghost use Rattle.c2_record.specs.Record.{unpacked};
-ghost use Rattle.c2.specs.Calls.{remaining-answer};
-use crate::Remaining;
+ghost use Rattle.exchange.specs.Calls.{done};
+ghost use Rattle.c2_calls.specs.Calls.{asking};
+ghost use Rattle.c2_calls.specs.Family.{C2};
+use c2_calls::Remaining;
 use c2_outcome::outcome_of;
 use c2_record::Unpacked;
 use numbers::BAD_RECORD;
@@ -11,7 +12,7 @@ use numbers::BAD_RECORD;
 // and 0.
 #[no_mangle]
 pub extern "C" fn c2_steps_left(held: &[u8]) -> Remaining
-    ensures { λ r. ⌜ r ≡ remaining-answer (unpacked 20 256 (now (held .entry))) ⌝ }
+    ensures { λ r. ⌜ r ≡ done C2 (asking (now (held .entry))) ⌝ }
 {
     let Unpacked::Held(s) = c2_record::unpack(held) else {
         return Remaining {

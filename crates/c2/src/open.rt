@@ -1,9 +1,9 @@
 // The call that opens a session.
 ghost use mathlib.Core.Path.{_≡_};
-ghost use lib.ListN.{length};
-ghost use Rattle.c2_opening.specs.Opened.{opened-session};
-ghost use Rattle.c2.specs.Calls.{opening-number, opening-answer, record-opened};
-use crate::Opened;
+ghost use Rattle.exchange.specs.Calls.{done};
+ghost use Rattle.c2_calls.specs.Calls.{opening};
+ghost use Rattle.c2_calls.specs.Family.{C2};
+use c2_calls::Opened;
 use c2_record::RECORD_BYTES;
 use c2_wire::OFF;
 use c2_wire::RESET;
@@ -20,8 +20,8 @@ const NO_STEP: u32 = OFF as u32;
 // first, then 1 to 5, in this order; a refused opening changes no byte.
 #[no_mangle]
 pub extern "C" fn c2_open(held: &mut [u8], image: &[u8], t: Settings, first: u32) -> Opened
-    ensures { λ r. ⌜ r ≡ opening-answer (opening-number (length (now (held .entry))) t first (length (now (image .entry)))) ⌝ }
-    ensures { λ _. ⌜ now (held .exit) ≡ record-opened (opening-number (length (now (held .entry))) t first (length (now (image .entry)))) (opened-session t first (length (now (image .entry)))) (now (held .entry)) ⌝ }
+    ensures { λ r. ⌜ r ≡ done C2 (opening (now (held .entry)) (now (image .entry)) t first) .answer ⌝ }
+    ensures { λ _. ⌜ now (held .exit) ≡ done C2 (opening (now (held .entry)) (now (image .entry)) t first) .held ⌝ }
 {
     if held.len() != RECORD_BYTES {
         return Opened {

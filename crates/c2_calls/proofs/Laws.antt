@@ -1,5 +1,3 @@
 -- The laws of the definitions, each in the module of the definition that it is about.
-pub mod Calls
 pub mod Claims
-pub mod Target
-pub mod Whole
+pub mod Family

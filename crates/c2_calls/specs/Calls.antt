@@ -1,26 +1,48 @@
--- A driver's calls as data, each with everything that it is lent, and what a list of them tells the driver of
--- its session. What a call answers and leaves is as the contracts of the C face say it.
-use mathlib.Core.Path.{_≡_}
+-- The driver's calls as data, each with everything that it is lent, and what each answers and leaves in what it
+-- was lent, for all inputs (document 01, "Numbers that come back"). `C2` of specs/Family.antt puts them together,
+-- and the contracts of the calls in C cite it.
 use mathlib.Core.Bool.{cond}
-use mathlib.Core.List.{List, [], _∷_, _++_}
+use mathlib.Core.List.{List, _++_}
 use Prim.Native.Nat.{ℕ, _+_}
-use lib.Dec.{eqb}
-use lib.ListN.{length, take, drop}
-use Rattle.c2_wire.specs.Exchange.{Outcome, outcome, fed, steps, outcome-of}
+use lib.Dec.{eqb, leb}
+use lib.ListN.{length, take, drop, replicate}
+use Rattle.numbers.specs.Numbers.{bad-record, other-image, no-room}
+use Rattle.c2_wire.specs.Step.{reset, off, code}
+use Rattle.c2_wire.specs.Exchange.{Exchange, fed, steps, outcome-of}
 use Rattle.settings.specs.declared.Settings.{Settings}
+use Rattle.settings.specs.Opening.{opening-refusal}
 use Rattle.c2_order.specs.Conversation.{session-limits}
 use Rattle.c2_order.specs.Figure.{figure}
-use Rattle.c2_order.specs.Claims.{exchange-of, point-after}
+use Rattle.c2_session.specs.declared.Session.{Session}
+use Rattle.c2_position.specs.Position.{position}
+use Rattle.c2_opening.specs.Opened.{opened-session, image-length, exchange-at, session-fed}
+use Rattle.c2_record.specs.declared.Unpacked.{Unpacked}
+use Rattle.c2_record.specs.declared.Unpacked.the-variants.{Held, Refused}
 use Rattle.c2_record.specs.Record.{packed, unpacked}
-use Rattle.c2_opening.specs.Opened.{opened-session}
-use Rattle.c2.specs.Calls.{opening-number, opening-answer, record-opened, held-number, advance-answer, advance-steps, advance-record, asked-number, remaining-answer}
-use Rattle.c2.specs.Claims.{session-after}
+use Rattle.c2_calls.specs.declared.Opened.{Opened}
+use Rattle.c2_calls.specs.declared.Advanced.{Advanced}
+use Rattle.c2_calls.specs.declared.Remaining.{Remaining}
 use Rattle.c2_wire.specs.Exchange
 
+-- A call: an opening, one that takes replies, or a question, each with what it is lent.
 pub data Call : Type 0 where
   opening : (held image : List ℕ) → Settings → (first : ℕ) → Call
   taking : (held image replies buffer : List ℕ) → (place : ℕ) → Call
   asking : (held : List ℕ) → Call
+
+-- REFUSED. The number by which an opening is refused: a record that is not 32 bytes (6), then 1 to 5.
+unfoldable pub opening-number : (bytes : ℕ) → Settings → (first length : ℕ) → ℕ
+opening-number bytes t first n = cond (eqb bytes 32) (opening-refusal t first n) bad-record
+
+-- the number by which a call that takes replies is refused before any of them: 6, 7, 8
+abbrev pub held-number : Unpacked → (image replies buffer place : ℕ) → ℕ
+held-number (Held s) n m k place = cond (eqb n (image-length s)) (cond (leb (place + m) k) 0 no-room) other-image
+held-number Refused n m k place = bad-record
+
+-- the number by which a question is refused
+abbrev pub asked-number : Unpacked → ℕ
+asked-number (Held s) = 0
+asked-number Refused = bad-record
 
 -- the number that the rules give a call before any reply, for what it is lent; with 0 it is accepted
 unfoldable pub refusal : Call → ℕ
@@ -28,95 +50,63 @@ refusal (opening r image t first) = opening-number (length r) t first (length im
 refusal (taking r image rs buffer place) = held-number (unpacked 20 256 r) (length image) (length rs) (length buffer) place
 refusal (asking r) = asked-number (unpacked 20 256 r)
 
--- What the driver has of its session (demand 3): the record, the steps written to step buffers, joined, the
--- replies taken, summed, the outcome, and the most steps to come.
-pub record Told : Type 0 where
+-- WHAT IS DONE. What an opening answers, and the record afterwards.
+pub record Opening-done : Type 0 where
+  pub answer : Opened
   pub held : List ℕ
+
+-- What a call that takes replies answers, and step buffer and record afterwards.
+pub record Taking-done : Type 0 where
+  pub answer : Advanced
   pub steps : List ℕ
-  pub taken : ℕ
-  pub outcome : Outcome
-  pub left : ℕ
+  pub held : List ℕ
 
--- the most steps to come, as a question that is lent this record is told
-abbrev pub told-left : (held : List ℕ) → ℕ
-told-left r = remaining-answer (unpacked 20 256 r) .steps
+-- what a call answers and leaves
+abbrev pub Done : Call → Type 0
+Done (opening r image t first) = Opening-done
+Done (taking r image rs buffer place) = Taking-done
+Done (asking r) = Remaining
 
--- what the driver has after an opening
-unfoldable pub opened : (held image : List ℕ) → Settings → (first : ℕ) → Told
-opened r image t first =
-    let n = opening-number (length r) t first (length image) in
-    let q = record-opened n (opened-session t first (length image)) r in
-    record { held = q; steps = []; taken = 0; outcome = outcome (opening-answer n .number); left = told-left q }
+-- what a refused call that takes replies answers: its number, no offset, and no reply taken
+unfoldable pub refused-answer : (number : ℕ) → Advanced
+refused-answer n = record { number = n; offset = 0; taken = 0 }
 
--- What the driver has after an accepted call that takes replies: as many steps as it says were taken stand in
--- the step buffer, from the place on.
-abbrev pub after-taking : Told → (held image replies buffer : List ℕ) → (place : ℕ) → Told
-after-taking x r image rs buffer place =
-    let u = unpacked 20 256 r in
-    let a = advance-answer u image rs buffer place in
-    let q = advance-record u image rs buffer place r in
-    record {
-      held = q;
-      steps = x .steps ++ take (a .taken) (drop place (advance-steps u image rs buffer place));
-      taken = x .taken + a .taken;
-      outcome = record { number = a .number; offset = a .offset };
-      left = told-left q;
-    }
+-- a refused call: its number, and every lent byte as it was
+unfoldable pub untouched : (c : Call) → (number : ℕ) → Done c
+untouched (opening r image t first) n = record { answer = record { number = n; step = code off }; held = r }
+untouched (taking r image rs buffer place) n = record { answer = refused-answer n; steps = buffer; held = r }
+untouched (asking r) n = record { number = n; steps = 0 }
 
--- what the driver has after an accepted question
-abbrev pub after-asking : Told → (held : List ℕ) → Told
-after-asking x r =
-    let a = remaining-answer (unpacked 20 256 r) in
-    record { held = x .held; steps = x .steps; taken = x .taken; outcome = record { number = a .number; offset = x .outcome .offset }; left = a .steps }
+-- what an accepted call answers, by the exchange: the outcome, and the replies taken
+unfoldable pub taken-answer : Exchange → (replies : List ℕ) → Advanced
+taken-answer e rs = record { number = outcome-of (fed e rs) .number; offset = outcome-of (fed e rs) .offset; taken = Exchange.taken e rs }
 
--- what the driver has after any accepted call; an opening starts another list
-unfoldable pub accepted : Told → Call → Told
-accepted x (opening r image t first) = opened r image t first
-accepted x (taking r image rs buffer place) = after-taking x r image rs buffer place
-accepted x (asking r) = after-asking x r
+-- the step buffer after an accepted call: the steps that the exchange asks for stand from the place on, and
+-- every other byte is as it was
+unfoldable pub steps-written : Exchange → (replies : List ℕ) → (place : ℕ) → List ℕ → List ℕ
+steps-written e rs place buffer = take place buffer ++ (steps e rs ++ drop (Exchange.taken e rs) (drop place buffer))
 
--- what the driver has after any call; a refused one tells nothing of the session
-unfoldable pub heard : Told → Call → Told
-heard x c = cond (eqb (refusal c) 0) (accepted x c) x
+-- what an accepted call does that takes replies, by the session that its record holds; a record that holds
+-- none is refused before
+abbrev pub takes : Unpacked → (held image replies buffer : List ℕ) → (place : ℕ) → Taking-done
+takes (Held s) r image rs buffer place =
+    let e = exchange-at s image in
+    record { answer = taken-answer e rs; steps = steps-written e rs place buffer; held = packed (session-fed s image rs) }
+takes Refused r image rs buffer place = untouched (taking r image rs buffer place) 0
 
--- what the driver has after a list of calls
-unfoldable pub told : Told → List Call → Told
-told x [] = x
-told x (c ∷ cs) = told (heard x c) cs
+-- A question is not lent the image. The figure goes by the point and not by the image's bytes, so an
+-- image of the session's length that is all 0 stands for it (`Figure-of-any` in specs/Claims.antt).
+abbrev pub blank : Session → List ℕ
+blank s = replicate (image-length s) 0
 
--- What a call is lent that may follow: it is no opening, and is lent the record as the calls before left it
--- and, where it is lent one, the same image.
-abbrev pub As-left : (image held : List ℕ) → Call → Type 0
-As-left image r (opening q i t first) = ⊥
-As-left image r (taking q i rs buffer place) = (q ≡ r) × (i ≡ image)
-As-left image r (asking q) = q ≡ r
+-- what a question is answered: the session's number, and the figure of the most steps to come; 6 and 0 for a
+-- bad record
+abbrev pub remaining-answer : Unpacked → Remaining
+remaining-answer (Held s) = record { number = outcome-of (exchange-at s (blank s)) .number; steps = figure session-limits (position s (blank s)) }
+remaining-answer Refused = record { number = bad-record; steps = 0 }
 
--- Which lists may follow an opening: each accepted call is lent what `As-left` says. A refused call may be
--- lent anything.
-abbrev pub May-follow : (image : List ℕ) → Told → List Call → Type 0
-May-follow image x [] = Unit {0}
-May-follow image x (c ∷ cs) = (refusal c ≡ 0 → As-left image (x .held) c) × May-follow image (heard x c) cs
-
--- the replies that a call is lent
-unfoldable pub replies-of : Call → List ℕ
-replies-of (opening r image t first) = []
-replies-of (taking r image rs buffer place) = rs
-replies-of (asking r) = []
-
--- the replies of the accepted calls of a list, in a row
-unfoldable pub in-a-row : List Call → List ℕ
-in-a-row [] = []
-in-a-row (c ∷ cs) = cond (eqb (refusal c) 0) (replies-of c) [] ++ in-a-row cs
-
--- What the driver has by the definitions of demand 2: of the exchange of the session's order, fed with
--- replies in a row, of the session that is reached, and of the point of the order.
-unfoldable pub by-replies : Settings → (first : ℕ) → (image replies : List ℕ) → Told
-by-replies t first image rs =
-    let e = exchange-of session-limits t first image in
-    record {
-      held = packed (session-after t first image rs);
-      steps = steps e rs;
-      taken = Exchange.taken e rs;
-      outcome = outcome-of (fed e rs);
-      left = figure session-limits (point-after session-limits t first image rs);
-    }
+-- what an accepted call does: an opening gives its first step, 4, and leaves the new session's record
+unfoldable pub does : (c : Call) → Done c
+does (opening r image t first) = record { answer = record { number = 0; step = code reset }; held = packed (opened-session t first (length image)) }
+does (taking r image rs buffer place) = takes (unpacked 20 256 r) r image rs buffer place
+does (asking r) = remaining-answer (unpacked 20 256 r)

@@ -1,53 +1,58 @@
--- Demand 3, as far as it needs no target: what is claimed of whole lists of calls. Types alone:
--- proofs/Laws/Claims proves each.
+-- What is claimed of a session whose replies come in parts, by the definitions that the calls meet (demand 2,
+-- and the first half of demand 3); of the records that calls write; and of the figure that a question tells.
+-- Types alone: proofs/Laws/Claims proves each.
 use mathlib.Core.Path.{_≡_}
-use mathlib.Core.List.{List, [], _∷_}
-use Prim.Native.Nat.{ℕ, _≤_}
+use mathlib.Core.Bool.{true}
+use mathlib.Core.List.{List, _++_}
+use Prim.Native.Nat.{ℕ, _/_, _<_}
 use lib.ListN.{length}
-use Rattle.c2_wire.specs.Step.{off, code}
+use Rattle.c2_wire.specs.Bits.{Bytes}
+use Rattle.c2_wire.specs.Exchange.{fed}
 use Rattle.settings.specs.declared.Settings.{Settings}
-use Rattle.c2_order.specs.Claims.{Opening}
-use Rattle.c2_record.specs.Record.{unpacked}
-use Rattle.c2_opening.specs.Opened.{opened-session}
-use Rattle.c2.specs.Calls.{opening-answer, record-opened, refused-answer, advance-answer, advance-steps, advance-record, remaining-answer}
-use Rattle.c2_calls.specs.Calls.{Call, opening, taking, asking, refusal, opened, told, May-follow, in-a-row, by-replies}
+use Rattle.settings.specs.Opening.{opening-refusal}
+use Rattle.c2_order.specs.Conversation.{session-limits}
+use Rattle.c2_order.specs.Figure.{figure}
+use Rattle.c2_order.specs.Claims.{exchange-of, point-after}
+use Rattle.c2_session.specs.declared.Session.{Session}
+use Rattle.c2_range.specs.Range.{in-range}
+use Rattle.c2_position.specs.Position.{position}
+use Rattle.c2_record.specs.declared.Unpacked.the-variants.{Held}
+use Rattle.c2_record.specs.Record.{packed, unpacked}
+use Rattle.c2_opening.specs.Opened.{opened-session, image-length, exchange-at, session-fed}
+use Rattle.c2_calls.specs.Calls.{blank}
 
--- However the replies are cut into calls, with refused calls and questions in between: steps, replies taken,
--- outcome, record and most steps to come are those of the replies in a row.
-abbrev pub Lists-are-replies : Type 0
-Lists-are-replies = (t : Settings) (first : ℕ) (image held : List ℕ) → Opening t first image → length held ≡ 32
-    → (calls : List Call) → May-follow image (opened held image t first) calls
-    → told (opened held image t first) calls ≡ by-replies t first image (in-a-row calls)
+-- the session that was opened, after replies
+abbrev pub session-after : Settings → (first : ℕ) → (image replies : List ℕ) → Session
+session-after t first image rs = session-fed (opened-session t first (length image)) image rs
 
--- Lists with the same replies in a row are alike.
-abbrev pub Lists-alike : Type 0
-Lists-alike = (t : Settings) (first : ℕ) (image held : List ℕ) → Opening t first image → length held ≡ 32
-    → (calls others : List Call) → May-follow image (opened held image t first) calls → May-follow image (opened held image t first) others
-    → in-a-row calls ≡ in-a-row others
-    → told (opened held image t first) calls ≡ told (opened held image t first) others
+-- The session that was opened, after replies: its settings and pages are those of the opening; its record is
+-- taken and holds it, with the image of the opening; it stands at the point of the order that the replies
+-- reach; and what it leaves to say is what they leave of the exchange of the session's order.
+pub record Follows (t : Settings) (first : ℕ) (image replies : List ℕ) : Type 0 where
+  pub settings : session-after t first image replies .settings ≡ t
+  pub first-page : session-after t first image replies .first ≡ first
+  pub pages : session-after t first image replies .pages ≡ length image / t .size
+  pub held : unpacked 20 256 (packed (session-after t first image replies)) ≡ Held (session-after t first image replies)
+  pub whole : length image ≡ image-length (session-after t first image replies)
+  pub point : position (session-after t first image replies) image ≡ point-after session-limits t first image replies
+  pub left : exchange-at (session-after t first image replies) image ≡ fed (exchange-of session-limits t first image) replies
 
--- A list is like a single call that takes its replies in a row.
-abbrev pub Like-one-call : Type 0
-Like-one-call = (t : Settings) (first : ℕ) (image held buffer : List ℕ) → Opening t first image → length held ≡ 32
-    → (calls : List Call) → May-follow image (opened held image t first) calls → length (in-a-row calls) ≤ length buffer
-    → told (opened held image t first) calls
-    ≡ told (opened held image t first) (taking (opened held image t first .held) image (in-a-row calls) buffer 0 ∷ [])
+-- After an accepted opening and any replies the session follows the exchange.
+abbrev pub Replies-follow : Type 0
+Replies-follow = (t : Settings) (first : ℕ) (image replies : List ℕ) → t .id < 256 → t .fpdat < 256 → Bytes image
+    → opening-refusal t first (length image) ≡ 0 → Follows t first image replies
 
--- A refused call changes no lent byte, takes no reply and gives its number.
-abbrev pub Unchanged : Call → Type 0
-Unchanged (opening r image t first) =
-    let n = refusal (opening r image t first) in
-    (record-opened n (opened-session t first (length image)) r ≡ r) × (opening-answer n ≡ record { number = n; step = code off })
-Unchanged (taking r image rs buffer place) =
-    let u = unpacked 20 256 r in
-    (advance-record u image rs buffer place r ≡ r) × (advance-steps u image rs buffer place ≡ buffer)
-    × (advance-answer u image rs buffer place ≡ refused-answer (refusal (taking r image rs buffer place)))
-Unchanged (asking r) = remaining-answer (unpacked 20 256 r) ≡ record { number = refusal (asking r); steps = 0 }
+-- Replies in two parts lead where they lead in a row.
+abbrev pub Parts-join : Type 0
+Parts-join = (s : Session) (image qs rs : List ℕ) → session-fed (session-fed s image qs) image rs ≡ session-fed s image (qs ++ rs)
 
-abbrev pub Refused-unchanged : Type 0
-Refused-unchanged = (c : Call) → (refusal c ≡ 0 → ⊥) → Unchanged c
+-- Whatever record a call has taken, ours or not: the one that it writes after any replies is taken again, and
+-- holds the session that they lead to.
+abbrev pub Records-stay : Type 0
+Records-stay = (s : Session) (r image replies : List ℕ) → unpacked 20 256 r ≡ Held s → Bytes image → length image ≡ image-length s
+    → unpacked 20 256 (packed (session-fed s image replies)) ≡ Held (session-fed s image replies)
 
--- Each refused call of a list changes no lent byte, takes no reply and gives its number.
-abbrev pub Each-unchanged : List Call → Type 0
-Each-unchanged [] = Unit {0}
-Each-unchanged (c ∷ cs) = ((refusal c ≡ 0 → ⊥) → Unchanged c) × Each-unchanged cs
+-- The figure goes by the session and not by the image's bytes.
+abbrev pub Figure-of-any : Type 0
+Figure-of-any = (s : Session) (image : List ℕ) → in-range 20 256 s ≡ true → length image ≡ image-length s
+    → figure session-limits (position s image) ≡ figure session-limits (position s (blank s))

@@ -1,4 +1,3 @@
 pub mod Calls
 pub mod Claims
-pub mod Target
-pub mod Whole
+pub mod Family

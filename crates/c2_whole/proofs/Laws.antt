@@ -1,4 +1,4 @@
 -- The laws of the definitions, each in the module of the definition that it is about.
-pub mod Family
+pub mod Target
 pub mod Bench
 pub mod Whole

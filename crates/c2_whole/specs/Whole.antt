@@ -18,9 +18,9 @@ use Rattle.c2_target_state.specs.State.{state-of}
 use Rattle.c2_target_state.specs.Model.{model-answer, model-flash}
 use Rattle.c2_play.specs.Pages.{with-pages}
 use Rattle.c2_cut.specs.Cut.{Cut}
-use Rattle.c2_calls.specs.Calls.{Call, opening, refusal, Told, by-replies}
+use Rattle.c2_calls.specs.Calls.{Call, opening, taking, refusal}
+use Rattle.c2_calls.specs.Family.{C2, Told, by-replies}
 use Rattle.exchange.specs.Calls.{heard, told, in-a-row, May-follow, Refused-unchanged}
-use Rattle.c2_whole.specs.Family.{C2}
 
 -- THE JOB: a device's settings, the numbers of the pages to be programmed, and the image, page by page in
 -- that order.
@@ -137,6 +137,22 @@ abbrev pub Calls-program : Type 0
 Calls-program = (j : Job) (held : List ℕ) (before : Told) (calls : List Call) → Begins held j
     → May-follow C2 (j .image) (heard C2 before (opens held j)) calls
     → Whole j (heard C2 before (opens held j)) (told C2 before (opens held j ∷ calls)) calls
+
+-- Lists with the same replies in a row are alike in all that they tell (`Calls-alike`), a list of a single call
+-- too (`Like-one-call`), where its step buffer has room.
+abbrev pub Calls-alike : Type 0
+Calls-alike = (j : Job) (held : List ℕ) (before : Told) (calls others : List Call) → Begins held j
+    → May-follow C2 (j .image) (heard C2 before (opens held j)) calls
+    → May-follow C2 (j .image) (heard C2 before (opens held j)) others
+    → in-a-row C2 calls ≡ in-a-row C2 others
+    → told C2 before (opens held j ∷ calls) ≡ told C2 before (opens held j ∷ others)
+
+abbrev pub Like-one-call : Type 0
+Like-one-call = (j : Job) (held buffer : List ℕ) (before : Told) (calls : List Call) → Begins held j
+    → May-follow C2 (j .image) (heard C2 before (opens held j)) calls
+    → length (in-a-row C2 calls) ≤ length buffer
+    → told C2 before (opens held j ∷ calls)
+    ≡ told C2 before (opens held j ∷ taking (heard C2 before (opens held j) .held) (j .image) (in-a-row C2 calls) buffer 0 ∷ [])
 
 -- There are lists that `Calls-program` is about: whatever the target, some calls take its own replies to the
 -- end.

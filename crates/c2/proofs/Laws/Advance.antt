@@ -1,4 +1,5 @@
--- What a call that takes replies answers and leaves, at each of its returns, as specs/Calls.antt says it.
+-- What a call that takes replies answers and leaves, at each of its returns, as
+-- c2_calls says it (`done C2`).
 use mathlib.Core.Path.{_≡_, refl, sym, ap, _∙_}
 use mathlib.Core.List.{List, _++_, append-nil}
 use Prim.Native.Nat.{ℕ, _+_, _<_, _≤_}
@@ -7,16 +8,16 @@ use borrow.Author.Tests.{le-leb, lt-leb, eq-eqb, ne-eqb}
 use lib.ListN.{length, take, drop, drop-of-length-le}
 use lib.Seq.{take-all}
 use Rattle.numbers.specs.Numbers.{bad-record, other-image, no-room}
-use Rattle.c2_wire.specs.Bits.{Bytes}
 use Rattle.c2_wire.specs.Exchange.{Exchange, Outcome, fed, steps, outcome-of}
 use Rattle.c2_session.specs.declared.Session.{Session}
-use Rattle.c2_record.specs.declared.Unpacked.{Unpacked}
 use Rattle.c2_record.specs.declared.Unpacked.the-variants.{Held, Refused}
 use Rattle.c2_record.specs.Record.{packed, unpacked}
-use Rattle.c2_record.proofs.Laws.Claims.{small, packed-whole, unpack-pack, unpacked-exactly}
-use Rattle.c2.specs.declared.Advanced.{Advanced}
+use Rattle.c2_record.proofs.Laws.Claims.{packed-whole, unpack-pack}
+use Rattle.exchange.specs.Calls.{done}
+use Rattle.c2_calls.specs.declared.Advanced.{Advanced}
 use Rattle.c2_opening.specs.Opened.{image-length, exchange-at, session-fed}
-use Rattle.c2.specs.Calls.{taken-answer, refused-answer, steps-written, advance-answer, advance-steps, advance-record}
+use Rattle.c2_calls.specs.Calls.{taking, refusal, untouched, refused-answer, taken-answer, steps-written, does}
+use Rattle.c2_calls.specs.Family.{C2}
 use Rattle.c2_outcome.specs.Outcome.{number-of, offset-of}
 use Rattle.c2.specs.Code.Loop.{ran, wrote}
 use Rattle.c2_opening.proofs.Laws.Follows.{Lent, outcome-is}
@@ -24,19 +25,23 @@ use Rattle.c2.proofs.Laws.Loop.Exchange.{ran-is, wrote-is}
 use Rattle.c2_wire.specs.Exchange
 
 -- answer, step buffer and record after a call that takes replies
-abbrev pub Leaves : Unpacked → (image replies buffer : List ℕ) → (place : ℕ) → (record₀ : List ℕ) → Advanced → (buffer₁ record₁ : List ℕ) → Type 0
-Leaves u image rs buffer place r₀ a b r₁ =
-    (a ≡ advance-answer u image rs buffer place) × ((b ≡ advance-steps u image rs buffer place) × (r₁ ≡ advance-record u image rs buffer place r₀))
+abbrev pub Leaves : (record₀ image replies buffer : List ℕ) → (place : ℕ) → Advanced → (buffer₁ record₁ : List ℕ) → Type 0
+Leaves r image rs buffer place a b r₁ =
+    (a ≡ done C2 (taking r image rs buffer place) .answer)
+    × ((b ≡ done C2 (taking r image rs buffer place) .steps) × (r₁ ≡ done C2 (taking r image rs buffer place) .held))
 
-module _ (u : Unpacked) (image rs buffer : List ℕ) (place : ℕ) (r : List ℕ) (a : Advanced) where
-  pub refuses-record : u ≡ Refused → a ≡ refused-answer bad-record → Leaves u image rs buffer place r a buffer r
+module _ (r image rs buffer : List ℕ) (place : ℕ) (a : Advanced) where
+  pub refuses-record : unpacked 20 256 r ≡ Refused → a ≡ refused-answer bad-record → Leaves r image rs buffer place a buffer r
+  unfolding done refusal untouched
   refuses-record e f = rw e (f, (refl, refl))
 
-  module _ (s : Session) (e : u ≡ Held s) where
-    pub refuses-image : (length image ≡ image-length s → ⊥) → a ≡ refused-answer other-image → Leaves u image rs buffer place r a buffer r
+  module _ (s : Session) (e : unpacked 20 256 r ≡ Held s) where
+    pub refuses-image : (length image ≡ image-length s → ⊥) → a ≡ refused-answer other-image → Leaves r image rs buffer place a buffer r
+    unfolding done refusal untouched
     refuses-image g f = rw (e, ne-eqb (length image) (image-length s) g) (f, (refl, refl))
 
-    pub refuses-room : length image ≡ image-length s → length buffer < place + length rs → a ≡ refused-answer no-room → Leaves u image rs buffer place r a buffer r
+    pub refuses-room : length image ≡ image-length s → length buffer < place + length rs → a ≡ refused-answer no-room → Leaves r image rs buffer place a buffer r
+    unfolding done refusal untouched
     refuses-room g h f = rw (e, eq-eqb (length image) (image-length s) g, lt-leb (place + length rs) (length buffer) h) (f, (refl, refl))
 
     -- an accepted call: what the loop ran and wrote is what the exchange says
@@ -44,8 +49,8 @@ module _ (u : Unpacked) (image rs buffer : List ℕ) (place : ℕ) (r : List ℕ
         → x ≡ ran image s rs → n ≡ length (wrote image s rs)
         → (a .number ≡ number-of (x .point)) × (a .offset ≡ offset-of (x .point)) × (a .taken ≡ n)
         → b ≡ take place buffer ++ (wrote image s rs ++ drop (length (wrote image s rs)) (drop place buffer))
-        → r₁ ≡ packed x → Leaves u image rs buffer place r a b r₁
-    unfolding taken-answer steps-written Exchange.taken
+        → r₁ ≡ packed x → Leaves r image rs buffer place a b r₁
+    unfolding done refusal does taken-answer steps-written Exchange.taken
     accepts l h x n b r₁ p q f g k =
         let w : wrote image s rs ≡ steps (exchange-at s image) rs = wrote-is s image rs l in
         let y : x ≡ session-fed s image rs = p ∙ ran-is image s rs in
@@ -62,12 +67,6 @@ module _ (u : Unpacked) (image rs buffer : List ℕ) (place : ℕ) (r : List ℕ
 
         taken-same : a .taken ≡ length (steps (exchange-at s image) rs)
         taken-same = f .2 ∙ q ∙ ap length (wrote-is s image rs l)
-
--- the session that a record holds, lent an image of its length
-pub lent-held : (r image : List ℕ) (s : Session) → unpacked 20 256 r ≡ Held s → Bytes image → length image ≡ image-length s → Lent s image
-lent-held r image s e b l =
-    let h = unpacked-exactly 20 256 small s r .0 e in
-    record { id = h .id; bytes = b; range = h .ranges; whole = l }
 
 -- the new record takes the place of the one that was held: both are 32 bytes
 module _ (r p : List ℕ) (s x : Session) (e : unpacked 20 256 r ≡ Held s) (f : p ≡ packed x) where

@@ -1,5 +1,5 @@
--- The claims of specs/Whole.antt, from those of c2_calls and two laws: pages laid one by one are the image
--- laid over, and the target is ready at every step.
+-- The claims of specs/Whole.antt: lists of calls by the laws of c2_calls, the target by its theorem, and each cut
+-- by c2_cut.
 use mathlib.Core.Path.{_≡_, refl, sym, ap, _∙_, subst⁻¹}
 use mathlib.Core.List.{List, [], _∷_, append-nil}
 use Prim.Native.Nat.{ℕ, zero, suc, _+_, _*_, _/_, _≤_}
@@ -8,70 +8,53 @@ use borrow.Author.Tests.{eq-eqb, eqb-true}
 use lib.Dec.{eqb}
 use lib.ListN.{length, take, drop, replicate, length-replicate}
 use Rattle.laws.proofs.Tests.{passes}
-use Rattle.numbers.specs.Numbers.{done, running, bad-record}
-use Rattle.c2_wire.specs.Step.{off}
-use Rattle.c2_wire.specs.Exchange.{outcome}
+use Rattle.exchange.specs.Calls.{done, heard, told, in-a-row, May-follow}
+use Rattle.exchange.proofs.Laws.Calls.{refused-unchanged}
+use Rattle.numbers.specs.Numbers.{running, bad-record}
+use Rattle.numbers.specs.Numbers
+use Rattle.c2_wire.specs.Step.{reset, code}
+use Rattle.c2_wire.specs.Exchange.{Exchange, ended, ask, at, Outcome, outcome, asks, steps, taken, fed, outcome-of}
+use Rattle.c2_wire.specs.Frames.{strobes}
 use Rattle.settings.specs.declared.Settings.{Settings}
-use Rattle.c2_order.specs.Claims.{Opening}
-use Rattle.settings.specs.Opening.{opening-refusal}
-use Rattle.c2_target_state.specs.declared.State.{State}
-use Rattle.c2_target.specs.Delays.{setup}
-use Rattle.c2_play.specs.Programmed.{laid-over}
-use Rattle.c2_target.proofs.Laws.Known.{known-says}
-use Rattle.c2_calls.proofs.Laws.Target.{stands, ready, replies-alike, state-alike, flash-alike}
-use Rattle.c2_calls.proofs.Laws.Whole.{first-step}
-use Rattle.c2_wire.specs.Exchange.{Exchange, ended, ask, Outcome, asks, steps, taken, fed, outcome-of}
 use Rattle.settings.specs.Accepted.{settings-refusal}
-use Rattle.c2_order.specs.Conversation.{session-limits}
-use Rattle.c2_order.specs.Claims.{exchange-of}
+use Rattle.settings.specs.Opening.{opening-refusal}
 use Rattle.settings.proofs.Laws.Opening.{settings-pass}
+use Rattle.settings.proofs.Laws.Opening as Facts
+use Rattle.c2_order.specs.Order.{Page, pages, rising, lead, order, session-order}
+use Rattle.c2_order.specs.Conversation.{session-limits, conversation}
+use Rattle.c2_order.specs.Point.{begin, reached}
+use Rattle.c2_order.specs.Figure.{figure}
+use Rattle.c2_order.specs.Claims.{Opening, exchange-of}
 use Rattle.c2_target.specs.declared.Target.{Target}
-use Rattle.c2_target.specs.Delays.{Setup}
-use Rattle.c2_target_state.specs.State.{state-of}
-use Rattle.c2_play.specs.Playing.{Own-replies}
-use Rattle.c2_target.specs.Steps.{left-by}
-use Rattle.c2_play.specs.Programmed.{Met}
-use Rattle.c2_target.proofs.Laws.Known.{Lent}
-use Rattle.c2_play.proofs.Laws.LeftBy.{Lasts}
-use Rattle.c2_play.proofs.Laws.OwnReplies.{played-replies}
-use Rattle.c2_play.proofs.Laws.WholeStep as Played-whole
-use Rattle.c2_whole.proofs.Laws.Bench.{met-along, last-keeps}
-use Rattle.c2_play.specs.Playing
+use Rattle.c2_target.specs.Delays.{Setup, setup}
+use Rattle.c2_target.specs.Target.{fresh}
+use Rattle.c2_target.specs.Steps.{own-replies, left-by}
 use Rattle.c2_target.specs.Steps
-use Rattle.c2_order.specs.Order.{Page, pages, rising, session-order}
+use Rattle.c2_target.proofs.Laws.Known.{Lent, known-says}
+use Rattle.c2_play.specs.Playing.{Own-replies, answered, played-after, run-replies, whole-step}
+use Rattle.c2_play.specs.Programmed.{Met, Programmed, laid-over}
 use Rattle.c2_play.specs.Pages.{with-pages, Named, Meets}
+use Rattle.c2_play.proofs.Laws.LeftBy.{Lasts, own-replies-program}
+use Rattle.c2_play.proofs.Laws.OwnReplies.{own-ends, played-replies}
+use Rattle.c2_play.proofs.Laws.Fresh.{fresh-met}
 use Rattle.c2_play.proofs.Laws.Rise.{rising-named}
 use Rattle.c2_play.proofs.Laws.Rise
+use Rattle.c2_play.proofs.Laws.WholeStep as Theorem
 use Rattle.c2_cut.specs.Cut.{Cut, numbers}
 use Rattle.c2_cut.proofs.Laws.Again.{pages-again, same-place}
 use Rattle.c2_cut.proofs.Laws.ByReplies.{cuts-by-replies}
-use Rattle.c2.specs.Calls.{opening-number, opening-answer, record-opened}
-use Rattle.c2_calls.specs.Calls.{Call, opening, taking, refusal, Told, opened, by-replies, replies-of}
-use Rattle.c2_calls.specs.Target.{own-replies, state-after, flash-after, answered}
-use Rattle.c2_calls.proofs.Laws.Claims.{accepts}
-use Rattle.c2_calls.proofs.Laws.Whole.{calls-program, fresh-ready}
-use Rattle.exchange.specs.Calls.{heard, told, in-a-row, May-follow}
-use Rattle.exchange.proofs.Laws.Calls.{refused-unchanged}
-use Rattle.c2_whole.specs.Family.{C2, does, hears}
-use Rattle.c2_whole.specs.Whole.{Job, first-of, opens, Begins, job-pages, programmed, anew, Bench, reply, stepped, replies, given, Ready, sent, Own, Whole, Calls-program, Calls-exist, Fresh-ready}
-use Rattle.c2_whole.proofs.Laws.Family.{c2-lists}
-use Rattle.settings.proofs.Laws.Opening as Facts
-use Rattle.c2_calls.specs.Calls
-use Rattle.c2_calls.specs.Target as Landed-target
-use Rattle.c2_calls.proofs.Laws.Claims
-use Rattle.exchange.specs.Calls as Shared
-use Rattle.c2_calls.specs.Whole as Landed
+use Rattle.c2_calls.specs.Calls.{Call, opening, taking, opening-number, refusal}
+use Rattle.c2_calls.specs.Family.{C2, Told, replies-of, by-replies}
+use Rattle.c2_calls.proofs.Laws.Family.{c2-lists, accepts}
+use Rattle.c2_calls.proofs.Laws.Family as Lists
+use Rattle.c2_whole.specs.Whole.{Job, first-of, opens, Begins, job-pages, programmed, anew, Bench, replies, given, Ready, sent, Own, Whole, Calls-program, Calls-alike, Like-one-call, Calls-exist, Fresh-ready}
+use Rattle.c2_whole.proofs.Laws.Target.{stands, bench, ready, replies-alike, given-alike}
+use Rattle.c2_whole.proofs.Laws.Bench.{met-along, last-keeps}
 
--- the target's replies and its flash after steps in a row, as c2_calls has them
-replies-are : (t : Settings) (b : Bench) (xs : List ℕ) → replies t b xs ≡ own-replies t (b .delays) (b .target) (b .flash) xs
-unfolding replies own-replies
-replies-are t b [] = refl
-replies-are t b (x ∷ xs) = ap (λ (l : List ℕ). reply t b x ∷ l) (replies-are t (stepped t b x) xs)
-
-flash-is : (t : Settings) (b : Bench) (xs : List ℕ) → given t b xs .flash ≡ flash-after t (b .delays) (b .target) (b .flash) xs
-unfolding given flash-after
-flash-is t b [] = refl
-flash-is t b (x ∷ xs) = flash-is t (stepped t b x) xs
+-- the first step is the reset
+pub first-step : (t : Settings) (first : ℕ) (image : List ℕ) → asks (exchange-of session-limits t first image) ≡ code reset
+unfolding asks conversation session-order order lead strobes
+first-step t first image = refl
 
 module _ (j : Job) (held : List ℕ) (g : Begins held j) where
   abbrev first : ℕ
@@ -84,65 +67,33 @@ module _ (j : Job) (held : List ℕ) (g : Begins held j) where
   opening-of : Opening (j .settings) first (j .image)
   opening-of = record { id = g .id; fpdat = g .fpdat; bytes = g .bytes; accepted = halves .1 }
 
-  number-is : opening-number (length held) (j .settings) first (length (j .image)) ≡ 0
-  unfolding refusal
-  number-is = g .accepted
-
-  shape : (before : Told) → opened held (j .image) (j .settings) first ≡ hears before (opens held j) (does (opens held j))
-  unfolding opened opening-answer record-opened hears does
-  shape before = rw number-is
-
   -- the opening tells what no replies do
   starts : (before : Told) → heard C2 before (opens held j) ≡ by-replies (j .settings) first (j .image) []
-  unfolding heard Shared.done does hears
-  starts before = rw (eq-eqb (refusal (opens held j)) 0 (g .accepted)) (sym (shape before) ∙ Claims.opens (j .settings) first (j .image) opening-of held (halves .0))
+  unfolding heard done
+  starts before = rw (eq-eqb (refusal (opens held j)) 0 (g .accepted)) (Lists.opens (j .settings) first (j .image) opening-of before held)
 
+  -- a list of calls tells what its replies in a row come to
   told-are : (before : Told) (calls : List Call) → May-follow C2 (j .image) (heard C2 before (opens held j)) calls
       → told C2 before (opens held j ∷ calls) ≡ by-replies (j .settings) first (j .image) (in-a-row C2 calls)
   unfolding told
   told-are before calls m =
       ap (λ (x : Told). told C2 x calls) (starts before) ∙ c2-lists (j .settings) first (j .image) opening-of calls (rw (starts before) at m)
 
-  -- what replies in a row come to, by the claim of c2_calls for the one call that takes them all
-  module _ (rs : List ℕ) where
-    abbrev x : Told
-    x = by-replies (j .settings) first (j .image) rs
+  -- one call after the opening that takes these replies: it is accepted, its replies in a row are these, and it
+  -- may follow
+  abbrev one : (before : Told) → (rs buffer : List ℕ) → Call
+  one before rs buffer = taking (heard C2 before (opens held j) .held) (j .image) rs buffer 0
 
-    abbrev one : Call
-    one = taking (opened held (j .image) (j .settings) first .held) (j .image) rs (replicate (length rs) 0) 0
+  one-accepted : (before : Told) (rs buffer : List ℕ) → length rs ≤ length buffer → refusal (one before rs buffer) ≡ 0
+  unfolding by-replies
+  one-accepted before rs buffer h = rw (starts before) (accepts (j .settings) first (j .image) opening-of rs buffer h)
 
-    fits : refusal (taking (opened held (j .image) (j .settings) first .held) (j .image) rs (replicate (length rs) 0) 0) ≡ 0
-    fits = accepts (j .settings) first (j .image) held rs (replicate (length rs) 0) opening-of (halves .0) (omega (arith, length-replicate {A = ℕ} (length rs) 0))
+  one-row : (before : Told) (rs buffer : List ℕ) → length rs ≤ length buffer → in-a-row C2 (one before rs buffer ∷ []) ≡ rs
+  unfolding in-a-row replies-of
+  one-row before rs buffer h = rw (eq-eqb (refusal (one before rs buffer)) 0 (one-accepted before rs buffer h)) (append-nil rs)
 
-    row : Calls.in-a-row (taking (opened held (j .image) (j .settings) first .held) (j .image) rs (replicate (length rs) 0) 0 ∷ []) ≡ rs
-    unfolding Calls.in-a-row replies-of
-    row = rw (eq-eqb (refusal one) 0 fits) (append-nil rs)
-
-    abbrev landed : Landed.Whole (j .settings) first (j .image) held (one ∷ [])
-    landed = calls-program (j .settings) first (j .image) held opening-of (halves .0) (one ∷ []) ((λ _. (refl, refl)), tt)
-
-    same : Calls.told (opened held (j .image) (j .settings) first) (one ∷ []) ≡ x
-    same = landed .told-is ∙ ap (λ (qs : List ℕ). by-replies (j .settings) first (j .image) qs) row
-
-    module _ (b : Bench) (r : Ready (j .settings) b) (own : Own (j .settings) b x rs) where
-      ready-is : Landed-target.Ready (j .settings) (b .delays) (b .flash) (b .target)
-      ready-is = record { steps = r .steps; unmarked = r .unmarked; flash = r .flash; delays = r .delays }
-
-      own-is : Landed-target.Own (j .settings) (b .delays) (b .target) (b .flash) (Calls.told (opened held (j .image) (j .settings) first) (one ∷ [])) (one ∷ [])
-      unfolding opening-answer
-      own-is = rw (same, row) (own ∙ replies-are (j .settings) b (take (x .taken) (sent x)))
-
-      ends : opened held (j .image) (j .settings) first .left ≤ length rs → x .outcome ≡ outcome done
-      ends h = rw same at (landed .ends (b .delays) (b .flash) (b .target) ready-is own-is (rw row h))
-
-      as-done : (x .outcome .number ≡ running → ⊥) → x .outcome ≡ outcome done
-      as-done h = rw same at (landed .programs (b .delays) (b .flash) (b .target) ready-is own-is (rw same h) .ended)
-
-      holds : x .outcome ≡ outcome done → given (j .settings) b (take (x .taken) (sent x)) .flash ≡ laid-over (first * j .settings .size) (j .image) (b .flash)
-      unfolding opening-answer
-      holds e =
-          let p = landed .programs (b .delays) (b .flash) (b .target) ready-is own-is (rw (same, e) (λ z. omega arith)) in
-          flash-is (j .settings) b (take (x .taken) (sent x)) ∙ (rw same at (p .holds))
+  one-follows : (before : Told) (rs buffer : List ℕ) → May-follow C2 (j .image) (heard C2 before (opens held j)) (one before rs buffer ∷ [])
+  one-follows before rs buffer = ((λ _. (refl, refl)), tt)
 
 -- what holds of a list of rising pages
 rising-length : (n first : ℕ) → length (rising first n) ≡ n
@@ -163,12 +114,6 @@ named-is t first image o =
     let x = Facts.opened t first (length image) (o .accepted) in
     rising-named t (length image / t .size) first 0 image (omega (arith, x .whole)) (o .bytes) (x .inside)
 
--- Along the steps the target stays ready; once the session has ended done, its last step changes no flash.
-pub record Along (j : Job) (b : Bench) (x : Told) : Type 0 where
-  pub ready : (n : ℕ) → Ready (j .settings) (given (j .settings) b (take n (sent x)))
-  pub last : x .outcome ≡ outcome done → (n : ℕ) → x .taken ≤ n
-      → given (j .settings) b (take n (sent x)) .flash ≡ given (j .settings) b (take (x .taken) (sent x)) .flash
-
 laid-is : (j : Job) (held : List ℕ) → Begins held j → (f : List ℕ) → length f ≡ j .settings .size * j .settings .count
     → laid-over (first-of (j .pages) * j .settings .size) (j .image) f ≡ programmed j f
 laid-is j held g f e =
@@ -177,37 +122,27 @@ laid-is j held g f e =
     sym (ap (λ (ps : List ℕ). with-pages (t .size) (pages (t .size) 0 ps (j .image)) f) (g .rising)
     ∙ Rise.laid-is t (first-of (j .pages)) (j .image) f o e)
 
-sized-is : (t : Settings) (b : Bench) → Ready t b → length (b .flash) ≡ t .size * t .count
-sized-is t b r =
-    let s = stands t (b .delays) (b .flash) (b .target) (record { steps = r .steps; unmarked = r .unmarked; flash = r .flash; delays = r .delays }) in
-    known-says (setup t (b .delays)) (s .target) (b .flash) (s .met .state) .flash
-
-given-is : (t : Settings) (b : Bench) (xs : List ℕ)
-    → given t b xs ≡ record { target = state-after t (b .delays) (b .target) (b .flash) xs; flash = flash-after t (b .delays) (b .target) (b .flash) xs; delays = b .delays }
-unfolding given state-after flash-after
-given-is t b [] = refl
-given-is t b (x ∷ xs) = given-is t (stepped t b x) xs
-
-over : (z : Exchange) → outcome-of z ≡ outcome done → (q : Outcome) × (z ≡ ended q)
+-- an exchange whose outcome is not running has ended
+over : (z : Exchange) → (outcome-of z .number ≡ running → ⊥) → (q : Outcome) × (z ≡ ended q)
 unfolding outcome-of
 over (ended q) h = (q, refl)
-over (ask a k) h = absurd (let w : running ≡ done = ap (λ (o : Outcome). o .number) h in omega arith)
-
-ready-of : (t : Settings) (b : Bench) → Ready t b → Landed-target.Ready t (b .delays) (b .flash) (b .target)
-ready-of t b r = record { steps = r .steps; unmarked = r .unmarked; flash = r .flash; delays = r .delays }
+over (ask a k) h = absurd (h refl)
 
 module _ (j : Job) (held : List ℕ) (g : Begins held j) (rs : List ℕ) (b : Bench) (r : Ready (j .settings) b) where
   abbrev e : Exchange
   e = exchange-of session-limits (j .settings) (first-of (j .pages)) (j .image)
 
+  abbrev x : Told
+  x = by-replies (j .settings) (first-of (j .pages)) (j .image) rs
+
   abbrev u : Setup
   u = setup (j .settings) (b .delays)
 
   abbrev y : Target
-  y = stands (j .settings) (b .delays) (b .flash) (b .target) (ready-of (j .settings) b r) .target
+  y = stands (j .settings) b r .target
 
   abbrev m : Met session-limits u y (b .flash)
-  m = stands (j .settings) (b .delays) (b .flash) (b .target) (ready-of (j .settings) b r) .met
+  m = stands (j .settings) b r .met
 
   ok : settings-refusal (j .settings) ≡ 0
   ok = settings-pass (j .settings) (first-of (j .pages)) (length (j .image)) (opening-of j held g .accepted)
@@ -218,26 +153,26 @@ module _ (j : Job) (held : List ℕ) (g : Begins held j) (rs : List ℕ) (b : Be
   lasts : Lasts u y (b .flash)
   lasts = record { bytes = r .flash; exists = m .state }
 
+  sized : length (b .flash) ≡ j .settings .size * j .settings .count
+  sized = known-says u y (b .flash) (m .state) .flash
+
+  here : b ≡ bench (b .delays) y (b .flash)
+  here i = record { target = stands (j .settings) b r .state i; flash = b .flash; delays = b .delays }
+
   -- the target after steps, and its replies, by the definitions of the session's side
-  at : (xs : List ℕ) → given (j .settings) b xs ≡ record { target = state-of (left-by u y (b .flash) xs .target); flash = left-by u y (b .flash) xs .flash; delays = b .delays }
-  at xs =
-      let h = stands (j .settings) (b .delays) (b .flash) (b .target) (ready-of (j .settings) b r) .state in
-      let p = ap (λ (z : State). state-after (j .settings) (b .delays) z (b .flash) xs) h ∙ state-alike (j .settings) (b .delays) ok lent xs y (b .flash) lasts in
-      let q = ap (λ (z : State). flash-after (j .settings) (b .delays) z (b .flash) xs) h ∙ flash-alike (j .settings) (b .delays) ok lent xs y (b .flash) lasts in
-      given-is (j .settings) b xs ∙ (λ i. record { target = p i; flash = q i; delays = b .delays })
+  at-steps : (xs : List ℕ) → given (j .settings) b xs ≡ bench (b .delays) (left-by u y (b .flash) xs .target) (left-by u y (b .flash) xs .flash)
+  at-steps xs = ap (λ (z : Bench). given (j .settings) z xs) here ∙ given-alike (j .settings) (b .delays) ok lent xs y (b .flash) lasts
 
   sent-is : sent (by-replies (j .settings) (first-of (j .pages)) (j .image) rs) ≡ asks e ∷ steps e rs
   unfolding by-replies
   sent-is = ap (λ (n : ℕ). n ∷ steps e rs) (sym (first-step (j .settings) (first-of (j .pages)) (j .image)))
 
   replies-there : replies (j .settings) b (take (taken e rs) (sent (by-replies (j .settings) (first-of (j .pages)) (j .image) rs)))
-      ≡ Steps.own-replies u y (b .flash) (Playing.answered e rs)
-  unfolding Playing.answered
+      ≡ own-replies u y (b .flash) (answered e rs)
+  unfolding answered
   replies-there =
-      let h = stands (j .settings) (b .delays) (b .flash) (b .target) (ready-of (j .settings) b r) .state in
       ap (λ (l : List ℕ). replies (j .settings) b (take (taken e rs) l)) sent-is
-      ∙ replies-are (j .settings) b (take (taken e rs) (asks e ∷ steps e rs))
-      ∙ ap (λ (z : State). own-replies (j .settings) (b .delays) z (b .flash) (take (taken e rs) (asks e ∷ steps e rs))) h
+      ∙ ap (λ (z : Bench). replies (j .settings) z (take (taken e rs) (asks e ∷ steps e rs))) here
       ∙ replies-alike (j .settings) (b .delays) ok lent (take (taken e rs) (asks e ∷ steps e rs)) y (b .flash) lasts
 
   own-there : Own-replies u y (b .flash) e rs → Own (j .settings) b (by-replies (j .settings) (first-of (j .pages)) (j .image) rs) rs
@@ -249,33 +184,51 @@ module _ (j : Job) (held : List ℕ) (g : Begins held j) (rs : List ℕ) (b : Be
     unfolding by-replies
     own-is-own = own ∙ replies-there
 
-    last-one : outcome-of (fed e rs) ≡ outcome done → (n : ℕ) → taken e rs ≤ n
-        → given (j .settings) b (take n (asks e ∷ steps e rs)) .flash ≡ given (j .settings) b (take (taken e rs) (asks e ∷ steps e rs)) .flash
-    last-one d n l =
-        let q = over (fed e rs) d in
-        let k = last-keeps u (first-of (j .pages)) (j .image) y (b .flash) rs (opening-of j held g) m own-is-own (q .0) (q .1) n l in
-        ap (λ (z : Bench). z .flash) (at (take n (asks e ∷ steps e rs)))
-        ∙ ap (λ (z : Steps.State). z .flash) k
-        ∙ sym (ap (λ (z : Bench). z .flash) (at (take (taken e rs) (asks e ∷ steps e rs))))
+    -- what the target's theorem says of these replies: where they are enough, and where the session has ended
+    abbrev Ends : Type 0
+    Ends = Programmed (laid-over (first-of (j .pages) * j .settings .size) (j .image) (b .flash)) (played-after u e y (b .flash) rs)
 
-    pub along : Along j b (by-replies (j .settings) (first-of (j .pages)) (j .image) rs)
+    enough : figure session-limits (begin (session-order (j .settings) (first-of (j .pages)) (j .image))) ≤ length rs → Ends
+    enough h = own-replies-program session-limits u (first-of (j .pages)) (j .image) y (b .flash) rs (opening-of j held g) m own-is-own h
+
+    at-end : (q : Outcome) → fed e rs ≡ ended q → Ends
+    at-end q h =
+        rw (own-ends u e y (b .flash) rs q own-is-own h) at (Theorem.programmed session-limits u (first-of (j .pages)) (j .image) y (b .flash) (opening-of j held g) m)
+
+    pub ends : figure session-limits (begin (session-order (j .settings) (first-of (j .pages)) (j .image))) ≤ length rs → x .outcome ≡ outcome Numbers.done
     unfolding by-replies
-    along =
-        record {
-          ready = λ n.
-              let k = ready (j .settings) (b .delays) _ _ ok (met-along u (first-of (j .pages)) (j .image) y (b .flash) rs (opening-of j held g) m own-is-own n) in
-              rw (sent-is, at (take n (asks e ∷ steps e rs))) (record { steps = k .steps; unmarked = k .unmarked; flash = k .flash; delays = k .delays });
-          last = λ d n l. rw sent-is (last-one d n l);
-        }
+    ends h = enough h .ended
 
-    -- the flash after a cut after n steps
+    pub as-done : (x .outcome .number ≡ running → ⊥) → x .outcome ≡ outcome Numbers.done
+    unfolding by-replies
+    as-done h = let q = over (fed e rs) h in at-end (q .0) (q .1) .ended
+
+    -- the flash after n of the steps
     abbrev F : ℕ → List ℕ
     F n = given (j .settings) b (take n (sent (by-replies (j .settings) (first-of (j .pages)) (j .image) rs))) .flash
 
     flash-there : (n : ℕ) → F n ≡ left-by u y (b .flash) (take n (asks e ∷ steps e rs)) .flash
     flash-there n =
         ap (λ (l : List ℕ). given (j .settings) b (take n l) .flash) sent-is
-        ∙ ap (λ (z : Bench). z .flash) (at (take n (asks e ∷ steps e rs)))
+        ∙ ap (λ (z : Bench). z .flash) (at-steps (take n (asks e ∷ steps e rs)))
+
+    pub holds : x .outcome ≡ outcome Numbers.done → (n : ℕ) → x .taken ≤ n → F n ≡ programmed j (b .flash)
+    unfolding by-replies answered
+    holds d n l =
+        let z : x .outcome .number ≡ running → ⊥ = λ q. let w : Numbers.done ≡ running = sym (ap (λ (o : Outcome). o .number) d) ∙ q in omega arith in
+        let q = over (fed e rs) z in
+        let k = last-keeps u (first-of (j .pages)) (j .image) y (b .flash) rs (opening-of j held g) m own-is-own (q .0) (q .1) n l in
+        flash-there n ∙ ap (λ (s : Steps.State). s .flash) k ∙ at-end (q .0) (q .1) .holds ∙ laid-is j held g (b .flash) sized
+
+    pub stays-ready : (n : ℕ) → Ready (j .settings) (given (j .settings) b (take n (sent (by-replies (j .settings) (first-of (j .pages)) (j .image) rs))))
+    stays-ready n =
+        rw (sent-is, at-steps (take n (asks e ∷ steps e rs)))
+        (ready (j .settings) (b .delays) _ _ ok (met-along u (first-of (j .pages)) (j .image) y (b .flash) rs (opening-of j held g) m own-is-own n))
+
+    flash-sized : (n : ℕ) → length (F n) ≡ j .settings .size * j .settings .count
+    flash-sized n =
+        let k = met-along u (first-of (j .pages)) (j .image) y (b .flash) rs (opening-of j held g) m own-is-own n in
+        ap length (flash-there n) ∙ known-says u _ _ (k .state) .flash
 
     cut-there : (n : ℕ) → n ≤ suc (taken e rs)
         → Cut session-limits (j .settings) (rising-pages (j .settings) (first-of (j .pages)) (j .image)) rs n (b .flash) (F n)
@@ -309,58 +262,63 @@ module _ (j : Job) (held : List ℕ) (g : Begins held j) (rs : List ℕ) (b : Be
         let here : (f : List ℕ) → programmed (anew j image) f ≡ with-pages (t .size) qs f =
         λ f. ap (λ (l : List ℕ). with-pages (t .size) (pages (t .size) 0 l image) f) (g2 .rising) in
         here (F n)
-        ∙ pages-again t qs (b .flash) (F n) (named-is t first image (opening-of (anew j image) lent2 g2)) (sized-is t b r) (sized-is t _ (along .ready n))
+        ∙ pages-again t qs (b .flash) (F n) (named-is t first image (opening-of (anew j image) lent2 g2)) sized (flash-sized n)
         (λ q hq off. c .unnamed q hq (λ i p a eq. let z = same-place qs ps nums i p a in off i (z .0) (z .1) (z .2 ∙ eq)))
         ∙ sym (here (b .flash))
 
-pub calls-program-page : Calls-program
-calls-program-page j held before calls g m =
+pub calls-program : Calls-program
+unfolding by-replies reached
+calls-program j held before calls g m =
     let rs = in-a-row C2 calls in
     let e = told-are j held g before calls m in
-    let start : heard C2 before (opens held j) ≡ opened held (j .image) (j .settings) (first-of (j .pages)) =
-    starts j held g before ∙ sym (Claims.opens (j .settings) (first-of (j .pages)) (j .image) (opening-of j held g) held (halves j held g .0)) in
     record {
       refused = refused-unchanged C2;
       told-is = e;
       against = λ b r own.
           let o = rw e at own in
-          let a = along j held g rs b r o in
-          rw (e, start) (record {
-            ready = a .ready;
+          rw (e, starts j held g before) (record {
+            ready = stays-ready j held g rs b r o;
             ends = ends j held g rs b r o;
             as-done = as-done j held g rs b r o;
-            holds = λ d n h. a .last d n h ∙ holds j held g rs b r o d ∙ laid-is j held g (b .flash) (sized-is (j .settings) b r);
+            holds = holds j held g rs b r o;
             cut = cut-is j held g rs b r o;
             again = again-is j held g rs b r o;
           });
     }
 
-pub fresh-ready-page : Fresh-ready
-fresh-ready-page t f ds ok n h d =
-    let r = fresh-ready t ds f ok n h d in
-    record { steps = r .steps; unmarked = r .unmarked; flash = r .flash; delays = r .delays }
+pub calls-alike : Calls-alike
+calls-alike j held before calls others g m n q =
+    told-are j held g before calls m
+    ∙ ap (λ (rs : List ℕ). by-replies (j .settings) (first-of (j .pages)) (j .image) rs) q
+    ∙ sym (told-are j held g before others n)
+
+pub like-one-call : Like-one-call
+like-one-call j held buffer before calls g m h =
+    calls-alike j held before calls (one j held g before (in-a-row C2 calls) buffer ∷ []) g m (one-follows j held g before (in-a-row C2 calls) buffer)
+    (sym (one-row j held g before (in-a-row C2 calls) buffer h))
+
+pub fresh-ready : Fresh-ready
+fresh-ready t f ds ok n h d = ready t ds f fresh ok (fresh-met t ds f n h d)
 
 -- one call that takes the target's replies to the end
-pub calls-exist-page : Calls-exist
-unfolding in-a-row by-replies replies-of outcome-of
-calls-exist-page j held before b g r =
+pub calls-exist : Calls-exist
+unfolding by-replies outcome-of
+calls-exist j held before b g r =
     let t = j .settings in
-    let at : ℕ = first-of (j .pages) in
-    let s = stands t (b .delays) (b .flash) (b .target) (ready-of t b r) in
+    let s = stands t b r in
     let v = setup t (b .delays) in
-    let z = exchange-of session-limits t at (j .image) in
-    let rs = Playing.run-replies (Playing.whole-step v) z (s .target) (b .flash) in
+    let z = exchange-of session-limits t (first-of (j .pages)) (j .image) in
+    let rs = run-replies (whole-step v) z (s .target) (b .flash) in
     let k = played-replies v z (s .target) (b .flash) in
-    let start : heard C2 before (opens held j) ≡ opened held (j .image) t at =
-    starts j held g before ∙ sym (Claims.opens t at (j .image) (opening-of j held g) held (halves j held g .0)) in
-    let one : Call = taking (heard C2 before (opens held j) .held) (j .image) rs (replicate (length rs) 0) 0 in
-    let ok : refusal one ≡ 0 = rw start (fits j held g rs) in
-    let row : in-a-row C2 (one ∷ []) ≡ rs = rw (eq-eqb (refusal one) 0 ok) (append-nil rs) in
-    let follow : May-follow C2 (j .image) (heard C2 before (opens held j)) (one ∷ []) = ((λ _. (refl, refl)), tt) in
-    let same = told-are j held g before (one ∷ []) follow ∙ ap (λ (qs : List ℕ). by-replies t at (j .image) qs) row in
+    let buffer : List ℕ = replicate (length rs) 0 in
+    let room : length rs ≤ length buffer = omega (arith, length-replicate {A = ℕ} (length rs) 0) in
+    let row = one-row j held g before rs buffer room in
+    let follow = one-follows j held g before rs buffer in
+    let same = told-are j held g before (one j held g before rs buffer ∷ []) follow ∙ ap (λ (qs : List ℕ). by-replies t (first-of (j .pages)) (j .image) qs) row in
     record {
-      calls = one ∷ [];
+      calls = one j held g before rs buffer ∷ [];
       follow = follow;
       own = rw (same, row) (own-there j held g rs b r (k .own));
-      ended = ap (λ (x : Told). x .outcome) same ∙ ap outcome-of (k .ends) ∙ Played-whole.programmed session-limits v at (j .image) (s .target) (b .flash) (opening-of j held g) (s .met) .ended;
+      ended = ap (λ (x : Told). x .outcome) same ∙ ap outcome-of (k .ends)
+          ∙ Theorem.programmed session-limits v (first-of (j .pages)) (j .image) (s .target) (b .flash) (opening-of j held g) (s .met) .ended;
     }

@@ -6,7 +6,8 @@ use borrow.Author.Needs.{needs}
 use Rattle.c2.specs.Code.Loop.{wrote}
 use Rattle.c2.proofs.Laws.Loop.{put-back}
 use Rattle.c2_opening.proofs.Laws.Follows.{bytes-all}
-use Rattle.c2.proofs.Laws.Advance.{refuses-record, refuses-image, refuses-room, accepts, lent-held, record-fits, record-replaced}
+use Rattle.c2.proofs.Laws.Advance.{refuses-record, refuses-image, refuses-room, accepts, record-fits, record-replaced}
+use Rattle.c2_calls.proofs.Laws.Claims.{lent-held}
 use Rattle.c2.proofs.advance.c2_advance.Statement.{statement}
 use Rattle.c2.proofs.advance.c2_advance.Tie as tie
 
@@ -27,7 +28,7 @@ same-length c = search needs
 
 returns : tie.Need-returns
 returns c =
-    refuses-record _ _ _ _ _ _ _ (sym (c .before .before .before .unpack .ensures) ∙ c .before .enum-told .given .1) (c .refused .ensures)
+    refuses-record _ _ _ _ _ _ (sym (c .before .before .before .unpack .ensures) ∙ c .before .enum-told .given .1) (c .refused .ensures)
 
 image-bytes-requires : tie.Need-image-bytes-requires
 image-bytes-requires c κs = search needs
@@ -40,7 +41,7 @@ same-length-2 c = search needs
 
 returns-2 : tie.Need-returns-2
 returns-2 c =
-    refuses-image _ _ _ _ _ _ _ _ (sym (c .before .before .before .before .before .before .before .unpack .ensures) ∙ c .before .before .before .before .before .s .given .1) (λ q. c .before .if1 .taken (q ∙ sym (c .before .before .image-bytes .ensures))) (c .refused2 .ensures)
+    refuses-image _ _ _ _ _ _ _ (sym (c .before .before .before .before .before .before .before .unpack .ensures) ∙ c .before .before .before .before .before .s .given .1) (λ q. c .before .if1 .taken (q ∙ sym (c .before .before .image-bytes .ensures))) (c .refused2 .ensures)
 
 refused-requires-3 : tie.Need-refused-requires-3
 refused-requires-3 c κs = search needs
@@ -50,7 +51,7 @@ same-length-3 c = search needs
 
 returns-3 : tie.Need-returns-3
 returns-3 c =
-    refuses-room _ _ _ _ _ _ _ _ (sym (c .before .before .before .before .before .before .before .before .unpack .ensures) ∙ c .before .before .before .before .before .before .s .given .1) (c .before .before .if1 .left ∙ c .before .before .before .image-bytes .ensures) (omega arith) (c .refused3 .ensures)
+    refuses-room _ _ _ _ _ _ _ (sym (c .before .before .before .before .before .before .before .before .unpack .ensures) ∙ c .before .before .before .before .before .before .s .given .1) (c .before .before .if1 .left ∙ c .before .before .before .image-bytes .ensures) (omega arith) (c .refused3 .ensures)
 
 sub-if3 : tie.Need-sub-if3
 sub-if3 c = search needs
@@ -63,7 +64,7 @@ same-length-4 c = search needs
 
 returns-4 : tie.Need-returns-4
 returns-4 c =
-    refuses-room _ _ _ _ _ _ _ _ (sym (c .before .before .before .before .before .before .before .before .before .unpack .ensures) ∙ c .before .before .before .before .before .before .before .s .given .1) (c .before .before .before .if1 .left ∙ c .before .before .before .before .image-bytes .ensures) (omega arith) (c .refused4 .ensures)
+    refuses-room _ _ _ _ _ _ _ (sym (c .before .before .before .before .before .before .before .before .before .unpack .ensures) ∙ c .before .before .before .before .before .before .before .s .given .1) (c .before .before .before .if1 .left ∙ c .before .before .before .before .image-bytes .ensures) (omega arith) (c .refused4 .ensures)
 
 sub-run : tie.Need-sub-run
 sub-run c = search needs
@@ -104,7 +105,7 @@ returns-5 c =
     let image = args .image .now in
     let session = c .before .before .before .before .before .before .before .before .before .before .before .before .before .before .before .before .before .before .s .given .0 .0 in
     let lent = lent-held _ image _ held (bytes-all image (λ i. c .before .before .before .before .before .before .before .before .before .before .before .before .before .before .before .before .before .before .before .before .before .before .before .before .shared-slice-known .given i .fits)) (c .before .before .before .before .before .before .before .before .before .before .before .before .before .before .if1 .left ∙ c .before .before .before .before .before .before .before .before .before .before .before .before .before .before .before .image-bytes .ensures) in
-    accepts _ image _ _ _ _ _ _ held lent (omega arith) _ _ _ _ (c .before .before .before .before .before .before .before .before .before .before .run .ensures .0) (c .before .before .before .before .before .before .before .before .before .before .run .ensures .1 .0) (c .answer .ensures)
+    accepts _ image _ _ _ _ _ held lent (omega arith) _ _ _ _ (c .before .before .before .before .before .before .before .before .before .before .run .ensures .0) (c .before .before .before .before .before .before .before .before .before .before .run .ensures .1 .0) (c .answer .ensures)
     (put-back (args .place) (args .steps .now) _ (wrote image session (args .replies .now)) _ (c .before .before .before .before .before .before .before .before .before .before .run .ensures .1 .0) (c .before .before .before .before .before .before .before .before .before .before .run .ensures .1 .1))
     (c .before .before .before .copy .ensures .1 ∙ record-replaced _ _ _ _ held (c .before .before .before .before .before .before .pack .ensures) _ refl)
 

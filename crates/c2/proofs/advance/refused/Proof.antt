@@ -1,5 +1,5 @@
 use mathlib.Core.Path.{refl}
-use Rattle.c2.specs.Calls.{refused-answer}
+use Rattle.c2_calls.specs.Calls.{refused-answer}
 use Rattle.c2.proofs.advance.refused.Statement.{statement}
 use Rattle.c2.proofs.advance.refused.Tie as tie
 

@@ -1,5 +1,4 @@
--- The target in C and the target of the definitions: replies, states and flash are the same for one that
--- exists.
+-- The target in C and the target of the definitions: replies, states and flash are the same for one that exists.
 use mathlib.Core.Path.{_≡_, refl, sym, ap, _∙_}
 use mathlib.Core.Bool.{Bool, true, false}
 use mathlib.Core.List.{List, [], _∷_}
@@ -25,13 +24,11 @@ use Rattle.c2_target_state.specs.declared.Seen.the-variants.{Held, Nothing}
 use Rattle.c2_target_state.specs.State.{state-of, target-of}
 use Rattle.c2_target_state.specs.Model.{no-target, held-answer, seen-answer}
 use Rattle.c2_target_state.proofs.Laws.Claims.{has-state, steps-alike}
-use Rattle.c2_target.specs.Steps.{left-by}
 use Rattle.c2_play.specs.Programmed.{Met}
 use Rattle.c2_target.proofs.Laws.Known.{Lent}
 use Rattle.c2_play.proofs.Laws.LeftBy.{Lasts, answer-lasts}
-use Rattle.c2_calls.specs.Target.{own-replies, state-after, flash-after, Ready}
-use Rattle.c2_play.specs.Playing
-use Rattle.c2_target.specs.Steps
+use Rattle.c2_target.specs.Steps.{own-replies, left-by}
+use Rattle.c2_whole.specs.Whole.{Bench, reply, stepped, replies, given, Ready}
 
 -- a step that is not refused is one of a target that exists
 accepts-known : (t : Settings) (y : Target) (f ds : List ℕ) → refusal (setup t ds) y f (code off) ≡ 0 → known (setup t ds) y f ≡ true
@@ -46,32 +43,32 @@ unfolding no-target
 no-target-refuses t e =
     by-test {A = ⊥} (eqb (settings-refusal t) 0) (λ p. let z : no-point ≡ 0 = rw p at e in omega arith) (λ p. eqb-false (settings-refusal t) 0 p (rw p at e))
 
--- the target of a state that a session may meet
-pub record Stands (t : Settings) (ds f : List ℕ) (s : State) : Type 0 where
+-- The target of a bench that a session may meet.
+pub record Stands (t : Settings) (b : Bench) : Type 0 where
   pub target : Target
-  pub state : s ≡ state-of target
-  pub met : Met session-limits (setup t ds) target f
+  pub state : b .target ≡ state-of target
+  pub met : Met session-limits (setup t (b .delays)) target (b .flash)
 
 bit-clear : (b : Bool) → bit b ≡ 0 → b ≡ false
 unfolding bit
 bit-clear true e = absurd (omega arith)
 bit-clear false e = refl
 
-pub stands : (t : Settings) (ds f : List ℕ) (s : State) → Ready t ds f s → Stands t ds f s
+pub stands : (t : Settings) (b : Bench) → Ready t b → Stands t b
 unfolding seen-answer held-answer answer state-of
-stands t ds f s r = go (target-of s) refl (r .steps)
+stands t b r = go (target-of (b .target)) refl (r .steps)
   where
-    go : (x : Seen) → target-of s ≡ x → seen-answer t x s f ds (code off) .number ≡ 0 → Stands t ds f s
+    go : (x : Seen) → target-of (b .target) ≡ x → seen-answer t x (b .target) (b .flash) (b .delays) (code off) .number ≡ 0 → Stands t b
     go (Held y) h e =
-        let same : s ≡ state-of y = sym (has-state y s h) in
-        let ok : refusal (setup t ds) y f (code off) ≡ 0 =
-        by-test (eqb (refusal (setup t ds) y f (code off)) 0) (λ p. eqb-true _ 0 p) (λ p. absurd (eqb-false _ 0 p (rw (p, p) at e))) in
+        let same : b .target ≡ state-of y = sym (has-state y (b .target) h) in
+        let ok : refusal (setup t (b .delays)) y (b .flash) (code off) ≡ 0 =
+        by-test (eqb (refusal (setup t (b .delays)) y (b .flash) (code off)) 0) (λ p. eqb-true _ 0 p) (λ p. absurd (eqb-false _ 0 p (rw (p, p) at e))) in
         record {
           target = y;
           state = same;
           met =
               record {
-                state = accepts-known t y f ds ok;
+                state = accepts-known t y (b .flash) (b .delays) ok;
                 unmarked = bit-clear (y .collision) (sym (ap (λ (z : State). z .collision) same) ∙ r .unmarked);
                 flash = r .flash;
                 delays = r .delays;
@@ -82,8 +79,12 @@ stands t ds f s r = go (target-of s) refl (r .steps)
         }
     go Nothing h e = absurd (no-target-refuses t e)
 
+-- the bench of a target
+abbrev pub bench : (delays : List ℕ) → Target → (flash : List ℕ) → Bench
+bench ds y f = record { target = state-of y; flash = f; delays = ds }
+
 -- a target that a session may meet is ready, by its state
-pub ready : (t : Settings) (ds f : List ℕ) (y : Target) → settings-refusal t ≡ 0 → Met session-limits (setup t ds) y f → Ready t ds f (state-of y)
+pub ready : (t : Settings) (ds f : List ℕ) (y : Target) → settings-refusal t ≡ 0 → Met session-limits (setup t ds) y f → Ready t (bench ds y f)
 unfolding answer refusal is-step code bit state-of
 ready t ds f y ok m =
     let a = steps-alike t y f ds (code off) ok (m .state) .0 in
@@ -96,24 +97,19 @@ ready t ds f y ok m =
     }
 
 module _ (t : Settings) (ds : List ℕ) (ok : settings-refusal t ≡ 0) (lent : Lent (setup t ds)) where
-  -- steps in a row, for a target that exists
-  pub replies-alike : (xs : List ℕ) (y : Target) (f : List ℕ) → Lasts (setup t ds) y f → own-replies t ds (state-of y) f xs ≡ Steps.own-replies (setup t ds) y f xs
-  unfolding own-replies Steps.own-replies
+  -- steps in a row, for a target that exists, give and leave the same in C and by the definitions
+  pub replies-alike : (xs : List ℕ) (y : Target) (f : List ℕ) → Lasts (setup t ds) y f → replies t (bench ds y f) xs ≡ own-replies (setup t ds) y f xs
+  unfolding replies own-replies
   replies-alike [] y f k = refl
   replies-alike (x ∷ xs) y f k =
       let a = steps-alike t y f ds x ok (k .exists) in
-      rw (a .0, a .1) (ap (λ (rs : List ℕ). answer (setup t ds) y f x .reply ∷ rs) (replies-alike xs _ _ (answer-lasts (setup t ds) lent y f x k)))
+      ap (λ (n : ℕ). n ∷ replies t (stepped t (bench ds y f) x) xs) (ap (λ (z : ModelReplied). z .reply) (a .0))
+      ∙ rw (a .0, a .1) (ap (λ (rs : List ℕ). answer (setup t ds) y f x .reply ∷ rs) (replies-alike xs _ _ (answer-lasts (setup t ds) lent y f x k)))
 
-  pub state-alike : (xs : List ℕ) (y : Target) (f : List ℕ) → Lasts (setup t ds) y f → state-after t ds (state-of y) f xs ≡ state-of (left-by (setup t ds) y f xs .target)
-  unfolding state-after left-by
-  state-alike [] y f k = refl
-  state-alike (x ∷ xs) y f k =
+  pub given-alike : (xs : List ℕ) (y : Target) (f : List ℕ) → Lasts (setup t ds) y f
+      → given t (bench ds y f) xs ≡ bench ds (left-by (setup t ds) y f xs .target) (left-by (setup t ds) y f xs .flash)
+  unfolding given left-by
+  given-alike [] y f k = refl
+  given-alike (x ∷ xs) y f k =
       let a = steps-alike t y f ds x ok (k .exists) in
-      rw (a .0, a .1) (state-alike xs _ _ (answer-lasts (setup t ds) lent y f x k))
-
-  pub flash-alike : (xs : List ℕ) (y : Target) (f : List ℕ) → Lasts (setup t ds) y f → flash-after t ds (state-of y) f xs ≡ left-by (setup t ds) y f xs .flash
-  unfolding flash-after left-by
-  flash-alike [] y f k = refl
-  flash-alike (x ∷ xs) y f k =
-      let a = steps-alike t y f ds x ok (k .exists) in
-      rw (a .0, a .1) (flash-alike xs _ _ (answer-lasts (setup t ds) lent y f x k))
+      rw (a .0, a .1) (given-alike xs _ _ (answer-lasts (setup t ds) lent y f x k))
