@@ -1,6 +1,6 @@
 #!/bin/sh
-# Compares every place that has the numbers that come back with the one list, docs/NUMBERS.md. A difference is told
-# with its place, < as in the list and > as there; the exit status is then 1.
+# Compares every place that has the numbers that come back with the one list, docs/NUMBERS.md. A difference is
+# told with its place, < as in the list and > as there; the exit status is then 1.
 
 export LC_ALL=C
 list=docs/NUMBERS.md

@@ -1,6 +1,7 @@
 #!/bin/sh
-# Runs rt with these arguments and shows one line a crate, k of n. All that rt says is kept in target/rt.log; if it
-# fails, the end of that is shown. The exit status is rt's.
+# Runs rt with these arguments and shows one line for each crate that it proves, k of n; those unchanged since
+# the last time are counted and not shown. All that rt says is kept in target/rt.log; if it fails, the end of
+# that is shown. The exit status is rt's.
 
 log=target/rt.log
 mkdir -p target
@@ -31,13 +32,19 @@ count() {
         }' crates.txt
 }
 
+show() {
+    printf '%2d of %d  %s\n' "$done" "$all" "$1"
+}
+
 all=$(count "$@")
 { rt "$@" </dev/null 2>&1; echo "rt: exit status $?"; } | tee $log | {
     done=0
     while IFS= read -r line; do
         case $line in
         "rt: exit status "*) status=${line##* } ;;
-        "rt: "*" proved ("* | "rt: target/"*) done=$((done + 1)) && printf "%2d of %d  %s\n" $done "$all" "${line#rt: }" ;;
+        "rt: "*" proved (unchanged"*) done=$((done + 1)) ;;
+        "rt: "*" proved ("*) done=$((done + 1)) && show "${line#rt: }" ;;
+        "rt: target/"*) done=$((done + 1)) && line=${line#rt: } && show "${line%% *}" ;;
         esac
     done
     test "$status" = 0 || tail -n 20 $log >&2
