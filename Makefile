@@ -27,7 +27,7 @@ FRAMES := RESET Data_Read_0x04 RESET Address_Write_0x02 Data_Write_0x02 Data_Wri
 STRICT := -Wall -Wextra -Wpedantic -Werror -Iinclude
 HEADERS := $(wildcard include/*.h)
 
-.PHONY: help library install flash test below compare compare-long numbers examples headers installed waves bench prove clean
+.PHONY: help library install flash test below compare compare-long numbers statements examples headers installed waves bench prove clean
 .NOTPARALLEL:
 
 help:
@@ -66,7 +66,7 @@ test:
 	@{ rt ci; echo $$?; } | { n=0; \
 	    while IFS= read -r line; do [ $$n -lt 2 ] || printf '%s\n' "$$a"; a=$$b b=$$line n=$$((n + 1)); done; \
 	    if [ "$$b" = 0 ]; then echo "$$a" >target/count; else echo "$$a"; exit 1; fi; }
-	@$(MAKE) --no-print-directory compare numbers examples
+	@$(MAKE) --no-print-directory compare numbers statements examples
 	@cat target/count
 
 # Everything below the program and the libraries, level by level.
@@ -82,6 +82,10 @@ compare-long: below $(FLASH) $(LIBRARIES)
 # The numbers that come back stand once, in docs/NUMBERS.md.
 numbers:
 	@sh tools/numbers.sh
+
+# Names in docs/STATEMENTS.md exist, and its map is whole.
+statements:
+	@sh tools/statements.sh
 
 # The first one is the program of README.md, word for word below its first line. The waveform has a header,
 # the session's first frames, and in so many steps a falling edge of C2CK for each but 5 and 6. The picture is
