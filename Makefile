@@ -40,6 +40,7 @@ help:
 	@echo "make compare       the comparison with a second implementation in Rust, half a minute"
 	@echo "make compare-long  the comparison over many more cases"
 	@echo "make numbers       compare every list of the numbers that come back with docs/NUMBERS.md"
+	@echo "make statements    compare the names in docs/STATEMENTS.md with the crates"
 	@echo "make bench         time the library beside plain Rust, some minutes; ARGS=--quick for less"
 	@echo "make prove         prove what has changed since the last time"
 	@echo "make clean         remove everything that was built"
