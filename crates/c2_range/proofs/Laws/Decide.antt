@@ -15,13 +15,6 @@ use Rattle.c2_acts.specs.Code.Acts.{task-of, acts-in}
 use Rattle.c2_range.specs.Range.{pages-in, blocks-in, strobes-in, reads-in, place-in-range, running-in-range, point-in-range, in-range}
 use Rattle.c2_range.specs.Code.Bounds.{below-bounds, inside}
 
--- a power of two of up to eight bits fits 64 bits
-pub power-fits : (n : ℕ) → n ≤ 8 → (1 * 2 ^ n) % 18446744073709551616 ≡ 2 ^ n
-power-fits n h =
-    let b = pow-le-pow-right {n = 2} (omega arith) {i = n} {j = 8} h in
-    let e : 1 * 2 ^ n ≡ 2 ^ n = omega arith in
-    rw e (mod-eq-of-lt (omega (arith, b)))
-
 -- what the tests of a place decide
 module _ (n m k q c v : ℕ) where
   pub strobe-past : n ≤ q → false ≡ below-bounds n m k q c v

@@ -32,7 +32,8 @@ hearing-is : (w n v : ℕ) → n < w → v < 2 ^ n → hearing w n v ≡ true
 unfolding hearing
 hearing-is w n v h g = and-true (lt-ltb n w h) (lt-ltb v (2 ^ n) g)
 
-hearing-says : (w n v : ℕ) → hearing w n v ≡ true → (n < w) × (v < 2 ^ n)
+-- bits heard are fewer than the field has, and their value fits them
+pub hearing-says : (w n v : ℕ) → hearing w n v ≡ true → (n < w) × (v < 2 ^ n)
 unfolding hearing
 hearing-says w n v e = let h = both (ltb n w) (ltb v (2 ^ n)) e in (ltb-true n w (h .0), ltb-true v (2 ^ n) (h .1))
 

@@ -17,18 +17,17 @@ use Rattle.c2_target.specs.declared.Link.{Link}
 use Rattle.c2_target.specs.declared.Target.{Target}
 use Rattle.c2_target.specs.Delays.{Setup}
 use Rattle.c2_target.specs.Known.{hearing, is-byte, known-point, is-count, known-block, known-command, known-output, known-link, known}
+use Rattle.c2_target.proofs.Laws.KnownPoint.{hearing-says}
+use Rattle.c2_target.proofs.Laws.Known.{Exists, known-says}
 use Rattle.c2_target_step.specs.Code.StepOn.{at-stop, known-on}
 use Rattle.c2_target_step.specs.Code.Parts.{known-device, known-behind}
 
 -- fewer than eight bits heard, and their value is a byte
-pub hearing-says : (w n v : ℕ) → w ≤ 8 → hearing w n v ≡ true → (n < 8) × (v < 256)
-unfolding hearing
-hearing-says w n v k e =
-    let h = both (ltb n w) (ltb v (2 ^ n)) e in
-    let p : n < w = ltb-true n w (h .0) in
-    let q : v < 2 ^ n = ltb-true v (2 ^ n) (h .1) in
-    let r : 2 ^ n ≤ 128 = weight-small n (omega arith) in
-    (omega arith, omega arith)
+pub hearing-bytes : (w n v : ℕ) → w ≤ 8 → hearing w n v ≡ true → (n < 8) × (v < 256)
+hearing-bytes w n v k e =
+    let h = hearing-says w n v e in
+    let r : 2 ^ n ≤ 128 = weight-small n (omega (arith, h .0)) in
+    (omega (arith, h .0), omega (arith, h .1))
 
 pub byte-says : (b : ℕ) → is-byte b ≡ true → b < 256
 unfolding is-byte
@@ -53,30 +52,15 @@ pub link-output : (count end : ℕ) (l : Link) → known-link count end l ≡ tr
 unfolding known-link
 link-output count end l e = both (known-output end (l .output)) _ (both (known-command count end (l .command)) _ e .1) .0
 
--- what a state that exists has
-pub record Exists (u : Setup) (t : Target) (f : List ℕ) : Type 0 where
-  pub flash : length f ≡ u .settings .size * u .settings .count
-  pub point : known-point (u .wait) (t .point) ≡ true
-  pub link : known-link (u .settings .count) (length f) (t .device .link) ≡ true
-
-pub exists : (u : Setup) (t : Target) (f : List ℕ) → known u t f ≡ true → Exists u t f
-unfolding known
-exists u t f k =
-    let d = t .device in
-    let a = both (eqb (length f) (u .settings .size * u .settings .count)) _ k in
-    let b = both (known-point (u .wait) (t .point)) _ (a .1) in
-    let c = both (is-byte (d .address)) _ (b .1) in
-    record { flash = eqb-true (length f) (u .settings .size * u .settings .count) (a .0); point = b .0; link = both (leb (d .keys) 3) _ (c .1) .1 }
-
 -- at a STOP all of the state has been tested, so it exists
 pub stop-exists : (u : Setup) (t : Target) (f : List ℕ) (e : Effect) → t .point ≡ Stop e → known-on u t f ≡ true → Exists u t f
 unfolding known-on
-stop-exists u t f e p k = let a : at-stop (t .point) ≡ true = ap (λ (y : Point). at-stop y) p in exists u t f (rw a at k)
+stop-exists u t f e p k = let a : at-stop (t .point) ≡ true = ap (λ (y : Point). at-stop y) p in known-says u t f (rw a at k)
 
 -- a state that exists passes the test of a state that is handed on, at every point
 pub exists-on : (u : Setup) (t : Target) (f : List ℕ) → known u t f ≡ true → known-on u t f ≡ true
 unfolding known-on
-exists-on u t f k = by-test (at-stop (t .point)) (λ a. rw a k) (λ a. rw a (exists u t f k .point))
+exists-on u t f k = by-test (at-stop (t .point)) (λ a. rw a k) (λ a. rw a (known-says u t f k .point))
 
 -- the test of a state that is handed on, by its parts
 pub on-behind : (u : Setup) (t : Target) (f : List ℕ) → known-point (u .wait) (t .point) ≡ true → at-stop (t .point) ≡ true
@@ -101,10 +85,3 @@ room a n end h =
 
 pub no-room : (a n end : ℕ) → end < a → false ≡ leb (a + n) end
 no-room a n end h = sym (lt-leb (a + n) end (omega arith))
-
--- a power of two of up to eight bits fits 64 bits
-pub power-fits : (n : ℕ) → n ≤ 8 → (1 * 2 ^ n) % 18446744073709551616 ≡ 2 ^ n
-power-fits n h =
-    let b = pow-le-pow-right {n = 2} (omega arith) {i = n} {j = 8} h in
-    let e : 1 * 2 ^ n ≡ 2 ^ n = omega arith in
-    rw e (mod-eq-of-lt (omega (arith, b)))

@@ -1,6 +1,6 @@
 -- `c2_range::bounds::bits_limit` meets its contract: by the laws of Decide.
 use borrow.Author.Needs.{needs}
-use Rattle.c2_range.proofs.Laws.Decide.{power-fits}
+use Rattle.laws.proofs.Products.{power-fits}
 use Rattle.c2_range.proofs.bounds.bits_limit.Statement.{statement}
 use Rattle.c2_range.proofs.bounds.bits_limit.Tie as tie
 

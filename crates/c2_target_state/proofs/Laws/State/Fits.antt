@@ -28,7 +28,7 @@ use Rattle.c2_target.specs.Interface.{link, device}
 use Rattle.c2_target.specs.Strobes.{target}
 use Rattle.c2_target.specs.Known.{hearing, is-byte, known-effect, after-its-wait, is-sent, known-point, is-count, known-block, known-command, known-output, known-link, known}
 use Rattle.c2_target_state.specs.State.{effect-code, effect-byte, point-fields, command-fields, output-fields, state-of, effect-of, later-point, state-point, command-of, output-of, target-read}
-use Rattle.c2_target_step.proofs.Laws.Known.{hearing-says, byte-says, block-says}
+use Rattle.c2_target_step.proofs.Laws.Known.{hearing-bytes, byte-says, block-says}
 
 bit-back : (b : Bool) → eqb (bit b) 1 ≡ b
 unfolding bit
@@ -90,7 +90,7 @@ sent-effect n v CountDown k = let h = sent-byte n v k in record { left = h .0; v
 sent-effect n v Read k = let h = sent-byte n v k in record { left = h .0; value = h .1; effect = refl }
 
 heard-back : (w n v : ℕ) → w ≤ 8 → hearing w n v ≡ true → (n % 256 ≡ n) × (v % 256 ≡ v)
-heard-back w n v h k = let g = hearing-says w n v h k in (mod-eq-of-lt (omega arith), mod-eq-of-lt (g .1))
+heard-back w n v h k = let g = hearing-bytes w n v h k in (mod-eq-of-lt (omega arith), mod-eq-of-lt (g .1))
 
 -- the point is read back, whatever stands beside it
 module _ (place : ℕ) (mark : Bool) (d : Device) where

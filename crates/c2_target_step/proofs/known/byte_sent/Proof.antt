@@ -1,7 +1,7 @@
 use borrow.Author.Tests.{le-leb, lt-leb}
 use borrow.Author.Needs.{needs}
 use Rattle.c2_target.specs.Known.{is-sent}
-use Rattle.c2_target_step.proofs.Laws.Known.{power-fits}
+use Rattle.laws.proofs.Products.{power-fits}
 use Rattle.c2_target_step.proofs.known.byte_sent.Statement.{statement}
 use Rattle.c2_target_step.proofs.known.byte_sent.Tie as tie
 

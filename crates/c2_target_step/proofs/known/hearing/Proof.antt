@@ -2,7 +2,7 @@ use native.Mathlib.Omega.{arith}
 use borrow.Author.Tests.{lt-ltb, le-ltb}
 use borrow.Author.Needs.{needs}
 use Rattle.c2_target.specs.Known.{hearing}
-use Rattle.c2_target_step.proofs.Laws.Known.{power-fits}
+use Rattle.laws.proofs.Products.{power-fits}
 use Rattle.c2_target_step.proofs.known.hearing.Statement.{statement}
 use Rattle.c2_target_step.proofs.known.hearing.Tie as tie
 

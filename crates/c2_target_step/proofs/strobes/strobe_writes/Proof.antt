@@ -11,7 +11,7 @@ effect-writes-requires : tie.Need-effect-writes-requires
 unfolding known-point
 effect-writes-requires c κs =
     let w = stop-exists _ _ _ _ (c .before .before .point .given .1) (c .before .before .before .before .before .before .pre) in
-    (w .link, (w .flash, rw (c .before .before .point .given .1) at (w .point)))
+    (w .device .link, (w .flash, rw (c .before .before .point .given .1) at (w .point)))
 
 same-length : tie.Need-same-length
 same-length c = search needs

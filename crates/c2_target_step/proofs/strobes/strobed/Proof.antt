@@ -3,7 +3,7 @@ use borrow.Author.Needs.{needs}
 use Rattle.c2_target.specs.Strobes.{strobed-at}
 use Rattle.c2_target.specs.Known.{known-point}
 use Rattle.c2_target_step.specs.Code.StepOn.{known-on}
-use Rattle.c2_target_step.proofs.Laws.Known.{hearing-says, stop-exists}
+use Rattle.c2_target_step.proofs.Laws.Known.{hearing-bytes, stop-exists}
 use Rattle.c2_target_step.proofs.strobes.strobed.Statement.{statement}
 use Rattle.c2_target_step.proofs.strobes.strobed.Tie as tie
 
@@ -18,35 +18,35 @@ enum-known-point c = search needs
 
 hears-ins-requires : tie.Need-hears-ins-requires
 unfolding known-point known-on
-hears-ins-requires c κs = hearing-says 2 _ _ (omega arith) (rw (c .before .point .given .1) at (c .before .before .before .before .before .pre))
+hears-ins-requires c κs = hearing-bytes 2 _ _ (omega arith) (rw (c .before .point .given .1) at (c .before .before .before .before .before .pre))
 
 enum-known-point-2 : tie.Need-enum-known-point-2
 enum-known-point-2 c = search needs
 
 hears-write-length-requires : tie.Need-hears-write-length-requires
 unfolding known-point known-on
-hears-write-length-requires c κs = hearing-says 2 _ _ (omega arith) (rw (c .before .point2 .given .1) at (c .before .before .before .before .before .pre))
+hears-write-length-requires c κs = hearing-bytes 2 _ _ (omega arith) (rw (c .before .point2 .given .1) at (c .before .before .before .before .before .pre))
 
 enum-known-point-3 : tie.Need-enum-known-point-3
 enum-known-point-3 c = search needs
 
 hears-read-length-requires : tie.Need-hears-read-length-requires
 unfolding known-point known-on
-hears-read-length-requires c κs = hearing-says 2 _ _ (omega arith) (rw (c .before .point3 .given .1) at (c .before .before .before .before .before .pre))
+hears-read-length-requires c κs = hearing-bytes 2 _ _ (omega arith) (rw (c .before .point3 .given .1) at (c .before .before .before .before .before .pre))
 
 enum-known-point-4 : tie.Need-enum-known-point-4
 enum-known-point-4 c = search needs
 
 hears-address-requires : tie.Need-hears-address-requires
 unfolding known-point known-on
-hears-address-requires c κs = hearing-says 8 _ _ (omega arith) (rw (c .before .point4 .given .1) at (c .before .before .before .before .before .pre))
+hears-address-requires c κs = hearing-bytes 8 _ _ (omega arith) (rw (c .before .point4 .given .1) at (c .before .before .before .before .before .pre))
 
 enum-known-point-5 : tie.Need-enum-known-point-5
 enum-known-point-5 c = search needs
 
 hears-data-requires : tie.Need-hears-data-requires
 unfolding known-point known-on
-hears-data-requires c κs = hearing-says 8 _ _ (omega arith) (rw (c .before .point5 .given .1) at (c .before .before .before .before .before .pre))
+hears-data-requires c κs = hearing-bytes 8 _ _ (omega arith) (rw (c .before .point5 .given .1) at (c .before .before .before .before .before .pre))
 
 enum-known-point-6 : tie.Need-enum-known-point-6
 enum-known-point-6 c = search needs
@@ -82,7 +82,7 @@ stops-requires : tie.Need-stops-requires
 unfolding known-point
 stops-requires c κs =
     let w = stop-exists _ _ _ _ (c .before .point10 .given .1) (c .before .before .before .before .before .pre) in
-    (w .link, rw (c .before .point10 .given .1) at (w .point))
+    (w .device .link, rw (c .before .point10 .given .1) at (w .point))
 
 returns : tie.Need-returns
 unfolding strobed-at
