@@ -5,4 +5,5 @@ pub mod Strobes
 pub mod Known
 pub mod Target
 pub mod Steps
+pub mod Claims
 pub mod Corners

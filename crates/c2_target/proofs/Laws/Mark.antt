@@ -1,7 +1,7 @@
 -- A mark stays for good: a target without one had none before.
-use mathlib.Core.Path.{_≡_, sym}
+use mathlib.Core.Path.{_≡_, sym, _∙_}
 use mathlib.Core.Bool.{Bool, true, false, _||_}
-use mathlib.Core.List.{List}
+use mathlib.Core.List.{List, [], _∷_}
 use Prim.Native.Nat.{ℕ}
 use lib.Dec.{eqb}
 use Rattle.laws.proofs.Tests.{by-test}
@@ -11,7 +11,9 @@ use Rattle.c2_target.specs.declared.Point.the-variants.{Start, Ins, Writ
 use Rattle.c2_target.specs.declared.Target.{Target}
 use Rattle.c2_target.specs.Delays.{Setup}
 use Rattle.c2_target.specs.Strobes.{marked, strobed-at}
-use Rattle.c2_target.specs.Target.{after-reset, after-pause, step-coded, stepped, refusal, answer}
+use Rattle.c2_target.specs.Target.{after-reset, after-pause, step-coded, stepped, refusal, answer, flash-after}
+use Rattle.c2_target.specs.Steps.{left-by}
+use Rattle.c2_target.specs.Claims.{Mark-stays}
 use Rattle.c2_target.proofs.Laws.KnownPoint.{not-both}
 
 neither : (a b : Bool) → (a || b) ≡ false → b ≡ false
@@ -43,3 +45,12 @@ step-unmarked u t f off h = h
 pub answer-unmarked : (u : Setup) (t : Target) (f : List ℕ) (x : ℕ) → answer u t f x .target .collision ≡ false → t .collision ≡ false
 unfolding answer
 answer-unmarked u t f x h = by-test (eqb (refusal u t f x) 0) (λ e. step-unmarked u t f (step-coded x) (rw e at h)) (λ e. rw e at h)
+
+answer-marked : (u : Setup) (t : Target) (f : List ℕ) (x : ℕ) → t .collision ≡ true → answer u t f x .target .collision ≡ true
+answer-marked u t f x h =
+    by-test (answer u t f x .target .collision) (λ e. e) (λ e. absurd (not-both (sym (answer-unmarked u t f x e) ∙ h)))
+
+pub mark-stays : Mark-stays
+unfolding left-by
+mark-stays u t f [] h = h
+mark-stays u t f (x ∷ xs) h = mark-stays u (answer u t f x .target) (flash-after u t f x) xs (answer-marked u t f x h)
