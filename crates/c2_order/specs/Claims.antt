@@ -12,7 +12,7 @@ use Rattle.settings.specs.declared.Settings.{Settings}
 use Rattle.settings.specs.Opening.{opening-refusal}
 use Rattle.c2_order.specs.Order.{session-order}
 use Rattle.c2_order.specs.Conversation.{Limits, Positive, session-limits, conversation}
-use Rattle.c2_order.specs.Point.{Point, ended, begin, next, reached, left-to-say}
+use Rattle.c2_order.specs.Point.{Point, ended, Exists-in, begin, reached, left-to-say}
 use Rattle.c2_order.specs.Figure.{figure}
 use Rattle.exchange.specs.Exchange as Shared
 
@@ -35,6 +35,11 @@ abbrev pub Points-follow : Type 0
 Points-follow = (l : Limits) (s : Settings) (first : ℕ) (image : List ℕ) → Positive l → Opening s first image → (rs : List ℕ)
     → left-to-say l (point-after l s first image rs) ≡ fed (exchange-of l s first image) rs
 
+-- after any replies the point exists in the session's order
+abbrev pub Points-exist : Type 0
+Points-exist = (l : Limits) (s : Settings) (first : ℕ) (image : List ℕ) → Positive l → Opening s first image → (rs : List ℕ)
+    → Exists-in l (session-order s first image) (point-after l s first image rs)
+
 -- feeding replies in parts is feeding them in a row: steps joined, replies taken summed, and the exchange
 -- that is left
 pub record In-parts (e : Exchange) (rs qs : List ℕ) : Type 0 where
@@ -50,25 +55,31 @@ abbrev pub Driven-by-master : Type 0
 Driven-by-master = (l : Limits) (s : Settings) (first : ℕ) (image : List ℕ) → Opening s first image → (rs : List ℕ)
     → own (fed (exchange-of l s first image) rs) ≡ true
 
+-- The same holds from any point of the order on.
+abbrev pub Driven-on : Type 0
+Driven-on = (l : Limits) (s : Settings) (first : ℕ) (image : List ℕ) → Opening s first image
+    → (x : Point) → Exists-in l (session-order s first image) x → (rs : List ℕ) → own (fed (left-to-say l x) rs) ≡ true
+
 -- the figure is 0 exactly once the session has ended
 pub record Zero-when-ended (l : Limits) (x : Point) : Type 0 where
   pub ended-zero : (o : Outcome) → x ≡ ended o → figure l x ≡ 0
   pub zero-ended : figure l x ≡ 0 → (o : Outcome) × (x ≡ ended o)
 
+-- At every point of the order, reached or not, the figure is 0 exactly if the session has ended.
 abbrev pub Figure-zero : Type 0
-Figure-zero = (l : Limits) (s : Settings) (first : ℕ) (image : List ℕ) → Positive l → Opening s first image → (rs : List ℕ)
-    → Zero-when-ended l (point-after l s first image rs)
+Figure-zero = (l : Limits) (s : Settings) (first : ℕ) (image : List ℕ) → Positive l → Opening s first image
+    → (x : Point) → Exists-in l (session-order s first image) x → Zero-when-ended l x
 
--- Each reply taken lowers the figure by at least 1.
+-- From every point of the order on, each reply taken lowers the figure by at least 1.
 abbrev pub Figure-falls : Type 0
-Figure-falls = (l : Limits) (s : Settings) (first : ℕ) (image : List ℕ) → Positive l → Opening s first image → (rs : List ℕ) (r : ℕ)
-    → 0 < figure l (point-after l s first image rs)
-    → figure l (next l (point-after l s first image rs) r) < figure l (point-after l s first image rs)
+Figure-falls = (l : Limits) (s : Settings) (first : ℕ) (image : List ℕ) → Positive l → Opening s first image
+    → (x : Point) → Exists-in l (session-order s first image) x
+    → (rs : List ℕ) → figure l (reached l x rs) + taken (left-to-say l x) rs ≤ figure l x
 
--- No replies whatever take more steps than the figure.
+-- From every point of the order on, no replies whatever take more steps than the figure.
 abbrev pub Figure-bounds : Type 0
-Figure-bounds = (l : Limits) (s : Settings) (first : ℕ) (image : List ℕ) → Positive l → Opening s first image → (rs qs : List ℕ)
-    → taken (left-to-say l (point-after l s first image rs)) qs ≤ figure l (point-after l s first image rs)
+Figure-bounds = (l : Limits) (s : Settings) (first : ℕ) (image : List ℕ) → Positive l → Opening s first image
+    → (x : Point) → Exists-in l (session-order s first image) x → (rs : List ℕ) → taken (left-to-say l x) rs ≤ figure l x
 
 -- The figure at the start is 152 + k × (18,648 + 2 × B × 813,784) for k pages of B blocks.
 abbrev pub Figure-starts : Type 0

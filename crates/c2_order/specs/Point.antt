@@ -1,13 +1,16 @@
 -- The point that a session has reached in its order, and what a reply makes of it (document 01, "Settings and
 -- session"): ID, status, compare and poll are judged on the reply to STOP, WAIT and bad replies at once.
+use mathlib.Core.Path.{_≡_}
 use mathlib.Core.Bool.{true, false, cond}
-use mathlib.Core.List.{List, [], _∷_}
-use Prim.Native.Nat.{ℕ, zero, suc, _+_, _-_}
+use mathlib.Core.List.{List, [], _∷_, _++_}
+use mathlib.Core.Logic.{_⊎_}
+use Prim.Native.Nat.{ℕ, zero, suc, _+_, _-_, _^_, _<_}
 use lib.Dec.{ltb, eqb}
+use lib.ListN.{length, take}
 use Rattle.numbers.specs.Numbers.{done, bad-reply, wait-limit-reached, poll-limit-reached}
 use Rattle.c2_wire.specs.Exchange.{Exchange, Outcome, outcome}
 use Rattle.c2_wire.specs.Frames.{Strobe, frame}
-use Rattle.c2_wire.specs.Place.{place, followed, remaining}
+use Rattle.c2_wire.specs.Place.{place, strobe-at, samples, count-limit, followed, remaining}
 use Rattle.c2_wire.specs.declared.Frame.the-variants.{AddressRead, DataRead}
 use Rattle.c2_wire.specs.declared.Place.{Place}
 use Rattle.c2_wire.specs.declared.Moved.{Moved}
@@ -27,6 +30,30 @@ unfoldable pub strobes-of : Act → List Strobe
 strobes-of (send ss) = ss
 strobes-of (poll ok) = frame AddressRead 0
 strobes-of (expect x o) = frame DataRead 0
+
+-- the reads that an act counts: those of a poll
+unfoldable pub reads-of : Limits → Act → ℕ
+reads-of l (send ss) = 1
+reads-of l (poll ok) = l .reads
+reads-of l (expect x o) = 1
+
+-- A point stands in an order: the act that is begun, with the acts before it and after it, is the order; its
+-- place is one of that act's frame, with zeros seen in a WAIT below its limit, unsatisfied reads below
+-- theirs, other counts 0, and bits not yet sampled 0.
+pub record Stands (l : Limits) (order : List Act) (x : Point) : Type 0 where
+  pub before : List Act
+  pub act : Act
+  pub later : List Act
+  pub place : Place
+  pub here : x ≡ running act later place
+  pub whole : before ++ act ∷ later ≡ order
+  pub strobe : place .strobe < length (strobes-of act)
+  pub count : place .count < count-limit (l .wait) (reads-of l act) (strobe-at (strobes-of act) (place .strobe))
+  pub bits : place .bits < 2 ^ samples (take (place .strobe) (strobes-of act))
+
+-- a point exists in an order: it stands there, or the session has ended
+abbrev pub Exists-in : Limits → List Act → Point → Type 0
+Exists-in l order x = Stands l order x ⊎ ((o : Outcome) × (x ≡ ended o))
 
 -- the point at the first strobe of the first of these acts; after the last act the session is done
 unfoldable pub begin : List Act → Point

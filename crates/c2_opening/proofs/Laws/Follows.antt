@@ -12,8 +12,8 @@ use Rattle.c2_wire.specs.Field.{Field}
 use Rattle.c2_wire.specs.Exchange.{Exchange, strobe, ask, at, outcome, fed, outcome-of}
 use Rattle.c2_wire.proofs.Laws.Place.{remaining-asks}
 use Rattle.c2_order.specs.Conversation.{session-limits}
-use Rattle.c2_order.specs.Point.{left-to-say, follow-up, strobes-of}
-use Rattle.c2_order.proofs.Laws.Valid.{reads-of, Valid}
+use Rattle.c2_order.specs.Point.{left-to-say, follow-up, strobes-of, reads-of}
+use Rattle.c2_order.proofs.Laws.Valid.{Valid}
 use Rattle.c2_session.specs.declared.Point.the-variants.{Running, Ended}
 use Rattle.c2_session.specs.declared.Session.{Session}
 use Rattle.c2_session.specs.Code.Advance.{point-advanced, advanced}

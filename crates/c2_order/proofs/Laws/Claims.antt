@@ -1,26 +1,31 @@
 -- The claims of specs/Claims.antt, each proved under its name.
 use mathlib.Core.Path.{_≡_, refl, sym, ap, _∙_}
-use mathlib.Core.Bool.{Bool, true, false, cond}
+use mathlib.Core.Bool.{Bool, true, false, not, cond, _||_}
 use mathlib.Core.List.{List, [], _∷_}
-use Prim.Native.Nat.{ℕ, zero, suc, _/_, _<_}
+use Prim.Native.Nat.{ℕ, zero, suc, _-_, _/_, _≤_}
 use native.Mathlib.Omega.{arith}
 use lib.Dec.{eqb}
-use lib.ListN.{length}
-use Rattle.c2_wire.specs.Exchange.{Exchange, fed, own}
-use Rattle.c2_wire.specs.Frames.{frame}
+use lib.ListN.{length, drop}
+use Rattle.laws.proofs.Tests.{both}
+use Rattle.c2_wire.specs.Step.{drives}
+use Rattle.c2_wire.specs.Field.{master}
+use Rattle.c2_wire.specs.Exchange.{Exchange, fed, taken, own}
+use Rattle.c2_wire.specs.Frames.{Strobe, plain, sampled, waits, strobes, frame}
+use Rattle.c2_wire.specs.Place.{rest-of, remaining}
 use Rattle.c2_wire.specs.declared.Frame.the-variants.{AddressRead, DataRead}
 use Rattle.c2_wire.proofs.Laws.Exchange.{fed-append, steps-append, taken-append, way-replies, Own, own-ended, own-fed}
-use Rattle.c2_wire.proofs.Laws.Frames.{masters-frame, own-strobes}
+use Rattle.c2_wire.proofs.Laws.Frames.{masters, masters-frame, own-strobes}
 use Rattle.settings.specs.declared.Settings.{Settings}
 use Rattle.c2_order.specs.Acts.{Act, send, poll, expect}
 use Rattle.c2_order.specs.Order.{session-order}
 use Rattle.c2_order.specs.Conversation.{Limits, Positive, session-limits, polling, conversation}
-use Rattle.c2_order.specs.Point.{Point, running, ended, begin, next, reached, left-to-say}
+use Rattle.c2_order.specs.Point.{Point, running, ended, strobes-of, Exists-in, begin, next, follow-up, left-to-say, reached}
 use Rattle.c2_order.specs.Figure.{figure}
-use Rattle.c2_order.specs.Claims.{Opening, point-after, Points-follow, Parts-in-a-row, Driven-by-master, Zero-when-ended, Figure-zero, Figure-falls, Figure-bounds, Figure-starts, Figure-reached}
-use Rattle.c2_order.proofs.Laws.Valid.{Sound, Every, none, more, Valid, begin-valid}
+use Rattle.c2_order.specs.Claims.{Opening, point-after, exchange-of, Points-follow, Points-exist, Parts-in-a-row, Driven-by-master, Driven-on, Zero-when-ended, Figure-zero, Figure-falls, Figure-bounds, Figure-starts, Figure-reached}
+use Rattle.c2_order.proofs.Laws.Valid.{Sound, Every, none, more, masters-of, Valid, begin-valid}
 use Rattle.c2_order.proofs.Laws.Point.{begin-says, next-says, next-valid}
-use Rattle.c2_order.proofs.Laws.Figure.{begin-figure, next-falls, figure-ended, figure-running, never-exceeded}
+use Rattle.c2_order.proofs.Laws.Stands.{exists-valid, begin-ends, reached-ends, ends-exist}
+use Rattle.c2_order.proofs.Laws.Figure.{begin-figure, figure-ended, figure-running, row-falls}
 use Rattle.c2_order.proofs.Laws.Figure.Start.{starting-figure}
 use Rattle.c2_order.proofs.Laws.Order.{every-session, sound}
 use Rattle.c2_order.proofs.Laws.Figure.Reached.{passable, way-acts}
@@ -51,6 +56,15 @@ points-follow l s first image h o rs =
     reached-says l h (begin (session-order s first image)) (start-valid l h s first image o) rs
     ∙ ap (λ (e : Exchange). fed e rs) (begin-says l h (session-order s first image))
 
+pub points-exist : Points-exist
+points-exist l s first image h o rs =
+    let acts = session-order s first image in
+    ends-exist acts l (point-after l s first image rs) (valid-after l h s first image o rs) (reached-ends acts l (begin acts) rs (begin-ends acts [] acts refl))
+
+-- a point that exists in a session's order is valid
+valid-there : (l : Limits) (s : Settings) (first : ℕ) (image : List ℕ) → Opening s first image → (x : Point) → Exists-in l (session-order s first image) x → Valid l x
+valid-there l s first image o x e = exists-valid l (session-order s first image) (every-session Sound sound s (o .id) first image (o .bytes)) x e
+
 pub parts-in-a-row : Parts-in-a-row
 parts-in-a-row e rs qs = record { steps-joined = steps-append e rs qs; taken-summed = taken-append e rs qs; left = fed-append e rs qs }
 
@@ -76,6 +90,46 @@ own-conversation l (expect x o ∷ acts) (more p f) =
     go true g = g
     go false g = own-ended
 
+-- the same from any place of an act's frame on
+masters-drop : (n : ℕ) (ss : List Strobe) → masters ss ≡ true → masters (drop n ss) ≡ true
+unfolding masters
+masters-drop zero ss m = m
+masters-drop (suc n) [] m = m
+masters-drop (suc n) (plain f s ∷ ss) m = masters-drop n ss (both (not (drives s) || master f) (masters ss) m .1)
+masters-drop (suc n) (sampled f ∷ ss) m = masters-drop n ss m
+masters-drop (suc n) (waits ∷ ss) m = masters-drop n ss m
+
+own-rest : (l : ℕ) (ss : List Strobe) (z n v : ℕ) (k : ℕ → Exchange) → masters ss ≡ true → ((x : ℕ) → Own (k x)) → Own (rest-of l ss z n v k)
+unfolding rest-of strobes masters
+own-rest l [] z n v k m h = h v
+own-rest l (plain f s ∷ ss) z n v k m h = own-strobes l (plain f s ∷ ss) n v k m h
+own-rest l (sampled f ∷ ss) z n v k m h = own-strobes l (sampled f ∷ ss) n v k m h
+own-rest l (waits ∷ ss) z n v k m h = own-strobes (l - z) (waits ∷ []) 0 0 (λ _. strobes l ss n v k) refl (λ _. own-strobes l ss n v k m h)
+
+own-follow-up : (l : Limits) (a : Act) (acts : List Act) (n x : ℕ) → Own (conversation l acts) → Own (follow-up l a acts n x)
+unfolding follow-up
+own-follow-up l (send ss) acts n x h = h
+own-follow-up l (poll ok) acts n x h = go (ok x)
+  where
+    go : (t : Bool) → Own (cond t (conversation l acts) (polling (l .wait) (l .reads - suc n) ok (conversation l acts)))
+    go true = h
+    go false = own-polling (l .wait) (l .reads - suc n) ok (conversation l acts) h
+own-follow-up l (expect y o) acts n x h = go (eqb x y)
+  where
+    go : (t : Bool) → Own (cond t (conversation l acts) (Shared.ended o))
+    go true = h
+    go false = own-ended
+
+own-point : (l : Limits) (x : Point) → Valid l x → Own (left-to-say l x)
+unfolding left-to-say remaining
+own-point l (running a acts p) v =
+    own-rest (l .wait) (drop (p .strobe) (strobes-of a)) (p .count) _ (p .bits) (follow-up l a acts (p .count))
+    (masters-drop (p .strobe) (strobes-of a) (masters-of a (v .0))) (λ x. own-follow-up l a acts (p .count) x (own-conversation l acts (v .1)))
+own-point l (ended o) v = own-ended
+
+pub driven-on : Driven-on
+driven-on l s first image o x e rs = own-fed (own-point l x (valid-there l s first image o x e)) rs
+
 pub driven-by-master : Driven-by-master
 driven-by-master l s first image o rs =
     own-fed (own-conversation l (session-order s first image) (every-session Sound sound s (o .id) first image (o .bytes))) rs
@@ -90,17 +144,23 @@ zero-when-ended l h (running a acts p) v =
 zero-when-ended l h (ended o) v = record { ended-zero = λ q e. figure-ended l o; zero-ended = λ e. (o, refl) }
 
 pub figure-zero : Figure-zero
-figure-zero l s first image h o rs = zero-when-ended l h (point-after l s first image rs) (valid-after l h s first image o rs)
-
-falls : (l : Limits) → Positive l → (x : Point) → Valid l x → (r : ℕ) → 0 < figure l x → figure l (next l x r) < figure l x
-falls l h (running a acts p) v r g = next-falls l h a acts p v r
-falls l h (ended o) v r g = absurd (omega (arith, figure-ended l o))
+figure-zero l s first image h o x e = zero-when-ended l h x (valid-there l s first image o x e)
 
 pub figure-falls : Figure-falls
-figure-falls l s first image h o rs r g = falls l h (point-after l s first image rs) (valid-after l h s first image o rs) r g
+figure-falls l s first image h o x e rs = row-falls l h x (valid-there l s first image o x e) rs
+
+bounds : (l : Limits) → Positive l → (x : Point) → Valid l x → (rs : List ℕ) → taken (left-to-say l x) rs ≤ figure l x
+bounds l h x v rs = omega (arith, row-falls l h x v rs)
 
 pub figure-bounds : Figure-bounds
-figure-bounds l s first image h o rs qs = never-exceeded l h (point-after l s first image rs) (valid-after l h s first image o rs) qs
+figure-bounds l s first image h o x e rs = bounds l h x (valid-there l s first image o x e) rs
+
+-- no replies take more steps than the figure at the start
+pub start-bounds : (l : Limits) (s : Settings) (first : ℕ) (image : List ℕ) → Positive l → Opening s first image
+    → (rs : List ℕ) → taken (exchange-of l s first image) rs ≤ figure l (begin (session-order s first image))
+start-bounds l s first image h o rs =
+    let acts = session-order s first image in
+    rw (begin-says l h acts) at (bounds l h (begin acts) (start-valid l h s first image o) rs)
 
 pub figure-starts : Figure-starts
 figure-starts s first image o =

@@ -24,9 +24,9 @@ use Rattle.c2_wire.proofs.Laws.Place.{first-left, followed-falls, followed-coun
 use Rattle.c2_wire.proofs.Laws.Frames.{longest-address-read}
 use Rattle.c2_order.specs.Acts.{Act, send, poll, expect}
 use Rattle.c2_order.specs.Conversation.{Limits, Positive}
-use Rattle.c2_order.specs.Point.{Point, running, ended, strobes-of, begin, again, judged, settled, next, follow-up, left-to-say}
+use Rattle.c2_order.specs.Point.{Point, running, ended, strobes-of, reads-of, begin, again, judged, settled, next, follow-up, left-to-say, reached}
 use Rattle.c2_order.specs.Figure.{reads-left, cost, costs, figure}
-use Rattle.c2_order.proofs.Laws.Valid.{reads-of, whole-of, reads-positive, Valid, Polled, polled}
+use Rattle.c2_order.proofs.Laws.Valid.{whole-of, reads-positive, Valid, Polled, polled}
 use Rattle.c2_order.proofs.Laws.Point.{next-says, next-valid}
 
 -- at the first strobe of an act the figure is its cost and that of the acts after it
@@ -113,13 +113,13 @@ figure-ended l o = refl
 pub figure-running : (l : Limits) → Positive l → (a : Act) (acts : List Act) (p : Place) → Valid l (running a acts p) → 0 < figure l (running a acts p)
 figure-running l h a acts p v = omega (arith, next-falls l h a acts p v 0)
 
--- no replies take more steps than the figure
-pub never-exceeded : (l : Limits) → Positive l → (x : Point) → Valid l x → (rs : List ℕ) → taken (left-to-say l x) rs ≤ figure l x
-unfolding taken steps left-to-say figure
-never-exceeded l h x v [] = omega arith
-never-exceeded l h (ended o) v (r ∷ rs) = omega arith
-never-exceeded l h (running a acts p) v (r ∷ rs) =
+-- each reply taken of replies in a row lowers the figure by at least 1
+pub row-falls : (l : Limits) → Positive l → (x : Point) → Valid l x → (rs : List ℕ) → figure l (reached l x rs) + taken (left-to-say l x) rs ≤ figure l x
+unfolding taken steps left-to-say figure reached next
+row-falls l h x v [] = omega arith
+row-falls l h (ended o) v (r ∷ rs) = omega (arith, row-falls l h (ended o) v rs)
+row-falls l h (running a acts p) v (r ∷ rs) =
     let x : Point = running a acts p in
     let node = remaining-asks (l .wait) (reads-of l a) (strobes-of a) p (follow-up l a acts (p .count)) (v .2) in
     rw (steps-taken (left-to-say l x) r rs (node .2), sym (next-says l h x v r))
-    (omega (arith, never-exceeded l h (next l x r) (next-valid l h x v r) rs, next-falls l h a acts p v r))
+    (omega (arith, row-falls l h (next l x r) (next-valid l h x v r) rs, next-falls l h a acts p v r))

@@ -20,9 +20,9 @@ use Rattle.c2_wire.specs.declared.Moved.the-variants.{Within, Stopped, WaitLimi
 use Rattle.c2_wire.proofs.Laws.Place.{first-remaining, followed-after, exists-after, followed-exists, followed-count, waits-in, remaining-asks}
 use Rattle.c2_order.specs.Acts.{Act, send, poll, expect}
 use Rattle.c2_order.specs.Conversation.{Limits, Positive, polling, conversation}
-use Rattle.c2_order.specs.Point.{Point, running, ended, strobes-of, begin, again, judged, settled, next, follow-up, left-to-say}
+use Rattle.c2_order.specs.Point.{Point, running, ended, strobes-of, reads-of, begin, again, judged, settled, next, follow-up, left-to-say}
 use Rattle.numbers.specs.Numbers.{poll-limit-reached}
-use Rattle.c2_order.proofs.Laws.Valid.{Sound, Every, reads-of, whole-of, reads-positive, Valid, begin-valid, Polled, polled, read-exists}
+use Rattle.c2_order.proofs.Laws.Valid.{Sound, Every, whole-of, reads-positive, Valid, begin-valid, Polled, polled, read-exists}
 
 -- a poll that has a read left asks for an Address Read
 polling-read : (w n : ℕ) (ok : ℕ → Bool) (k : Exchange) → 0 < n

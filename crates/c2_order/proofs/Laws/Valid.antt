@@ -14,7 +14,7 @@ use Rattle.c2_wire.proofs.Laws.Place.{Whole, Exists, first-exists, waits-in, co
 use Rattle.c2_wire.proofs.Laws.Frames.{masters, masters-frame, whole-address-read, whole-data-read}
 use Rattle.c2_order.specs.Acts.{Act, send, poll, expect}
 use Rattle.c2_order.specs.Conversation.{Limits, Positive}
-use Rattle.c2_order.specs.Point.{Point, running, ended, strobes-of, begin}
+use Rattle.c2_order.specs.Point.{Point, running, ended, strobes-of, reads-of, begin}
 
 -- strobes that are a frame
 pub record Framed (ss : List Strobe) : Type 0 where
@@ -36,12 +36,6 @@ infixl 60 _then_
 pub _then_ : {P : Act → Type 0} {xs ys : List Act} → Every P xs → Every P ys → Every P (xs ++ ys)
 none then g = g
 more p f then g = more p (f then g)
-
--- the reads that an act may count: those of a poll
-unfoldable pub reads-of : Limits → Act → ℕ
-reads-of l (send ss) = 1
-reads-of l (poll ok) = l .reads
-reads-of l (expect x o) = 1
 
 pub whole-of : (l : Limits) (a : Act) → Sound a → Whole (reads-of l a) (strobes-of a)
 unfolding reads-of strobes-of

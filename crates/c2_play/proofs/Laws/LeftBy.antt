@@ -15,7 +15,7 @@ use Rattle.c2_order.specs.Conversation.{Positive}
 use Rattle.c2_order.specs.Point.{begin, reached}
 use Rattle.c2_order.specs.Figure.{figure}
 use Rattle.c2_order.specs.Claims.{exchange-of}
-use Rattle.c2_order.proofs.Laws.Claims.{points-follow, figure-bounds}
+use Rattle.c2_order.proofs.Laws.Claims.{start-bounds}
 use Rattle.c2_target.specs.declared.Target.{Target}
 use Rattle.c2_target.specs.Delays.{Setup}
 use Rattle.c2_target.specs.Known.{known}
@@ -68,5 +68,5 @@ own-replies-program l u first image t f rs o m h n =
     let e : Exchange = exchange-of l (u .settings) first image in
     let p : Positive l = record { wait = omega (arith, m .some, m .wait); reads = omega (arith, m .reads) } in
     let q = enough-end e (figure l (begin (session-order (u .settings) first image))) rs
-    (λ qs. rw (points-follow l (u .settings) first image p o []) at (figure-bounds l (u .settings) first image p o [] qs)) n in
+    (start-bounds l (u .settings) first image p o) n in
     rw (own-ends u e t f rs (q .0) h (q .1)) at (programmed l u first image t f o m)

@@ -16,8 +16,8 @@ use Rattle.settings.specs.declared.Settings.{Settings}
 use Rattle.c2_order.specs.Acts.{Act, Block, block-write, block-read}
 use Rattle.c2_order.specs.Order.{Page, pages, rising, blocks, joined, page-acts}
 use Rattle.c2_order.specs.Conversation.{limits}
-use Rattle.c2_order.specs.Point.{left-to-say, strobes-of}
-use Rattle.c2_order.proofs.Laws.Valid.{Sound, Every, none, more, _then_, reads-of, Valid}
+use Rattle.c2_order.specs.Point.{left-to-say, strobes-of, reads-of}
+use Rattle.c2_order.proofs.Laws.Valid.{Sound, Every, none, more, _then_, Valid}
 use Rattle.c2_order.proofs.Laws.Order.{sound, every-erase, every-block-write, every-block-read, every-blocks, every-pages, every-lead}
 use Rattle.c2_order.proofs.Laws.Point.{next-says}
 use Rattle.c2_acts.specs.declared.Stage.{Stage}

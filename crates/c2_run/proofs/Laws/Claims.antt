@@ -11,7 +11,7 @@ use Rattle.c2_wire.specs.Exchange.{Exchange, ended, strobe, ask, at, Outcome, a
 use Rattle.c2_order.specs.Conversation.{Positive, session-limits}
 use Rattle.c2_order.specs.Point.{reached}
 use Rattle.c2_order.specs.Claims.{exchange-of}
-use Rattle.c2_order.proofs.Laws.Claims.{points-follow, figure-bounds}
+use Rattle.c2_order.proofs.Laws.Claims.{start-bounds}
 use Rattle.c2_target.specs.declared.Target.{Target}
 use Rattle.c2_target.specs.Delays.{Setup, setup}
 use Rattle.c2_target.specs.Target.{fresh, answer, flash-after}
@@ -46,7 +46,7 @@ runs-program t first image f ds n o l b d h =
     let u = setup t ds in
     let e = exchange-of session-limits t first image in
     let p : Positive session-limits = record { wait = omega arith; reads = omega arith } in
-    let few = rw (points-follow session-limits t first image p o []) at (figure-bounds session-limits t first image p o []) in
+    let few = start-bounds session-limits t first image p o in
     let w = enough n u e fresh f (λ qs. omega (arith, few qs)) in
     let g = programmed session-limits u first image fresh f o (fresh-met t ds f l b d) in
     let whole = eq-eqb (length f) (t .size * t .count) l in
