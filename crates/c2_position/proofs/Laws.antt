@@ -7,3 +7,6 @@ pub mod Advanced
 pub mod Range
 pub mod Step
 pub mod Exchange
+pub mod Before
+pub mod Left
+pub mod Claims

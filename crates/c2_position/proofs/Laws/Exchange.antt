@@ -114,7 +114,7 @@ first-sound : {a : Act} {acts : List Act} → Every Sound (a ∷ acts) → Sound
 first-sound (more p f) = (p, f)
 
 -- a place of a task is a place of its act
-task-exists : (w r : ℕ) (t : Task) (b id o : ℕ) (p : Place) → Exists w (reads-in r t) (strobes-in t) p
+pub task-exists : (w r : ℕ) (t : Task) (b id o : ℕ) (p : Place) → Exists w (reads-in r t) (strobes-in t) p
     → Exists w (reads-of (limits w r) (task-act t b id o)) (strobes-of (task-act t b id o)) p
 unfolding reads-of strobes-of
 task-exists w r Reset b id o p e = e

@@ -87,13 +87,13 @@ module _ (s : Session) (image : List ℕ) (h : Fits s image) where
   begins-at : (g : Stage) (i j k : ℕ) (acts : List Act) → acts ≡ acts-from g s image i j k → begin acts ≡ at-act (acts-from g s image i j k) (place 0 0 0)
   begins-at g i j k acts e = begin-at acts ∙ ap (λ (x : List Act). at-act x (place 0 0 0)) e
 
-  writes-then : (i j : ℕ) → j < s .settings .size / 256
+  pub writes-then : (i j : ℕ) → j < s .settings .size / 256
       → writes-from s image i j ++ (reads-from s image i 0 ++ pages-from s image (suc i)) ≡ acts-from Write s image i j 0
   writes-then i j g =
       ap (λ (x : List Act). x ++ (reads-from s image i 0 ++ pages-from s image (suc i))) (writes-on i j g)
       ∙ append-assoc (stage-acts Write s image i j) (writes-from s image i (suc j)) (reads-from s image i 0 ++ pages-from s image (suc i))
 
-  reads-then : (i j : ℕ) → j < s .settings .size / 256 → reads-from s image i j ++ pages-from s image (suc i) ≡ acts-from Read s image i j 0
+  pub reads-then : (i j : ℕ) → j < s .settings .size / 256 → reads-from s image i j ++ pages-from s image (suc i) ≡ acts-from Read s image i j 0
   reads-then i j g =
       ap (λ (x : List Act). x ++ pages-from s image (suc i)) (reads-on i j g)
       ∙ append-assoc (stage-acts Read s image i j) (reads-from s image i (suc j)) (pages-from s image (suc i))

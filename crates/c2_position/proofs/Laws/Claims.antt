@@ -1,0 +1,116 @@
+-- The claims of specs/Claims.antt, each proved under its name.
+use mathlib.Core.Path.{_≡_, refl, sym, ap, _∙_}
+use mathlib.Core.Bool.{Bool, true, false}
+use mathlib.Core.List.{List, [], _∷_, _++_}
+use Prim.Native.Nat.{ℕ, _*_}
+use native.Mathlib.Omega.{arith}
+use lib.ListN.{length}
+use Rattle.c2_wire.specs.Exchange.{Outcome, outcome}
+use Rattle.c2_wire.specs.Place.{place}
+use Rattle.c2_wire.specs.declared.Place.{Place}
+use Rattle.c2_order.specs.Acts.{Act}
+use Rattle.c2_order.specs.Order.{session-order}
+use Rattle.c2_order.specs.Conversation.{limits}
+use Rattle.c2_session.specs.declared.At.{At}
+use Rattle.c2_session.specs.declared.Point.the-variants.{Running, Ended}
+use Rattle.c2_session.specs.declared.Session.{Session}
+use Rattle.c2_acts.specs.Code.Acts.{task-of}
+use Rattle.c2_session.specs.Code.Next.{at, strobe-point}
+use Rattle.c2_range.specs.Range.{strobes-in, reads-in, in-range, point-in-range}
+use Rattle.c2_position.specs.Position.{acts-from, at-act, point-position, position}
+use Rattle.c2_position.specs.Claims.{Placed, In-order, One-session}
+use Rattle.c2_position.proofs.Laws.Position.{Fits, act-here, act-byte}
+use Rattle.c2_position.proofs.Laws.Onward.{rest-from, acts-here}
+use Rattle.c2_position.proofs.Laws.Advanced.{SessionPoint, with-point, exists-of, fits-of, point-of, position-keeps}
+use Rattle.c2_position.proofs.Laws.Range.{place-exists}
+use Rattle.c2_position.proofs.Laws.Exchange.{task-exists}
+use Rattle.c2_position.proofs.Laws.Before.{acts-end}
+use Rattle.c2_position.proofs.Laws.Left.{acts-length, one-at}
+use Rattle.c2_order.specs.Point
+
+pub in-order : In-order
+unfolding point-position
+in-order w r s image e l = go (s .point) (point-of w r s e)
+  where
+    h : Fits s image
+    h = fits-of w r s image e l
+
+    go : (y : SessionPoint) → point-in-range w r (s .settings .size) (s .pages) y ≡ true
+        → Placed (limits w r) (session-order (s .settings) (s .first) image) y (point-position s image y)
+    go (Running g i j k q c v) f =
+        let n = exists-of w r s g i j k q c v f in
+        let x = place-exists w (reads-in r (task-of g k)) (strobes-in (task-of g k)) (place q c v) (n .place) in
+        let p = task-exists w r (task-of g k) (act-byte s image h g (at g i j k)) (s .settings .id) _ (place q c v) x in
+        let a = acts-here s image h g i j k (n .page) (n .block) (n .act) in
+        let b = acts-end s image h g i j k (n .page) (n .block) in
+        record {
+          before = b .0;
+          act = act-here s image h g (at g i j k);
+          later = rest-from s image h g i j k;
+          place = place q c v;
+          here = ap (λ (z : List Act). at-act z (place q c v)) a;
+          whole = ap (λ (z : List Act). b .0 ++ z) (sym a) ∙ b .1;
+          strobe = p .inside;
+          count = p .counted;
+          bits = p .sampled-only;
+        }
+    go (Ended n o) f = refl
+
+-- what is seen of a point of the order: whether it is running, its acts, its place, and its outcome
+abbrev runs : Point.Point → Bool
+runs (Point.running a acts p) = true
+runs (Point.ended o) = false
+
+abbrev acts-of : Point.Point → List Act
+acts-of (Point.running a acts p) = a ∷ acts
+acts-of (Point.ended o) = []
+
+abbrev place-of : Point.Point → Place
+place-of (Point.running a acts p) = p
+place-of (Point.ended o) = place 0 0 0
+
+abbrev outcome-at : Point.Point → Outcome
+outcome-at (Point.running a acts p) = outcome 0
+outcome-at (Point.ended o) = o
+
+acts-there : (acts : List Act) (p : Place) → acts-of (at-act acts p) ≡ acts
+acts-there [] p = refl
+acts-there (a ∷ acts) p = refl
+
+-- points of a session, in range, that name the same point of the order are the same
+module _ (w r : ℕ) (s : Session) (image : List ℕ) (h : Fits s image) where
+  abbrev In : SessionPoint → Type 0
+  In y = point-in-range w r (s .settings .size) (s .pages) y ≡ true
+
+  one-point : (y z : SessionPoint) → In y → In z → point-position s image y ≡ point-position s image z → y ≡ z
+  unfolding point-position
+  one-point (Running g i j k q c v) (Running g₁ i₁ j₁ k₁ q₁ c₁ v₁) e f x =
+      let n = exists-of w r s g i j k q c v e in
+      let m = exists-of w r s g₁ i₁ j₁ k₁ q₁ c₁ v₁ f in
+      let a = acts-here s image h g i j k (n .page) (n .block) (n .act) in
+      let b = acts-here s image h g₁ i₁ j₁ k₁ (m .page) (m .block) (m .act) in
+      let acts = sym (acts-there (acts-from g s image i j k) (place q c v)) ∙ ap acts-of x ∙ acts-there (acts-from g₁ s image i₁ j₁ k₁) (place q₁ c₁ v₁) in
+      let left = sym (acts-length s image h g i j k (n .page) (n .block) (n .act)) ∙ ap length acts ∙ acts-length s image h g₁ i₁ j₁ k₁ (m .page) (m .block) (m .act) in
+      let d : at g i j k ≡ at g₁ i₁ j₁ k₁ = one-at (s .pages) (s .settings .size) g g₁ i j k i₁ j₁ k₁ (n .page) (n .block) (n .act) (m .page) (m .block) (m .act) left in
+      let p : place q c v ≡ place q₁ c₁ v₁
+      = sym (ap (λ (u : List Act). place-of (at-act u (place q c v))) a) ∙ ap place-of x ∙ ap (λ (u : List Act). place-of (at-act u (place q₁ c₁ v₁))) b in
+      λ t. strobe-point (d t) (p t)
+  one-point (Running g i j k q c v) (Ended n o) e f x =
+      let m = exists-of w r s g i j k q c v e in
+      let a = acts-here s image h g i j k (m .page) (m .block) (m .act) in
+      let z : true ≡ false = sym (ap (λ (u : List Act). runs (at-act u (place q c v))) a) ∙ ap runs x in
+      absurd (let y : _≡_ {A = ℕ} 0 1 = cc in omega arith)
+  one-point (Ended n o) (Running g i j k q c v) e f x =
+      let m = exists-of w r s g i j k q c v f in
+      let a = acts-here s image h g i j k (m .page) (m .block) (m .act) in
+      let z : false ≡ true = ap runs x ∙ ap (λ (u : List Act). runs (at-act u (place q c v))) a in
+      absurd (let y : _≡_ {A = ℕ} 0 1 = cc in omega arith)
+  one-point (Ended n o) (Ended n₁ o₁) e f x = let d = ap outcome-at x in λ t. Ended (d t .number) (d t .offset)
+
+pub one-session : One-session
+one-session w r s t image e f d p n l x =
+    let same : t ≡ with-point s (t .point) = λ i. record { settings = sym d i; first = sym p i; pages = sym n i; point = t .point } in
+    let there = ap (λ (z : Session). point-position z image (t .point)) same ∙ position-keeps s (t .point) image (t .point) in
+    let range : point-in-range w r (s .settings .size) (s .pages) (t .point) ≡ true = rw (d, n) (point-of w r t f) in
+    let q = one-point w r s image (fits-of w r s image e l) (s .point) (t .point) (point-of w r s e) range (x ∙ there) in
+    λ i. record { settings = d i; first = p i; pages = n i; point = q i }
