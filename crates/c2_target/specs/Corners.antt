@@ -20,7 +20,7 @@ use Rattle.c2_target.specs.declared.Effect.the-variants.{Nothing, SetAdd
 use Rattle.c2_target.specs.declared.Point.{Point}
 use Rattle.c2_target.specs.declared.Point.the-variants.{Start, Ins, WriteLength, ReadLength, Address, Data, LongData, Wait, Waiting, Send, Stop}
 use Rattle.c2_target.specs.declared.Target.{Target}
-use Rattle.c2_target.specs.Delays.{Setup, setup}
+use Rattle.c2_target.specs.Delays.{setup}
 use Rattle.c2_target.specs.Interface.{link, device}
 use Rattle.c2_target.specs.Strobes.{target}
 use Rattle.c2_target.specs.Target.{cleared, fresh, refusal}
