@@ -16,4 +16,4 @@ pub mod OwnReplies
 pub mod Playing
 pub mod LeftBy
 pub mod Fresh
-pub mod Examples
+pub mod Prompt

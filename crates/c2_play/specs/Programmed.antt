@@ -1,21 +1,23 @@
 -- What a session supposes of the target, and what it leaves behind (demand 3).
 use mathlib.Core.Path.{_≡_}
 use mathlib.Core.Bool.{true, false}
-use mathlib.Core.List.{List, _++_}
-use Prim.Native.Nat.{ℕ, _+_, _*_, _≤_}
+use mathlib.Core.List.{List, [], _++_}
+use Prim.Native.Nat.{ℕ, _+_, _*_, _/_, _≤_}
 use lib.ListN.{length, take, drop}
 use Rattle.numbers.specs.Numbers.{done}
 use Rattle.c2_wire.specs.Bits.{Bytes}
 use Rattle.c2_wire.specs.Exchange.{outcome}
 use Rattle.c2_order.specs.Order.{session-order}
-use Rattle.c2_order.specs.Conversation.{Limits}
+use Rattle.settings.specs.declared.Settings.{Settings}
+use Rattle.c2_order.specs.Conversation.{Limits, session-limits}
 use Rattle.c2_order.specs.Point.{begin}
 use Rattle.c2_order.specs.Figure.{figure}
 use Rattle.c2_order.specs.Claims.{Opening, exchange-of}
 use Rattle.c2_target.specs.declared.Target.{Target}
-use Rattle.c2_target.specs.Delays.{Setup}
+use Rattle.c2_target.specs.Delays.{Setup, setup}
 use Rattle.c2_target.specs.Known.{known}
-use Rattle.c2_play.specs.Playing.{Played, play, Own-replies, played-after}
+use Rattle.c2_target.specs.Target.{fresh}
+use Rattle.c2_play.specs.Playing.{Played, run-replies, whole-step, play, Own-replies, played-after}
 
 -- What a session supposes of the target: it is fresh or in any state that exists, with no mark, any flash of
 -- size times count bytes and any delays. The session's WAIT limit is no lower than the target's, and its
@@ -58,3 +60,10 @@ Own-replies-leave = (l : Limits) (u : Setup) (first : ℕ) (image : List ℕ) (t
     → Opening (u .settings) first image → Met l u t f → Own-replies u t f (exchange-of l (u .settings) first image) replies
     → Met l u (played-after u (exchange-of l (u .settings) first image) t f replies .target)
     (played-after u (exchange-of l (u .settings) first image) t f replies .flash)
+
+-- Against a fresh target without delays a session over k pages of B blocks takes 76 + k × (174 + 14,172 × B)
+-- replies.
+abbrev pub Replies-without-delays : Type 0
+Replies-without-delays = (s : Settings) (first : ℕ) (image f : List ℕ) → Opening s first image → length f ≡ s .size * s .count → Bytes f
+    → length (run-replies (whole-step (setup s [])) (exchange-of session-limits s first image) fresh f)
+    ≡ 76 + length image / s .size * (174 + s .size / 256 * 14172)

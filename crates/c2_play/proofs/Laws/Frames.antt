@@ -31,7 +31,7 @@ abbrev pub idle : (place : ℕ) → (collision : Bool) → Device → Target
 idle p c d = target Start p c d
 
 -- eight bits, as they are heard by the target and sampled by the master
-abbrev heard : ℕ → ℕ
+abbrev pub heard : ℕ → ℕ
 heard a =
     0 + bit (odd a) * 1 + bit (odd (a / 2)) * 2 + bit (odd (a / 2 / 2)) * 4 + bit (odd (a / 2 / 2 / 2)) * 8
     + bit (odd (a / 2 / 2 / 2 / 2)) * 16 + bit (odd (a / 2 / 2 / 2 / 2 / 2)) * 32 + bit (odd (a / 2 / 2 / 2 / 2 / 2 / 2)) * 64

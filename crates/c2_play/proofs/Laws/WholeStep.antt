@@ -1,8 +1,8 @@
 -- The target's whole step: from a state that exists it is never refused for a step of the session, so a
 -- session is played as against the steps that are not refused.
-use mathlib.Core.Path.{_≡_, refl, subst, subst⁻¹}
+use mathlib.Core.Path.{_≡_, refl, ap, subst, subst⁻¹}
 use mathlib.Core.Bool.{Bool, true, false}
-use mathlib.Core.List.{List}
+use mathlib.Core.List.{List, _∷_}
 use Prim.Native.Nat.{ℕ, _*_, _/_}
 use native.Mathlib.Omega.{arith}
 use borrow.Author.Tests.{eq-eqb}
@@ -19,7 +19,7 @@ use Rattle.c2_target.specs.declared.Target.{Target}
 use Rattle.c2_target.specs.Delays.{Setup}
 use Rattle.c2_target.specs.Known.{known, known-point, known-command, known-output, known-link, is-byte}
 use Rattle.c2_target.specs.Target.{stepped, is-step, step-coded, refusal, answer, flash-after, fresh, cleared}
-use Rattle.c2_play.specs.Playing.{against, whole-step, play}
+use Rattle.c2_play.specs.Playing.{against, run-replies, whole-step, play}
 use Rattle.c2_play.specs.Programmed.{Programmed, Programs}
 use Rattle.c2_play.proofs.Laws.Interface.{Fit}
 use Rattle.c2_play.specs.Pages.{with-pages, Programs-pages}
@@ -70,6 +70,17 @@ play-is-playing u lent a (ask (at g s) k) t f hf x =
     let y = stepped-known u lent t f s hf x in
     rw (whole-is-stepped u t f s a (known-is u t f x))
     (play-is-playing u lent a (k (stepped u t f s .reply)) (stepped u t f s .target) (stepped u t f s .flash) (y .bytes) (y .exists))
+
+-- every exchange is given the replies of the steps that are not refused
+pub replies-stepped : (u : Setup) → Lent u → settings-refusal (u .settings) ≡ 0 → (e : Exchange) (t : Target) (f : List ℕ) → Bytes f → Exists u t f
+    → run-replies (whole-step u) e t f ≡ run-replies (stepped u) e t f
+unfolding run-replies
+replies-stepped u lent a (ended o) t f hf k = refl
+replies-stepped u lent a (ask (at g s) k) t f hf x =
+    let y = stepped-known u lent t f s hf x in
+    rw (whole-is-stepped u t f s a (known-is u t f x))
+    (ap (λ (rs : List ℕ). bit (stepped u t f s .reply) ∷ rs)
+    (replies-stepped u lent a (k (stepped u t f s .reply)) (stepped u t f s .target) (stepped u t f s .flash) (y .bytes) (y .exists)))
 
 -- demand 3 over any pages
 pub programs-pages : Programs-pages
