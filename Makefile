@@ -6,10 +6,10 @@ BENCH := cargo run --quiet --release --offline --manifest-path bench/Cargo.toml 
 # The crates that something is made of: libraries for users; libraries that the comparison and the benchmark
 # link besides (proved/build.rs has both); the program; and those that stand right below them, proved in one
 # go.
-USERS := c2
+USERS := c2 dump
 INSIDE := c2_wire_probe c2_run
 PROGRAM := flash
-BELOW := c2_record c2_figure c2_target_state
+BELOW := c2_record c2_figure c2_target_state dump_ranges
 
 LIBRARY := $(USERS:%=target/staticlib/lib%.a)
 LIBRARIES := $(LIBRARY) $(INSIDE:%=target/staticlib/lib%.a)
@@ -19,7 +19,7 @@ SOURCES := $(wildcard crates/*/src/*.rt crates/*/src/*/*.rt)
 PREFIX ?= /usr/local
 VERSION = $(shell sed -n 's/^.define C2_VERSION_[MP][A-Z]* //p' include/c2.h | paste -sd.)
 
-EXAMPLES := target/examples/first target/examples/driver target/examples/waves
+EXAMPLES := target/examples/first target/examples/driver target/examples/waves target/examples/dumps
 WAVES := target/waves/page.vcd
 SHORT := 200
 FRAMES := RESET Data_Read_0x04 RESET Address_Write_0x02 Data_Write_0x02 Data_Write_0x04 Data_Write_0x01 PAUSE \
@@ -27,15 +27,16 @@ FRAMES := RESET Data_Read_0x04 RESET Address_Write_0x02 Data_Write_0x02 Data_Wri
 STRICT := -Wall -Wextra -Wpedantic -Werror -Iinclude
 HEADERS := $(wildcard include/*.h)
 
-.PHONY: help library install flash test below compare compare-long numbers statements examples headers installed waves bench prove clean
+.PHONY: help library install flash test below compare compare-long numbers statements examples headers installed waves dumps bench prove clean
 .NOTPARALLEL:
 
 help:
-	@echo "make library       build the driver's library, target/staticlib/libc2.a; its header is include/c2.h"
-	@echo "make install       put headers, library and a pkg-config file below PREFIX, $(PREFIX) unless you say"
+	@echo "make library       build the libraries, $(LIBRARY); the headers are in include/"
+	@echo "make install       put headers, libraries and a pkg-config file below PREFIX, $(PREFIX) unless you say"
 	@echo "make flash         program a modelled target: IMAGE=file, or the image on standard input"
-	@echo "make examples      build and run the C examples: first, driver and waves"
+	@echo "make examples      build and run the C examples: first, driver, waves and dumps"
 	@echo "make waves         write a session's strobes as a waveform, $(WAVES), for gtkwave or PulseView"
+	@echo "make dumps         tell where two dumps of a flash differ: A=file B=file; P=1024 for its page size"
 	@echo "make test          prove everything from nothing, then compare, and run the examples"
 	@echo "make compare       the comparison with a second implementation in Rust, half a minute"
 	@echo "make compare-long  the comparison over many more cases"
@@ -105,6 +106,12 @@ examples: headers installed $(EXAMPLES)
 	@echo "ok     waves: $(SHORT) steps, one low pulse on C2CK for each but pauses and the end; the frames in order"
 	@target/examples/waves --svg | diff docs/frames.svg -
 	@echo "ok     waves: docs/frames.svg is what the library's steps draw"
+	@yes | head -c 65536 >target/examples/old.bin
+	@yes x | head -c 65536 >target/examples/new.bin
+	@target/examples/dumps target/examples/old.bin target/examples/old.bin | grep -qx 'equal: 65536 bytes'
+	@! target/examples/dumps target/examples/old.bin target/examples/new.bin >target/examples/ranges
+	@test $$(grep -cE '^ +[0-9]+ +[0-9]*[02468] +1  79 +78$$' target/examples/ranges) -eq 32768
+	@echo "ok     dumps: every second byte of 64 KiB differs, 32768 ranges in pieces of the list buffer"
 
 # As C11 and C++20: each header alone, and all of them in one file, in either order and twice.
 headers:
@@ -132,6 +139,10 @@ waves: $(WAVES)
 $(WAVES): target/examples/waves
 	@mkdir -p $(@D)
 	@target/examples/waves >$@ || { rm -f $@; false; }
+
+# The exit status is the program's, cmp's; that the dumps differ is no failure of make's.
+dumps: target/examples/dumps
+	@$< '$(A)' '$(B)' $(P) || test $$? -eq 1
 
 # Never part of the tests: its figures are the machine's as much as the code's.
 bench: $(LIBRARIES)

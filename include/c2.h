@@ -33,7 +33,8 @@
  * that the same call is lent. Within that, every call takes any input and ends: what is wrong comes back as a
  * number.
  *
- * c2_target.h has a modelled device to try a driver on, c2_text.h the numbers in words.
+ * c2_target.h has a modelled device to try a driver on, c2_dump.h compares two dumps of a flash, c2_text.h has
+ * the numbers in words.
  */
 #ifndef C2_H
 #define C2_H
@@ -115,7 +116,10 @@ enum {
 
     /* Refused steps of the modelled target, c2_target.h. Nothing has changed. */
     C2_NO_STEP = 16, /* step 1 or above 6 */
-    C2_NO_POINT = 17 /* flash length not page size times page count, or a state that is no target's */
+    C2_NO_POINT = 17, /* flash length not page size times page count, or a state that is no target's */
+
+    /* Refused dumps, c2_dump.h: this one, and 2 before it. Nothing has changed. */
+    C2_BAD_DUMPS = 31 /* dumps of different length, or not whole pages: lend two dumps of one device */
 };
 
 /* The device. */

@@ -46,6 +46,8 @@ static inline const char *c2_text(uint32_t number) {
         return "no such step of the modelled target: give 0 or 2 to 6";
     case C2_NO_POINT:
         return "flash length not page size times page count, or no target's state: start with a fresh target";
+    case C2_BAD_DUMPS:
+        return "dumps of different length, or not whole pages: lend two dumps of one device";
     default:
         return "no number of c2.h: header and library don't belong together, or the number was overwritten";
     }

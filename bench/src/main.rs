@@ -7,6 +7,7 @@
 //! kept (the plain structs without the face), ROW many, one, target, loop or program.
 
 mod checks;
+mod dumps;
 mod harness;
 mod plain;
 mod rows;
@@ -86,7 +87,8 @@ fn run() -> Result<(), String> {
     }
     sessions::troubled_sessions_agree()?;
     frames::targets_agree()?;
-    LISTS.into_iter().try_for_each(|(name, delays)| table(name, delays, options.repeat))
+    LISTS.into_iter().try_for_each(|(name, delays)| table(name, delays, options.repeat))?;
+    dumps::table(options.repeat)
 }
 
 fn main() -> ExitCode {

@@ -5,3 +5,4 @@ pub mod c2;
 pub mod c2_run;
 pub mod c2_target;
 pub mod c2_wire;
+pub mod dump;

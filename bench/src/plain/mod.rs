@@ -1,5 +1,6 @@
 //! The same calls in plain Rust.
 
+pub mod dump;
 pub mod session;
 pub mod target;
 pub mod wire;

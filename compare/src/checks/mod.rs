@@ -1,6 +1,7 @@
 //! The checks: what is compared, over which inputs. A family has a file or a folder here.
 
 mod c2;
+mod dump;
 
 use crate::harness::check::Check;
 
@@ -14,6 +15,7 @@ const ALL: &[&[Check]] = &[
     c2::calls::CHECKS,
     c2::records::CHECKS,
     c2::closed::CHECKS,
+    dump::CHECKS,
 ];
 
 /// Every check; those of the program only if there is one.

@@ -3,6 +3,7 @@
 
 pub mod c2;
 pub mod check;
+pub mod dump;
 pub mod lent;
 pub mod random;
 pub mod report;

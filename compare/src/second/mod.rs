@@ -2,5 +2,6 @@
 //! nothing of the proved code.
 
 pub mod c2;
+pub mod dump;
 pub mod numbers;
 pub mod settings;

@@ -1,4 +1,4 @@
-//! The numbers that come back (document 01's table of that name).
+//! The numbers that come back (document 01's table of that name, and document 02).
 
 pub const RUNNING: u32 = 0;
 pub const BAD_FPDAT: u32 = 1;
@@ -18,4 +18,5 @@ pub const COMPARE_DIFFERS: u32 = 14;
 pub const NO_IMAGE_BYTE: u32 = 15;
 pub const NO_STEP: u32 = 16;
 pub const NO_POINT: u32 = 17;
+pub const BAD_DUMPS: u32 = 31;
 pub const DONE: u32 = 32;

@@ -77,3 +77,7 @@ no-step = 16
 -- model: flash length not size times count, or its own state names a point that no frame or command has
 abbrev pub no-point : ℕ
 no-point = 17
+
+-- two dumps of different length, or of a length that is not a whole number of pages (document 02, k)
+abbrev pub bad-dumps : ℕ
+bad-dumps = 31

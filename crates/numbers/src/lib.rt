@@ -57,3 +57,6 @@ pub const NO_STEP: u32 = 16;
 
 // Model: flash length not size times count, or its own state names a point that no frame or command has.
 pub const NO_POINT: u32 = 17;
+
+// Two dumps of different length, or of a length that is not a whole number of pages (document 02, k).
+pub const BAD_DUMPS: u32 = 31;

@@ -1,0 +1,4 @@
+-- The laws that the loops of the code keep.
+pub mod Stretch
+pub mod Pages
+pub mod Listing

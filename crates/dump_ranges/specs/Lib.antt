@@ -1,0 +1,4 @@
+pub mod Ranges
+pub mod Answers
+pub mod Claims
+pub mod Examples
