@@ -1,29 +1,34 @@
 -- What is claimed of a session whose replies come in parts, by the definitions that the calls meet (demand 2,
 -- and the first half of demand 3); of the records that calls write; and of the figure that a question tells.
--- Types alone: proofs/Laws/Claims proves each.
+-- Types alone: proofs/Laws/Claims proves each, and proofs/Laws/Figure `Told-zero` and `Told-falls`.
 use mathlib.Core.Path.{_≡_}
 use mathlib.Core.Bool.{true}
 use mathlib.Core.List.{List, _++_}
-use Prim.Native.Nat.{ℕ, _/_, _<_}
+use mathlib.Core.Logic.{_↔_}
+use Prim.Native.Nat.{ℕ, _+_, _/_, _<_, _≤_}
 use lib.ListN.{length}
+use Rattle.numbers.specs.Numbers.{running}
 use Rattle.c2_wire.specs.Bits.{Bytes}
-use Rattle.c2_wire.specs.Exchange.{fed}
+use Rattle.c2_wire.specs.Exchange.{fed, asks, outcome-of, own}
 use Rattle.settings.specs.declared.Settings.{Settings}
 use Rattle.settings.specs.Opening.{opening-refusal}
+use Rattle.c2_order.specs.Order.{session-order}
 use Rattle.c2_order.specs.Conversation.{session-limits}
+use Rattle.c2_order.specs.Point.{reached}
 use Rattle.c2_order.specs.Figure.{figure}
 use Rattle.c2_order.specs.Claims.{exchange-of, point-after}
 use Rattle.c2_session.specs.declared.Session.{Session}
+use Rattle.c2_session.specs.Code.Step.{session-step}
+use Rattle.c2_outcome.specs.Outcome.{number-of, offset-of}
 use Rattle.c2_range.specs.Range.{in-range}
 use Rattle.c2_position.specs.Position.{position}
+use Rattle.c2_position.specs.Claims.{Placed}
 use Rattle.c2_record.specs.declared.Unpacked.the-variants.{Held}
 use Rattle.c2_record.specs.Record.{packed, unpacked}
 use Rattle.c2_opening.specs.Opened.{opened-session, image-length, exchange-at, session-fed}
-use Rattle.c2_calls.specs.Calls.{blank}
-
--- the session that was opened, after replies
-abbrev pub session-after : Settings → (first : ℕ) → (image replies : List ℕ) → Session
-session-after t first image rs = session-fed (opened-session t first (length image)) image rs
+use Rattle.exchange.specs.Calls.{done}
+use Rattle.c2_calls.specs.Calls.{taking, asking, blank}
+use Rattle.c2_calls.specs.Family.{C2, told-left, session-after}
 
 -- The session that was opened, after replies: its settings and pages are those of the opening; its record is
 -- taken and holds it, with the image of the opening; it stands at the point of the order that the replies
@@ -46,13 +51,43 @@ Replies-follow = (t : Settings) (first : ℕ) (image replies : List ℕ) → t .
 abbrev pub Parts-join : Type 0
 Parts-join = (s : Session) (image qs rs : List ℕ) → session-fed (session-fed s image qs) image rs ≡ session-fed s image (qs ++ rs)
 
--- Whatever record a call has taken, ours or not: the one that it writes after any replies is taken again, and
--- holds the session that they lead to.
-abbrev pub Records-stay : Type 0
-Records-stay = (s : Session) (r image replies : List ℕ) → unpacked 20 256 r ≡ Held s → Bytes image → length image ≡ image-length s
-    → unpacked 20 256 (packed (session-fed s image replies)) ≡ Held (session-fed s image replies)
+-- A session, lent an image of its length, after replies: its settings and pages stay; its record is taken and
+-- holds it; it stands in its order, at the point that the replies reach from where it stood, and no other
+-- session in range with these settings and pages stands there; what it leaves to say is what the replies
+-- leave of the exchange from where it stood; the step that it waits at, its number and its offset are that
+-- exchange's; and C2D is driven there only in a field of the master's.
+pub record Follows-on (s : Session) (image replies : List ℕ) : Type 0 where
+  pub settings : session-fed s image replies .settings ≡ s .settings
+  pub first-page : session-fed s image replies .first ≡ s .first
+  pub pages : session-fed s image replies .pages ≡ s .pages
+  pub held : unpacked 20 256 (packed (session-fed s image replies)) ≡ Held (session-fed s image replies)
+  pub stands : Placed session-limits (session-order (s .settings) (s .first) image) (session-fed s image replies .point)
+      (position (session-fed s image replies) image)
+  pub point : position (session-fed s image replies) image ≡ reached session-limits (position s image) replies
+  pub only : (t : Session) → in-range 20 256 t ≡ true → t .settings ≡ s .settings → t .first ≡ s .first → t .pages ≡ s .pages
+      → position t image ≡ reached session-limits (position s image) replies → t ≡ session-fed s image replies
+  pub left : exchange-at (session-fed s image replies) image ≡ fed (exchange-at s image) replies
+  pub step : session-step (session-fed s image replies) image ≡ asks (fed (exchange-at s image) replies)
+  pub number : number-of (session-fed s image replies .point) ≡ outcome-of (fed (exchange-at s image) replies) .number
+  pub offset : offset-of (session-fed s image replies .point) ≡ outcome-of (fed (exchange-at s image) replies) .offset
+  pub driven : own (fed (exchange-at s image) replies) ≡ true
+
+-- Whatever record a call takes, ours or not: its session, lent an image of its length, goes on so after any
+-- replies.
+abbrev pub Held-follows : Type 0
+Held-follows = (r : List ℕ) (s : Session) (image replies : List ℕ) → unpacked 20 256 r ≡ Held s → Bytes image → length image ≡ image-length s
+    → Follows-on s image replies
 
 -- The figure goes by the session and not by the image's bytes.
 abbrev pub Figure-of-any : Type 0
 Figure-of-any = (s : Session) (image : List ℕ) → in-range 20 256 s ≡ true → length image ≡ image-length s
     → figure session-limits (position s image) ≡ figure session-limits (position s (blank s))
+
+-- Whatever the record, the figure told is 0 exactly if the number told is not 0, running.
+abbrev pub Told-zero : Type 0
+Told-zero = (r : List ℕ) → told-left r ≡ 0 ↔ (done C2 (asking r) .number ≡ running → ⊥)
+
+-- Whatever the record, a call that takes replies lowers the figure told by at least the replies taken.
+abbrev pub Told-falls : Type 0
+Told-falls = (r image replies buffer : List ℕ) (place : ℕ) → Bytes image
+    → told-left (done C2 (taking r image replies buffer place) .held) + done C2 (taking r image replies buffer place) .answer .taken ≤ told-left r

@@ -10,9 +10,10 @@ use Rattle.settings.specs.declared.Settings.{Settings}
 use Rattle.c2_order.specs.Conversation.{session-limits}
 use Rattle.c2_order.specs.Figure.{figure}
 use Rattle.c2_order.specs.Claims.{exchange-of, point-after}
+use Rattle.c2_session.specs.declared.Session.{Session}
 use Rattle.c2_record.specs.Record.{packed, unpacked}
+use Rattle.c2_opening.specs.Opened.{opened-session, session-fed}
 use Rattle.c2_calls.specs.Calls.{Call, opening, taking, asking, refusal, Done, untouched, does, remaining-answer}
-use Rattle.c2_calls.specs.Claims.{session-after}
 use Rattle.c2_wire.specs.Exchange
 
 -- What the driver has of its session (demand 3): the record, the steps written to step buffers, joined, the
@@ -71,6 +72,10 @@ C2 =
       hears = hears;
       As-left = As-left;
     }
+
+-- the session that was opened, after replies
+abbrev pub session-after : Settings → (first : ℕ) → (image replies : List ℕ) → Session
+session-after t first image rs = session-fed (opened-session t first (length image)) image rs
 
 -- what the driver has after replies in a row, by the definitions of demand 2: the exchange of the session's order
 -- fed with them, the session that is reached, and the point of the order

@@ -1,3 +1,3 @@
 pub mod Calls
-pub mod Claims
 pub mod Family
+pub mod Claims

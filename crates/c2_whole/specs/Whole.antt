@@ -2,7 +2,7 @@
 -- each.
 use mathlib.Core.Path.{_≡_}
 use mathlib.Core.List.{List, [], _∷_}
-use Prim.Native.Nat.{ℕ, suc, _*_, _/_, _<_, _≤_}
+use Prim.Native.Nat.{ℕ, suc, _+_, _*_, _/_, _<_, _≤_}
 use lib.ListN.{length, take}
 use Rattle.numbers.specs.Numbers.{done, running}
 use Rattle.c2_wire.specs.Bits.{Bytes}
@@ -124,11 +124,12 @@ pub record Against (j : Job) (b : Bench) (start x : Told) (rs : List ℕ) : Type
       → programmed (anew j image) (given (j .settings) b (take n (sent x)) .flash) ≡ programmed (anew j image) (b .flash)
 
 -- What is claimed of a list of calls: each refused one changes no byte that it is lent and takes no reply;
--- what the calls tell is what the replies in a row come to; and where these are the target's own, `Against`
--- holds.
+-- what the calls tell is what the replies in a row come to; the most steps to come and the replies taken are
+-- together at most what the opening told; and where the replies are the target's own, `Against` holds.
 pub record Whole (j : Job) (start x : Told) (calls : List Call) : Type 0 where
   pub refused : Refused-unchanged C2
   pub told-is : x ≡ by-replies (j .settings) (first-of (j .pages)) (j .image) (in-a-row C2 calls)
+  pub bounded : x .left + x .taken ≤ start .left
   pub against : (b : Bench) → Ready (j .settings) b → Own (j .settings) b x (in-a-row C2 calls) → Against j b start x (in-a-row C2 calls)
 
 -- Demand 3: whatever the driver knew before, after an accepted opening, of every list of calls that may

@@ -1,27 +1,41 @@
--- The claims of specs/Claims.antt, each proved under its name.
+-- The claims of specs/Claims.antt, each proved under its name; Figure has those of the figure told.
 use mathlib.Core.Path.{_≡_, refl, sym, ap, _∙_}
 use mathlib.Core.List.{List, [], _∷_}
-use Prim.Native.Nat.{ℕ, zero, suc, _/_}
+use mathlib.Core.Logic.{inl, inr}
+use Prim.Native.Nat.{ℕ, zero, suc, _/_, _<_}
 use native.Mathlib.Omega.{arith}
+use borrow.Author.Tests.{eqb-true}
+use lib.Dec.{eqb}
 use lib.ListN.{length, replicate, length-replicate}
+use Rattle.laws.proofs.Tests.{both}
 use Rattle.c2_wire.specs.Bits.{Bytes}
-use Rattle.c2_wire.specs.Exchange.{Exchange, fed}
-use Rattle.c2_order.specs.Order.{order}
-use Rattle.c2_order.specs.Conversation.{session-limits}
-use Rattle.c2_order.specs.Point.{reached}
+use Rattle.c2_wire.specs.Exchange.{Exchange, Outcome, asks, fed}
+use Rattle.settings.specs.Opening.{opening-refusal}
+use Rattle.c2_order.specs.Acts.{Act}
+use Rattle.c2_order.specs.Order.{order, session-order}
+use Rattle.c2_order.specs.Conversation.{Limits, session-limits}
+use Rattle.c2_order.specs.Point.{Exists-in, reached}
+use Rattle.c2_order.specs.Claims.{Opening}
+use Rattle.c2_order.proofs.Laws.Claims.{driven-on}
+use Rattle.c2_session.specs.declared.Point.the-variants.{Running, Ended}
 use Rattle.c2_session.specs.declared.Session.{Session}
 use Rattle.c2_session.specs.Code.Advance.{advanced}
+use Rattle.c2_range.specs.Range.{in-range, point-in-range}
 use Rattle.c2_position.specs.Position.{position}
-use Rattle.c2_position.proofs.Laws.Advanced.{advances}
-use Rattle.c2_record.proofs.Laws.Claims.{small, pack-unpack, unpacked-exactly}
+use Rattle.c2_position.specs.Claims.{Placed}
+use Rattle.c2_position.proofs.Laws.Advanced.{SessionPoint, advances}
+use Rattle.c2_position.proofs.Laws.Step.{asks-step}
+use Rattle.c2_position.proofs.Laws.Claims.{in-order, one-session}
+use Rattle.c2_figure.proofs.Laws.Left.{counts}
 use Rattle.c2_record.specs.declared.Unpacked.the-variants.{Held}
 use Rattle.c2_record.specs.Record.{unpacked}
-use Rattle.c2_figure.proofs.Laws.Left.{counts}
+use Rattle.c2_record.proofs.Laws.Claims.{small, pack-unpack, unpacked-exactly}
 use Rattle.c2_opening.specs.Opened.{opened-session, image-length, session-fed}
 use Rattle.c2_calls.specs.Calls.{blank}
-use Rattle.c2_calls.specs.Claims.{session-after, Replies-follow, Records-stay, Parts-join, Figure-of-any}
+use Rattle.c2_calls.specs.Family.{session-after}
+use Rattle.c2_calls.specs.Claims.{Replies-follow, Held-follows, Parts-join, Figure-of-any}
 use Rattle.c2_opening.proofs.Laws.Opened.{begins-lent, begins-at, begins-so}
-use Rattle.c2_opening.proofs.Laws.Follows.{Lent, lent-advances, exchange-after, lent-after}
+use Rattle.c2_opening.proofs.Laws.Follows.{Lent, lent-advances, outcome-is, exchange-after, lent-after}
 use Rattle.c2_order.specs.Point
 
 -- a session stands at the point of the order that the replies reach
@@ -64,11 +78,46 @@ replies-follow t first image rs i f b e =
           ∙ ap (λ (x : Exchange). fed x rs) (begins-so t first image e);
     }
 
-pub records-stay : Records-stay
-records-stay s r image rs e b w =
+-- a session in range, lent its image, is one that its opening would accept
+pub opening-of : (s : Session) (image : List ℕ) → s .settings .fpdat < 256 → Lent s image → Opening (s .settings) (s .first) image
+unfolding in-range
+opening-of s image f h =
+    let p = both (eqb (opening-refusal (s .settings) (s .first) (image-length s)) 0) (point-in-range 20 256 (s .settings .size) (s .pages) (s .point)) (h .range) in
+    record { id = h .id; fpdat = f; bytes = h .bytes; accepted = rw (h .whole) (eqb-true _ 0 (p .0)) }
+
+-- a point of the order at which a session is placed exists there
+pub placed-exists : (l : Limits) (order : List Act) (y : SessionPoint) (x : Point.Point) → Placed l order y x → Exists-in l order x
+placed-exists l order (Running g i j k q c v) x h = inl h
+placed-exists l order (Ended n o) x h = inr (record { number = n; offset = o }, h)
+
+pub held-follows : Held-follows
+unfolding session-fed
+held-follows r s image rs e b w =
     let x = unpacked-exactly 20 256 small s r .0 e in
-    let h = lent-after s image rs (record { id = x .id; bytes = b; range = x .ranges; whole = w }) in
-    pack-unpack 20 256 small (session-fed s image rs) (h .id) (rw (settings-stay s image rs) (x .fpdat)) (h .range)
+    let lent : Lent s image = record { id = x .id; bytes = b; range = x .ranges; whole = w } in
+    let after = session-fed s image rs in
+    let h = lent-after s image rs lent in
+    let here = in-order 20 256 s image (lent .range) (lent .whole) in
+    let point = point-reached s image rs lent in
+    let left = sym (exchange-after s image rs lent) in
+    let out = outcome-is s image rs lent in
+    record {
+      settings = settings-stay s image rs;
+      first-page = first-stays s image rs;
+      pages = pages-stay s image rs;
+      held = pack-unpack 20 256 small after (h .id) (rw (settings-stay s image rs) (x .fpdat)) (h .range);
+      stands = rw (settings-stay s image rs, first-stays s image rs) at (in-order 20 256 after image (h .range) (h .whole));
+      point = point;
+      only = λ t i d p n q.
+          one-session 20 256 t after image i (h .range) (d ∙ sym (settings-stay s image rs)) (p ∙ sym (first-stays s image rs)) (n ∙ sym (pages-stay s image rs))
+          (rw (d, n) w) (q ∙ sym point);
+      left = left;
+      step = asks-step 20 256 after image (h .range) (h .whole) ∙ ap asks left;
+      number = sym (ap (λ (o : Outcome). o .number) out);
+      offset = sym (ap (λ (o : Outcome). o .offset) out);
+      driven = driven-on session-limits (s .settings) (s .first) image (opening-of s image (x .fpdat) lent) (position s image)
+          (placed-exists session-limits (session-order (s .settings) (s .first) image) (s .point) (position s image) here) rs;
+    }
 
 pub parts-join : Parts-join
 unfolding session-fed

@@ -26,8 +26,8 @@ use Rattle.c2_opening.specs.Opened.{opened-session, image-length, session-fed}
 use Rattle.c2_opening.proofs.Laws.Follows.{outcome-now}
 use Rattle.c2_calls.specs.declared.Remaining.{Remaining}
 use Rattle.c2_calls.specs.Calls.{Call, opening, taking, asking, held-number, refusal, Taking-done, taken-answer, steps-written, takes, blank, remaining-answer, does}
-use Rattle.c2_calls.specs.Claims.{session-after, Follows}
-use Rattle.c2_calls.specs.Family.{Told, told-left, hears, replies-of, C2, by-replies}
+use Rattle.c2_calls.specs.Claims.{Follows}
+use Rattle.c2_calls.specs.Family.{Told, told-left, hears, replies-of, C2, session-after, by-replies}
 use Rattle.c2_calls.proofs.Laws.Claims.{replies-follow, parts-join, lent-held, blank-bytes, figure-of-any}
 use Rattle.c2_wire.specs.Exchange
 

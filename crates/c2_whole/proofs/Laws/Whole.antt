@@ -21,10 +21,12 @@ use Rattle.settings.specs.Opening.{opening-refusal}
 use Rattle.settings.proofs.Laws.Opening.{settings-pass}
 use Rattle.settings.proofs.Laws.Opening as Facts
 use Rattle.c2_order.specs.Order.{Page, pages, rising, lead, order, session-order}
-use Rattle.c2_order.specs.Conversation.{session-limits, conversation}
+use Rattle.c2_order.specs.Conversation.{Positive, session-limits, conversation}
 use Rattle.c2_order.specs.Point.{begin, reached}
 use Rattle.c2_order.specs.Figure.{figure}
 use Rattle.c2_order.specs.Claims.{Opening, exchange-of}
+use Rattle.c2_order.proofs.Laws.Point.{begin-says}
+use Rattle.c2_order.proofs.Laws.Claims.{points-exist, figure-falls}
 use Rattle.c2_target.specs.declared.Target.{Target}
 use Rattle.c2_target.specs.Delays.{Setup, setup}
 use Rattle.c2_target.specs.Target.{fresh}
@@ -78,6 +80,16 @@ module _ (j : Job) (held : List ℕ) (g : Begins held j) where
   unfolding told
   told-are before calls m =
       ap (λ (x : Told). told C2 x calls) (starts before) ∙ c2-lists (j .settings) first (j .image) opening-of calls (rw (starts before) at m)
+
+  -- the most steps to come and the replies taken, after replies in a row
+  bounds : (rs : List ℕ) → by-replies (j .settings) first (j .image) rs .left + by-replies (j .settings) first (j .image) rs .taken
+      ≤ by-replies (j .settings) first (j .image) [] .left
+  unfolding by-replies reached
+  bounds rs =
+      let acts = session-order (j .settings) first (j .image) in
+      let p : Positive session-limits = record { wait = omega arith; reads = omega arith } in
+      let there = points-exist session-limits (j .settings) first (j .image) p opening-of [] in
+      rw (begin-says session-limits p acts) at (figure-falls session-limits (j .settings) first (j .image) p opening-of (begin acts) there rs)
 
   -- one call after the opening that takes these replies: it is accepted, its replies in a row are these, and it
   -- may follow
@@ -274,6 +286,7 @@ calls-program j held before calls g m =
     record {
       refused = refused-unchanged C2;
       told-is = e;
+      bounded = rw (e, starts j held g before) (bounds j held g rs);
       against = λ b r own.
           let o = rw e at own in
           rw (e, starts j held g before) (record {
