@@ -24,7 +24,8 @@ WAVES := target/waves/page.vcd
 SHORT := 200
 FRAMES := RESET Data_Read_0x04 RESET Address_Write_0x02 Data_Write_0x02 Data_Write_0x04 Data_Write_0x01 PAUSE \
     Address_Write_0xB4 Data_Write_0x08 Address_Read_0x01
-STRICT := -Wall -Wextra -Wpedantic -Werror -Iinclude
+WARNINGS := -Wall -Wextra -Wpedantic -Iinclude
+STRICT := $(WARNINGS) -Werror
 HEADERS := $(wildcard include/*.h)
 
 .PHONY: help library install flash test below compare compare-long numbers statements examples headers installed waves dumps bench prove clean
@@ -43,6 +44,7 @@ help:
 	@echo "make numbers       compare every list of the numbers that come back with docs/NUMBERS.md"
 	@echo "make statements    compare the names in docs/STATEMENTS.md with the crates"
 	@echo "make bench         time the library beside plain Rust, some minutes; ARGS=--quick for less"
+	@echo "make c             prove what has changed, then make dist/, the library as C99, anew"
 	@echo "make prove         prove what has changed since the last time"
 	@echo "make clean         remove everything that was built"
 
@@ -68,7 +70,7 @@ test:
 	@{ rt ci; echo $$?; } | { n=0; \
 	    while IFS= read -r line; do [ $$n -lt 2 ] || printf '%s\n' "$$a"; a=$$b b=$$line n=$$((n + 1)); done; \
 	    if [ "$$b" = 0 ]; then echo "$$a" >target/count; else echo "$$a"; exit 1; fi; }
-	@$(MAKE) --no-print-directory compare numbers statements examples
+	@$(MAKE) --no-print-directory compare numbers statements examples dist-test
 	@cat target/count
 
 # Everything below the program and the libraries, level by level.
@@ -167,3 +169,5 @@ prove:
 
 clean:
 	@rm -rf target
+
+include translate/rules.mk
