@@ -10,7 +10,7 @@ MIR := $(FACES:%=target/mir/%.mir)
 
 DIST := $(foreach face,$(FACES),$(patsubst include/%.h,dist/%.c,$($(face)_HEADERS)))
 
-.PHONY: c proved-faces dist-test dist-same dist-refusals
+.PHONY: c proved-faces dist-test dist-same dist-refusals dist-cases
 
 # `rt mir` also prints what is not proved: so the library is proved first, from the same files.
 target/mir/%.mir: target/staticlib/lib%.a
@@ -35,7 +35,7 @@ c: proved-faces $(MIR)
 
 # ---- What holds it
 
-dist-test: dist-same dist-refusals
+dist-test: dist-same dist-refusals dist-cases
 
 dist-same: $(MIR)
 	@rm -rf target/dist/made
@@ -49,3 +49,23 @@ dist-refusals:
 	@mkdir -p target/dist
 	@cargo test --quiet --offline --manifest-path translate/Cargo.toml --target-dir target/translate >target/dist/refusals
 	@echo "ok     translator: refuses every edit of its tests"
+
+STRICTEST := -std=c99 -Wall -Wextra -Wpedantic -Wconversion -Wsign-conversion -Wshadow -Wcast-qual -Wcast-align \
+    -Wmissing-prototypes -Wstrict-prototypes -Wundef -Werror -Iinclude
+
+# The machine's answers, function by function: for each file of a face, and for the zoo, which has the
+# constructs that the translator knows and no face uses.
+cases = python3 -B translate/cases.py $(1) target/mir/$(1).mir $(2) $($(1)_HEADERS) >target/dist/cases_$(notdir $(2)) && \
+    $(CC) -std=c99 -O1 $(STRICT) -Idist target/dist/cases_$(notdir $(2)) -o target/dist/cases_$(basename $(notdir $(2))) && \
+    timeout 60 target/dist/cases_$(basename $(notdir $(2)))
+
+ZOO := zoo translate/zoo/zoo.mir target/dist/zoo.c translate/zoo/zoo.h
+
+dist-cases: $(MIR)
+	@mkdir -p target/dist
+	@$(TRANSLATE) zoo translate/zoo/zoo.mir target/dist translate/zoo/zoo.h
+	@python3 -B translate/cases.py $(ZOO) >target/dist/cases_zoo.c
+	@$(CC) $(STRICTEST) -Itranslate/zoo -c target/dist/zoo.c -o target/dist/zoo.o
+	@$(CC) -std=c99 -O1 $(STRICT) -Itranslate/zoo target/dist/cases_zoo.c -o target/dist/cases_zoo
+	@timeout 60 target/dist/cases_zoo
+	@$(foreach face,$(FACES),$(foreach header,$($(face)_HEADERS),$(call cases,$(face),dist/$(notdir $(header:.h=.c))) &&)) true

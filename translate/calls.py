@@ -1,0 +1,57 @@
+"""Whole calls on the machine, as a driver makes them, so that the calls inside of them make sense."""
+from machine import Block, Pointer
+
+LEFT = 300  # steps in all
+
+
+def lent(elements):
+    return Pointer(Block(8, elements), 0), (64, len(elements))
+
+
+def call(machine, name, arguments):
+    return machine.call(machine.exported('c2', name), arguments)
+
+
+def c2(machine, rng):
+    """Sessions against the modelled target, bad replies, damaged records and states, refused openings."""
+    left = LEFT
+    while left > 0:
+        size = rng.choice((512, 1024))
+        count = rng.choice((1, 2, 3))
+        settings = (8, rng.randrange(256)), (8, rng.randrange(3, 256)), (32, size), (32, count)
+        image, flash = rng.choices(range(256), k=size), [0] * (size * count)
+        record, delays, step = [0] * 32, rng.choices(range(256), k=rng.randrange(4)), 4
+        refused = settings[:3] + ((32, rng.choice((0, 129, count))),)
+        call(machine, 'c2_open', [lent(record), lent(image), refused, (32, rng.randrange(200))])
+        call(machine, 'c2_open', [lent(record), lent(image), settings, (32, rng.randrange(count))])
+        target = call(machine, 'c2_target_fresh', [])
+        for _ in range(rng.choice((40, 100, 200))):
+            left -= 1
+            _, (_, reply), target = call(machine, 'c2_target_step', [settings, target, lent(flash), lent(delays), (8, step)])
+            steps = [0]
+            reply = reply if rng.randrange(500) else rng.randrange(4)
+            (_, number), _, _ = call(machine, 'c2_advance', [lent(record), lent(image), lent([reply]), lent(steps), (64, 0)])
+            step = steps[0]
+            if rng.randrange(12) == 0:
+                beside(machine, rng, (settings, record, image, flash, delays, target))
+            if number:
+                break
+
+
+def beside(machine, rng, kept):
+    """Calls that leave the session as it is: on a copy of its record, damaged, and of the target's state."""
+    settings, record, image, flash, delays, target = kept
+    other = list(record)
+    call(machine, 'c2_steps_left', [lent(other)])
+    replies = rng.choices((0, 1, 1, 1, 2), k=rng.randrange(9))
+    place = rng.choice((0, 1, 5, 2**32, 2**64 - 1))
+    call(machine, 'c2_advance', [lent(list(other)), lent(image), lent(replies), lent([0] * rng.randrange(16)), (64, place)])
+    other[rng.randrange(32)] ^= 1 << rng.randrange(8)
+    call(machine, 'c2_steps_left', [lent(other)])
+    call(machine, 'c2_advance', [lent(other), lent(image), lent(replies), lent([0] * 16), (64, 0)])
+    k = rng.randrange(len(target))
+    damaged = target[:k] + ((target[k][0], rng.randrange(12)),) + target[k + 1:]
+    call(machine, 'c2_target_step', [settings, damaged, lent(list(flash)), lent(delays), (8, rng.randrange(9))])
+
+
+CALLS = {'c2': c2}

@@ -1,0 +1,18 @@
+/* The exported function of the zoo. */
+#ifndef ZOO_H
+#define ZOO_H
+
+#include <stdbool.h>
+#include <stddef.h>
+#include <stdint.h>
+
+typedef struct {
+    uint64_t n;
+    bool ok;
+} zoo_answer;
+
+zoo_answer zoo_run(uint8_t n, const uint8_t *x, size_t x_len, const uint8_t *y, size_t y_len, uint64_t *list,
+                   size_t list_len, uint16_t *cells, size_t cells_len, uint32_t *words, size_t words_len,
+                   size_t size, bool flag);
+
+#endif
