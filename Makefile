@@ -19,7 +19,8 @@ SOURCES := $(wildcard crates/*/src/*.rt crates/*/src/*/*.rt)
 PREFIX ?= /usr/local
 VERSION = $(shell sed -n 's/^.define C2_VERSION_[MP][A-Z]* //p' include/c2.h | paste -sd.)
 
-EXAMPLES := target/examples/first target/examples/driver target/examples/waves target/examples/dumps
+EXAMPLES := $(patsubst %,target/examples/%,first driver waves flash dumps)
+OBJECTS := $(patsubst dist/%.c,target/c/%.o,$(wildcard dist/*.c))
 WAVES := target/waves/page.vcd
 SHORT := 200
 FRAMES := RESET Data_Read_0x04 RESET Address_Write_0x02 Data_Write_0x02 Data_Write_0x04 Data_Write_0x01 PAUSE \
@@ -60,8 +61,8 @@ install: $(LIBRARY)
 	@echo "c2 $(VERSION) is in $(DESTDIR)$(PREFIX)"
 
 # The program's three lines; unless its outcome is 32 this fails, and says in words why.
-flash: $(FLASH)
-	@lines=$$($(FLASH) $(if $(IMAGE),<'$(IMAGE)')) && echo "$$lines" && number=$${lines##*outcome } && \
+flash: target/examples/flash
+	@lines=$$($< $(if $(IMAGE),<'$(IMAGE)')) && echo "$$lines" && number=$${lines##*outcome } && \
 	    { test "$$number" = 32 || { sed -n "s/^| $$number | [^|]* | \(.*\) | \(.*\) |$$/\1: \2/p" docs/NUMBERS.md >&2; false; }; }
 
 # First everything is proved from nothing; the comparison and the examples then run on what that leaves in
@@ -70,7 +71,7 @@ test:
 	@{ rt ci; echo $$?; } | { n=0; \
 	    while IFS= read -r line; do [ $$n -lt 2 ] || printf '%s\n' "$$a"; a=$$b b=$$line n=$$((n + 1)); done; \
 	    if [ "$$b" = 0 ]; then echo "$$a" >target/count; else echo "$$a"; exit 1; fi; }
-	@$(MAKE) --no-print-directory compare numbers statements examples dist-test
+	@$(MAKE) --no-print-directory compare numbers statements headers installed examples dist-test
 	@cat target/count
 
 # Everything below the program and the libraries, level by level.
@@ -94,7 +95,7 @@ statements:
 # The first one is the program of README.md, word for word below its first line. The waveform has a header,
 # the session's first frames, and in so many steps a falling edge of C2CK for each but 5 and 6. The picture is
 # README's.
-examples: headers installed $(EXAMPLES)
+examples: $(EXAMPLES)
 	@sed -n '/^```c$$/,/^```$$/{/^```/!p;}' README.md >target/examples/readme.c
 	@sed 1d examples/first.c | diff - target/examples/readme.c
 	@target/examples/first
@@ -115,7 +116,8 @@ examples: headers installed $(EXAMPLES)
 	@test $$(grep -cE '^ +[0-9]+ +[0-9]*[02468] +1  79 +78$$' target/examples/ranges) -eq 32768
 	@echo "ok     dumps: every second byte of 64 KiB differs, 32768 ranges in pieces of the list buffer"
 
-# As C11 and C++20: each header alone, and all of them in one file, in either order and twice.
+# As C11 and C++20: each header alone, and all of them in one file, in either order and twice; the examples as C++20 too,
+# since drivers are written in both.
 headers:
 	@mkdir -p target/examples
 	@for header in $(HEADERS) $(HEADERS); do echo "#include \"$$header\""; done >target/examples/all.h
@@ -123,6 +125,8 @@ headers:
 	@for file in $(HEADERS) target/examples/all.h target/examples/reversed.h; do \
 	    echo "#include \"$$file\"" | $(CC) -std=c11 $(STRICT) -I. -fsyntax-only -x c - && \
 	    echo "#include \"$$file\"" | $(CXX) -std=c++20 $(STRICT) -I. -fsyntax-only -x c++ - || exit 1; done
+	@for file in $(wildcard examples/*.c examples/driver/*.c examples/waves/*.c); do \
+	    $(CXX) -x c++ -std=c++20 $(STRICT) -fsyntax-only $$file || exit 1; done
 	@echo "ok     headers: $(words $(HEADERS)), each alone and all together, as C11 and C++20"
 
 # What `make install` puts somewhere is enough to build a program there.
@@ -150,12 +154,15 @@ dumps: target/examples/dumps
 bench: $(LIBRARIES)
 	@$(BENCH) $(ARGS)
 
-# An example is a file or a folder. As C11, and as C++ too, since drivers are written in both.
+# An example is a file or a folder. A C compiler is enough: the calls come from dist/.
 .SECONDEXPANSION:
-target/examples/%: $$(wildcard examples/$$*.c examples/$$*/*.[ch]) $(HEADERS) $(LIBRARY)
+target/examples/%: $$(wildcard examples/$$*.c examples/$$*/*.[ch]) $(HEADERS) $(OBJECTS)
 	@mkdir -p target/examples
-	@for file in $(filter %.c,$^); do $(CXX) -x c++ -std=c++20 $(STRICT) -fsyntax-only $$file || exit 1; done
-	@$(CC) -std=c11 -O2 $(STRICT) $(filter %.c,$^) $(LIBRARY) -o $@
+	@$(CC) -std=c11 -O2 $(WARNINGS) $(filter %.c,$^) $(OBJECTS) -o $@
+
+$(OBJECTS): target/c/%.o: dist/%.c $(HEADERS)
+	@mkdir -p target/c
+	@$(CC) -std=c99 -O2 $(WARNINGS) -c $< -o $@
 
 # What is proved goes to the error stream, so that only the program writes to standard output.
 target/staticlib/lib%.a: $(SOURCES)
