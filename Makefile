@@ -46,6 +46,7 @@ help:
 	@echo "make statements    compare the names in docs/STATEMENTS.md with the crates"
 	@echo "make bench         time the library beside plain Rust, some minutes; ARGS=--quick for less"
 	@echo "make c             prove what has changed, then make dist/, the library as C99, anew"
+	@echo "make cortex-m      code, stack and instructions of dist/ on a Cortex-M0+ and M4, under qemu"
 	@echo "make prove         prove what has changed since the last time"
 	@echo "make clean         remove everything that was built"
 

@@ -136,7 +136,7 @@ dist-compare: $(FACES:%=target/dist/lib/lib%.a) target/examples/flash $(LIBRARIE
 
 compare-long: dist-long
 
-.PHONY: dist-long
+.PHONY: dist-long cortex-m
 
 # The sanitizers and other processors, and the comparison over dist/ with every overflow and lossy conversion
 # a trap.
@@ -152,3 +152,14 @@ dist-long: dist-cases dist-replay dist-examples $(LIBRARIES) target/examples/fla
 	        { cat target/dist/compared; exit 1; }; \
 	    echo "ok     comparison over dist/, with traps: $$(tail -n 1 target/dist/compared | xargs)"; \
 	else echo "not run: the comparison with traps (Debian package clang)"; fi
+
+# Code, stack and instructions for a Cortex-M0+ and a Cortex-M4, and the driver of examples/cortex-m under
+# qemu.
+cortex-m:
+	@mkdir -p target/cortex-m
+	@$(CC) -std=c99 -O2 $(STRICT) translate/replay.c dist/c2.c dist/c2_target.c -o target/cortex-m/replay
+	@$(CC) -std=c99 -O2 $(WARNINGS) translate/replay.c examples/cortex-m/by_hand.c dist/c2_target.c -o target/cortex-m/replay_by_hand
+	@target/cortex-m/replay $(REPLAYED) >target/cortex-m/replayed
+	@target/cortex-m/replay_by_hand $(REPLAYED) | diff target/cortex-m/replayed -
+	@echo "ok     by_hand.c: $(REPLAYED) calls, as dist/c2.c"
+	@python3 -B examples/cortex-m/measure.py target/cortex-m
