@@ -193,6 +193,10 @@ pub record Length-corners : Type 0 where
   pub reads-zeros-1 : replies [] (long-get 1 ++ get ∷ []) ≡ 1 ∷ 0 ∷ 0 ∷ 1 ∷ 0 ∷ 1 ∷ replicate 16 0 ++ 1 ∷ id-after 0
   pub reads-zeros-2 : replies [] (long-get 2 ++ get ∷ []) ≡ 1 ∷ 0 ∷ 0 ∷ 0 ∷ 1 ∷ 1 ∷ replicate 24 0 ++ 1 ∷ id-after 0
   pub reads-zeros-3 : replies [] (long-get 3 ++ get ∷ []) ≡ 1 ∷ 0 ∷ 0 ∷ 1 ∷ 1 ∷ 1 ∷ replicate 32 0 ++ 1 ∷ id-after 0
+  pub reads-zeros-at-fpdat : drop (length (steps (on ++ put 0x08 ∷ []))) (replies [] (on ++ put 0x08 ∷ long-get 1))
+      ≡ 1 ∷ 0 ∷ 0 ∷ 1 ∷ 0 ∷ 1 ∷ replicate 16 0 ++ 1 ∷ []
+  -- They have a WAIT, and take a delay at it.
+  pub takes-a-delay : (after (0 ∷ 0 ∷ []) (long-get 1) .target .place ≡ 1) × (after (0 ∷ 0 ∷ []) (long-put 1) .target .place ≡ 1)
   -- They take no output.
   pub takes-no-output : on-reads [] (put 0x08 ∷ long-get 1 ++ look ∷ get ∷ []) ≡ 1 ∷ 0x0d ∷ []
   -- They run to their end and write nothing: a byte put would give a status.
