@@ -9,4 +9,5 @@ pub mod Step
 pub mod Exchange
 pub mod Before
 pub mod Left
+pub mod Each
 pub mod Claims

@@ -43,11 +43,11 @@ module _ (s : Session) (image : List ℕ) (h : Fits s image) where
       = ap (λ (m : ℕ). m / s .settings .size) (h .whole) ∙ mul-div-cancel (s .pages) (omega (arith, h .settings .size, h .settings .some)) in
       rw n refl
 
-  lead-ends : Ends all (acts-from Lead s image 0 0 0)
-  lead-ends = ([], sym order-is)
+  pub lead-first : acts-from Lead s image 0 0 0 ≡ all
+  lead-first = sym order-is
 
   pages-end : (i : ℕ) → i ≤ s .pages → Ends all (pages-from s image i)
-  pages-end zero g = later all (lead (s .settings)) (pages-from s image 0) ([], sym order-is)
+  pages-end zero g = later all (lead (s .settings)) (pages-from s image 0) ([], lead-first)
   pages-end (suc i) g =
       let e = pages-on s image h i (omega arith) in
       let a = rw e at (pages-end i (omega arith)) in
@@ -72,7 +72,7 @@ module _ (s : Session) (image : List ℕ) (h : Fits s image) where
 
   -- a stage's acts, at a page and block of it, and those after them
   stage-ends : (g : Stage) (i j : ℕ) → i < pages-in g (s .pages) → j < blocks-in g (s .settings .size) → Ends all (stage-acts g s image i j ++ after-stage g s image i j)
-  stage-ends Lead i j gi gj = lead-ends
+  stage-ends Lead i j gi gj = ([], lead-first)
   stage-ends Erase i j gi gj = erase-ends i gi
   stage-ends Write i j gi gj = rw (writes-then s image h i j gj) at (writes-end i j gi (omega arith))
   stage-ends Read i j gi gj = rw (reads-then s image h i j gj) at (reads-end i j gi (omega arith))

@@ -1,13 +1,16 @@
 -- The claims of specs/Claims.antt, each proved under its name.
 use mathlib.Core.Path.{_≡_, refl, sym, ap, _∙_}
 use mathlib.Core.Bool.{Bool, true, false}
-use mathlib.Core.List.{List, [], _∷_, _++_}
+use mathlib.Core.List.{List, _++_}
 use Prim.Native.Nat.{ℕ, _*_}
 use native.Mathlib.Omega.{arith}
+use lib.Dec.{eqb}
 use lib.ListN.{length}
+use Rattle.laws.proofs.Tests.{both}
 use Rattle.c2_wire.specs.Exchange.{Outcome, outcome}
 use Rattle.c2_wire.specs.Place.{place}
 use Rattle.c2_wire.specs.declared.Place.{Place}
+use Rattle.settings.specs.Opening.{opening-refusal}
 use Rattle.c2_order.specs.Acts.{Act}
 use Rattle.c2_order.specs.Order.{session-order}
 use Rattle.c2_order.specs.Conversation.{limits}
@@ -18,7 +21,7 @@ use Rattle.c2_acts.specs.Code.Acts.{task-of}
 use Rattle.c2_session.specs.Code.Next.{at, strobe-point}
 use Rattle.c2_range.specs.Range.{strobes-in, reads-in, in-range, point-in-range}
 use Rattle.c2_position.specs.Position.{acts-from, at-act, point-position, position}
-use Rattle.c2_position.specs.Claims.{Placed, In-order, One-session}
+use Rattle.c2_position.specs.Claims.{Placed, In-order, One-session, Each-point}
 use Rattle.c2_position.proofs.Laws.Position.{Fits, act-here, act-byte}
 use Rattle.c2_position.proofs.Laws.Onward.{rest-from, acts-here}
 use Rattle.c2_position.proofs.Laws.Advanced.{SessionPoint, with-point, exists-of, fits-of, point-of, position-keeps}
@@ -26,6 +29,7 @@ use Rattle.c2_position.proofs.Laws.Range.{place-exists}
 use Rattle.c2_position.proofs.Laws.Exchange.{task-exists}
 use Rattle.c2_position.proofs.Laws.Before.{acts-end}
 use Rattle.c2_position.proofs.Laws.Left.{acts-length, one-at}
+use Rattle.c2_position.proofs.Laws.Each.{acts-of, acts-there, point-there}
 use Rattle.c2_order.specs.Point
 
 pub in-order : In-order
@@ -56,14 +60,10 @@ in-order w r s image e l = go (s .point) (point-of w r s e)
         }
     go (Ended n o) f = refl
 
--- what is seen of a point of the order: whether it is running, its acts, its place, and its outcome
+-- what is seen of a point of the order: whether it is running, its place, and its outcome
 abbrev runs : Point.Point → Bool
 runs (Point.running a acts p) = true
 runs (Point.ended o) = false
-
-abbrev acts-of : Point.Point → List Act
-acts-of (Point.running a acts p) = a ∷ acts
-acts-of (Point.ended o) = []
 
 abbrev place-of : Point.Point → Place
 place-of (Point.running a acts p) = p
@@ -72,10 +72,6 @@ place-of (Point.ended o) = place 0 0 0
 abbrev outcome-at : Point.Point → Outcome
 outcome-at (Point.running a acts p) = outcome 0
 outcome-at (Point.ended o) = o
-
-acts-there : (acts : List Act) (p : Place) → acts-of (at-act acts p) ≡ acts
-acts-there [] p = refl
-acts-there (a ∷ acts) p = refl
 
 -- points of a session, in range, that name the same point of the order are the same
 module _ (w r : ℕ) (s : Session) (image : List ℕ) (h : Fits s image) where
@@ -114,3 +110,17 @@ one-session w r s t image e f d p n l x =
     let range : point-in-range w r (s .settings .size) (s .pages) (t .point) ≡ true = rw (d, n) (point-of w r t f) in
     let q = one-point w r s image (fits-of w r s image e l) (s .point) (t .point) (point-of w r s e) range (x ∙ there) in
     λ i. record { settings = d i; first = p i; pages = n i; point = q i }
+
+pub each-point : Each-point
+unfolding in-range
+each-point w r s image hw hr e l x h =
+    let o = both (eqb (opening-refusal (s .settings) (s .first) (s .settings .size * s .pages)) 0) (point-in-range w r (s .settings .size) (s .pages) (s .point)) e in
+    let y = point-there w r hw hr s image (fits-of w r s image e l) x h in
+    record {
+      session = with-point s (y .0);
+      settings = refl;
+      first-page = refl;
+      pages = refl;
+      range = rw (o .0) (y .1);
+      here = position-keeps s (y .0) image (y .0) ∙ y .2;
+    }

@@ -96,7 +96,7 @@ module _ (w r : ℕ) (hw : 0 < w) (hr : 0 < r) (s : Session) (image : List ℕ) 
   cond-in true x y p q = p
   cond-in false x y p q = q
 
-  running-in : (g : Stage) (i j k : ℕ) (p : Place) → i < pages-in g (s .pages) → j < blocks-in g (s .settings .size) → k < acts-in g
+  pub running-in : (g : Stage) (i j k : ℕ) (p : Place) → i < pages-in g (s .pages) → j < blocks-in g (s .settings .size) → k < acts-in g
       → Exists w (reads-in r (task-of g k)) (strobes-in (task-of g k)) p → In (strobe-point (at g i j k) p)
   unfolding running-in-range
   running-in g i j k p gi gj gk e =
@@ -136,7 +136,7 @@ module _ (w r : ℕ) (hw : 0 < w) (hr : 0 < r) (s : Session) (image : List ℕ) 
           rw (le-ltb (j + 1) (s .settings .size / 256) (omega arith), le-ltb (i + 1) (s .pages) (omega arith)) (begins-in Close 0 0 0 (omega arith) (omega arith) (omega arith))
   stage-in Close i j k gi gj = refl
 
-  onward-in : (g : Stage) (i j k : ℕ) → i < pages-in g (s .pages) → j < blocks-in g (s .settings .size) → k < acts-in g → In (next-act s (at g i j k))
+  pub onward-in : (g : Stage) (i j k : ℕ) → i < pages-in g (s .pages) → j < blocks-in g (s .settings .size) → k < acts-in g → In (next-act s (at g i j k))
   unfolding next-act
   onward-in g i j k gi gj gk = go (decLt (k + 1) (acts-in g))
     where
