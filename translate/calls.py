@@ -4,12 +4,12 @@ from machine import Block, Pointer
 LEFT = 300  # steps in all
 
 
-def lent(elements):
-    return Pointer(Block(8, elements), 0), (64, len(elements))
+def lent(elements, width=8):
+    return Pointer(Block(width, elements), 0), (64, len(elements))
 
 
-def call(machine, name, arguments):
-    return machine.call(machine.exported('c2', name), arguments)
+def call(machine, name, arguments, crate='c2'):
+    return machine.call(machine.exported(crate, name), arguments)
 
 
 def c2(machine, rng):
@@ -54,4 +54,20 @@ def beside(machine, rng, kept):
     call(machine, 'c2_target_step', [settings, damaged, lent(list(flash)), lent(delays), (8, rng.randrange(9))])
 
 
-CALLS = {'c2': c2}
+def dump(machine, rng):
+    """Dumps that are equal, that differ in some bytes or in every second one, and refused ones."""
+    for _ in range(24):
+        size = rng.choice((512, 1024))
+        a = rng.choices(range(256), k=size * rng.choice((0, 1, 1, 2)))
+        b = list(a)
+        if a and rng.randrange(4) == 0:
+            b = [byte ^ (1 - place % 2) for place, byte in enumerate(a)]
+        for _ in range(rng.choice((0, 1, 3, 40)) if a else 0):
+            b[rng.randrange(len(b))] ^= rng.randrange(1, 256)
+        ranges = lent([0] * rng.choice((0, 1, 2, 3, 8, 100)), 64)
+        for asked, other in ((size, b), (rng.choice((0, 511, 1024)), b), (size, b[1:])):
+            call(machine, 'c2_dump_ranges', [(32, asked), lent(a), lent(other), ranges], 'dump')
+            call(machine, 'c2_dump_first', [(32, asked), lent(a), lent(other)], 'dump')
+
+
+CALLS = {'c2': c2, 'dump': dump}

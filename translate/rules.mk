@@ -4,6 +4,7 @@
 # for each header.
 FACES := $(USERS)
 c2_HEADERS := include/c2.h include/c2_target.h
+dump_HEADERS := include/c2_dump.h
 
 TRANSLATE := cargo run --quiet --offline --manifest-path translate/Cargo.toml --target-dir target/translate --
 MIR := $(FACES:%=target/mir/%.mir)
@@ -64,7 +65,7 @@ dist-strict:
 # The machine's answers, function by function: for each file of a face, and for the zoo, which has the
 # constructs that the translator knows and no face uses.
 cases = python3 -B translate/cases.py $(1) target/mir/$(1).mir $(2) $($(1)_HEADERS) >target/dist/cases_$(notdir $(2)) && \
-    $(CC) -std=c99 -O1 $(STRICT) -Idist target/dist/cases_$(notdir $(2)) -o target/dist/cases_$(basename $(notdir $(2))) && \
+    $(CC) -std=c99 -O1 $(STRICT) -Wno-unused-function -Idist target/dist/cases_$(notdir $(2)) -o target/dist/cases_$(basename $(notdir $(2))) && \
     timeout 60 target/dist/cases_$(basename $(notdir $(2)))
 
 ZOO := zoo translate/zoo/zoo.mir target/dist/zoo.c translate/zoo/zoo.h
@@ -109,7 +110,7 @@ dist-symbols: $(FACES:%=target/dist/lib/lib%.a) $(LIBRARY)
 
 # The examples over the library write what they write over dist/, byte for byte, and the C program what the
 # proved one does.
-WRITING := $(filter-out flash,$(notdir $(EXAMPLES)))
+WRITING := $(filter-out flash dumps,$(notdir $(EXAMPLES)))
 LENGTHS := 0 1 511 512 513 1024 1536 16383 16384 16385 16896 1000000
 
 dist-examples: $(EXAMPLES) $(FLASH) $(LIBRARY)
@@ -119,6 +120,11 @@ dist-examples: $(EXAMPLES) $(FLASH) $(LIBRARY)
 	    $(CC) -std=c11 -O2 $(STRICT) $$sources $(LIBRARY) -o target/dist/$$name || exit 1; \
 	    target/dist/$$name >target/dist/$$name.library && target/examples/$$name >target/dist/$$name.dist || exit 1; \
 	    cmp target/dist/$$name.library target/dist/$$name.dist || exit 1; done
+	@for file in c2 c2_target; do head -c 65536 dist/$$file.c >target/dist/$$file.bin; done
+	@$(CC) -std=c11 -O2 $(STRICT) examples/dumps.c $(LIBRARY) -o target/dist/dumps
+	@! target/dist/dumps target/dist/c2.bin target/dist/c2_target.bin >target/dist/dumps.library
+	@! target/examples/dumps target/dist/c2.bin target/dist/c2_target.bin >target/dist/dumps.dist
+	@cmp target/dist/dumps.library target/dist/dumps.dist
 	@for length in $(LENGTHS); do \
 	    cat $(DIST) $(DIST) $(DIST) $(DIST) $(DIST) | head -c $$length >target/dist/image; \
 	    $(FLASH) <target/dist/image >target/dist/proved && target/examples/flash <target/dist/image | diff target/dist/proved - || exit 1; done
