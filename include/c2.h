@@ -115,8 +115,19 @@ enum {
                                    is tested first, no session of these calls ends so; a record may hold it */
 
     /* Refused steps of the modelled target, c2_target.h. Nothing has changed. */
-    C2_NO_STEP = 16, /* step 1 or above 6 */
+    C2_NO_STEP = 16,  /* step 1 or above 6 */
     C2_NO_POINT = 17, /* flash length not page size times page count, or a state that is no target's */
+
+    /* Refused HEX files, c2_hex.h. No byte of the buffer to be filled has changed. */
+    C2_BAD_LINE = 20,       /* a bad character, digit count or line end: the file is cut off, or no HEX file
+                               */
+    C2_BAD_CHECKSUM = 21,   /* the record's bytes don't add up to 0: a byte of the line is wrong */
+    C2_BAD_HEX_RECORD = 22, /* type neither 00 nor 01, type 01 with length or address not 0, or data past the
+                               last flash byte: the file is for another device, or for more than 64 KiB */
+    C2_SET_TWICE = 23,      /* a byte set twice: two parts of the program lie over each other */
+    C2_NO_END_RECORD = 24,  /* no end record, or anything after it: the file is cut off, or two in one */
+    C2_NO_DATA = 25,        /* no data: nothing to program */
+    C2_BUFFER_TOO_SMALL = 26, /* the buffer to be filled is too small: lend a longer one */
 
     /* Refused dumps, c2_dump.h: this one, and 2 before it. Nothing has changed. */
     C2_BAD_DUMPS = 31 /* dumps of different length, or not whole pages: lend two dumps of one device */
@@ -129,6 +140,12 @@ typedef struct {
     uint32_t page_size;  /* bytes of a flash page, 512 or 1,024 */
     uint32_t page_count; /* pages of the flash, at least 1; size times count at most 65,536 */
 } c2_settings;
+
+/* The answer of a call that writes a file. */
+typedef struct {
+    uint32_t number; /* 0, or why it was refused */
+    uint64_t length; /* bytes written; 0 when refused */
+} c2_written;
 
 /* The answer to c2_open. */
 typedef struct {

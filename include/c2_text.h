@@ -46,6 +46,20 @@ static inline const char *c2_text(uint32_t number) {
         return "no such step of the modelled target: give 0 or 2 to 6";
     case C2_NO_POINT:
         return "flash length not page size times page count, or no target's state: start with a fresh target";
+    case C2_BAD_LINE:
+        return "bad character, digit count or line end: take the file from the build again; it is cut off, or no Intel HEX";
+    case C2_BAD_CHECKSUM:
+        return "record's bytes don't add up to 0: take the file from the build again; a byte of the line is wrong";
+    case C2_BAD_HEX_RECORD:
+        return "record of another type, or data past the last flash byte: build for this device, within its flash and 64 KiB";
+    case C2_SET_TWICE:
+        return "byte set twice: correct the build; two parts of it lie over each other";
+    case C2_NO_END_RECORD:
+        return "no end record, or anything after it: take the file from the build again; it is cut off, or two in one";
+    case C2_NO_DATA:
+        return "no data: correct the build; there is nothing to program";
+    case C2_BUFFER_TOO_SMALL:
+        return "buffer to be filled too small: lend a longer one";
     case C2_BAD_DUMPS:
         return "dumps of different length, or not whole pages: lend two dumps of one device";
     default:

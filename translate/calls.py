@@ -70,4 +70,29 @@ def dump(machine, rng):
             call(machine, 'c2_dump_first', [(32, asked), lent(a), lent(other)], 'dump')
 
 
-CALLS = {'c2': c2, 'dump': dump}
+def record(address, data, kind=0):
+    """A line of a HEX file."""
+    content = [len(data), address // 256 % 256, address % 256, kind] + data
+    content.append(-sum(content) % 256)
+    return list(b':' + bytes(content).hex().upper().encode() + b'\n')
+
+
+def hex(machine, rng):
+    """Files that are written and read back, files of scattered records, damaged ones, and buffers too short."""
+    for _ in range(6):
+        size, count = rng.choice(((512, 2), (1024, 1), (512, 3)))
+        settings = (8, rng.randrange(256)), (8, rng.randrange(2, 256)), (32, size), (32, rng.choice((count, count, 0)))
+        image, room = rng.choices(range(256), k=size), rng.choice((0, 511, size, size * count))
+        file = [0] * (size // 16 * 44 + rng.choice((11, 12, 20)))
+        call(machine, 'c2_hex_write', [settings, (32, rng.randrange(3)), lent(image), lent(file)], 'hex')
+        call(machine, 'c2_hex_read', [settings, lent(file), lent([0] * room)], 'hex')
+        scattered = []
+        for _ in range(rng.randrange(1, 12)):
+            scattered += record(rng.randrange(size * count), rng.choices(range(256), k=rng.choice((0, 1, 3, 16))))
+        scattered += record(0, [], 1)
+        call(machine, 'c2_hex_read', [settings, lent(scattered), lent([0] * room)], 'hex')
+        scattered[rng.randrange(len(scattered))] ^= 1 << rng.randrange(8)
+        call(machine, 'c2_hex_read', [settings, lent(scattered[:rng.randrange(len(scattered) + 1)]), lent([0] * room)], 'hex')
+
+
+CALLS = {'c2': c2, 'dump': dump, 'hex': hex}

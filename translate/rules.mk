@@ -5,6 +5,7 @@
 FACES := $(USERS)
 c2_HEADERS := include/c2.h include/c2_target.h
 dump_HEADERS := include/c2_dump.h
+hex_HEADERS := include/c2_hex.h
 
 TRANSLATE := cargo run --quiet --offline --manifest-path translate/Cargo.toml --target-dir target/translate --
 MIR := $(FACES:%=target/mir/%.mir)
@@ -35,7 +36,7 @@ c: proved-faces $(MIR)
 	@cp -r target/dist/made dist
 	@echo "$(DIST): made anew from the proved tree"
 
-# ---- What holds it: some 30 s in `make test`
+# ---- What holds it: some 90 s in `make test`
 
 dist-test: dist-same dist-refusals dist-strict dist-cases dist-replay dist-symbols dist-examples dist-compare
 
@@ -110,7 +111,7 @@ dist-symbols: $(FACES:%=target/dist/lib/lib%.a) $(LIBRARY)
 
 # The examples over the library write what they write over dist/, byte for byte, and the C program what the
 # proved one does.
-WRITING := $(filter-out flash dumps,$(notdir $(EXAMPLES)))
+WRITING := $(filter-out flash dumps hex,$(notdir $(EXAMPLES)))
 LENGTHS := 0 1 511 512 513 1024 1536 16383 16384 16385 16896 1000000
 
 dist-examples: $(EXAMPLES) $(FLASH) $(LIBRARY)
@@ -125,6 +126,12 @@ dist-examples: $(EXAMPLES) $(FLASH) $(LIBRARY)
 	@! target/dist/dumps target/dist/c2.bin target/dist/c2_target.bin >target/dist/dumps.library
 	@! target/examples/dumps target/dist/c2.bin target/dist/c2_target.bin >target/dist/dumps.dist
 	@cmp target/dist/dumps.library target/dist/dumps.dist
+	@printf ':0102000041BC\n:00000001FF\n' >target/dist/good.hex
+	@printf ':0102000041BD\n:00000001FF\n' >target/dist/bad.hex
+	@$(CC) -std=c11 -O2 $(STRICT) examples/hex.c $(LIBRARY) -o target/dist/hex
+	@! target/dist/hex target/dist/good.hex target/dist/bad.hex >target/dist/hex.library
+	@! target/examples/hex target/dist/good.hex target/dist/bad.hex >target/dist/hex.dist
+	@cmp target/dist/hex.library target/dist/hex.dist
 	@for length in $(LENGTHS); do \
 	    cat $(DIST) $(DIST) $(DIST) $(DIST) $(DIST) | head -c $$length >target/dist/image; \
 	    $(FLASH) <target/dist/image >target/dist/proved && target/examples/flash <target/dist/image | diff target/dist/proved - || exit 1; done

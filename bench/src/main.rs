@@ -9,6 +9,7 @@
 mod checks;
 mod dumps;
 mod harness;
+mod hex;
 mod plain;
 mod rows;
 
@@ -88,7 +89,8 @@ fn run() -> Result<(), String> {
     sessions::troubled_sessions_agree()?;
     frames::targets_agree()?;
     LISTS.into_iter().try_for_each(|(name, delays)| table(name, delays, options.repeat))?;
-    dumps::table(options.repeat)
+    dumps::table(options.repeat)?;
+    hex::table(options.repeat)
 }
 
 fn main() -> ExitCode {

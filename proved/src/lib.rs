@@ -6,3 +6,4 @@ pub mod c2_run;
 pub mod c2_target;
 pub mod c2_wire;
 pub mod dump;
+pub mod hex;

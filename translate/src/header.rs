@@ -133,10 +133,16 @@ impl Header {
                 _ if in_cxx => ensure!(IN_CXX.contains(&line), "the header has for C++: {line}"),
                 ["#ifdef", "__cplusplus"] => in_cxx = true,
                 ["#ifndef", name] => self.macros.push(name.to_string()),
-                ["#define", name, rest @ ..] => {
+                ["#define", defined, rest @ ..] => {
+                    // A number, or a number of one parameter, as NAME(parameter).
+                    let (name, parameter) =
+                        defined.trim_end_matches(')').split_once('(').unwrap_or((*defined, ""));
                     for token in tokens(&rest.join(" "))? {
                         let known = self.macros.contains(&token) || token.bytes().all(|b| b.is_ascii_digit());
-                        ensure!(known || "()*+".contains(&token), "the header defines {name} by {token}");
+                        ensure!(
+                            known || token == parameter || "()*/+".contains(&token),
+                            "the header defines {name} by {token}"
+                        );
                     }
                     self.macros.push(name.to_string());
                 }

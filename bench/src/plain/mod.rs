@@ -1,6 +1,7 @@
 //! The same calls in plain Rust.
 
 pub mod dump;
+pub mod hex;
 pub mod session;
 pub mod target;
 pub mod wire;

@@ -2,6 +2,7 @@
 
 mod c2;
 mod dump;
+mod hex;
 
 use crate::harness::check::Check;
 
@@ -16,6 +17,7 @@ const ALL: &[&[Check]] = &[
     c2::records::CHECKS,
     c2::closed::CHECKS,
     dump::CHECKS,
+    hex::CHECKS,
 ];
 
 /// Every check; those of the program only if there is one.

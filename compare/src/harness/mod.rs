@@ -4,6 +4,7 @@
 pub mod c2;
 pub mod check;
 pub mod dump;
+pub mod hex;
 pub mod lent;
 pub mod random;
 pub mod report;

@@ -3,5 +3,6 @@
 
 pub mod c2;
 pub mod dump;
+pub mod hex;
 pub mod numbers;
 pub mod settings;

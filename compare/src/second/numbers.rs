@@ -1,4 +1,4 @@
-//! The numbers that come back (document 01's table of that name, and document 02).
+//! The numbers that come back (document 01's table of that name, and document 02's refusals).
 
 pub const RUNNING: u32 = 0;
 pub const BAD_FPDAT: u32 = 1;
@@ -18,5 +18,12 @@ pub const COMPARE_DIFFERS: u32 = 14;
 pub const NO_IMAGE_BYTE: u32 = 15;
 pub const NO_STEP: u32 = 16;
 pub const NO_POINT: u32 = 17;
+pub const BAD_LINE: u32 = 20;
+pub const BAD_CHECKSUM: u32 = 21;
+pub const BAD_HEX_RECORD: u32 = 22;
+pub const SET_TWICE: u32 = 23;
+pub const NO_END_RECORD: u32 = 24;
+pub const NO_DATA: u32 = 25;
+pub const BUFFER_TOO_SMALL: u32 = 26;
 pub const BAD_DUMPS: u32 = 31;
 pub const DONE: u32 = 32;

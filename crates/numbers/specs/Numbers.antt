@@ -1,5 +1,4 @@
--- The numbers that come back (document 01, "Numbers that come back"), each given exactly if its comment
--- holds.
+-- The numbers that come back (documents 01 and 02), each given exactly if its comment holds.
 use Prim.Native.Nat.{ℕ}
 
 -- the session is running
@@ -77,6 +76,34 @@ no-step = 16
 -- model: flash length not size times count, or its own state names a point that no frame or command has
 abbrev pub no-point : ℕ
 no-point = 17
+
+-- HEX line: a bad character, digit count or line end
+abbrev pub bad-line : ℕ
+bad-line = 20
+
+-- HEX line: the record's bytes, checksum included, don't add up to 0
+abbrev pub bad-checksum : ℕ
+bad-checksum = 21
+
+-- HEX record: type neither 00 nor 01, type 01 with length or address not 0, or data past the last flash byte
+abbrev pub bad-hex-record : ℕ
+bad-hex-record = 22
+
+-- HEX record: a byte set twice
+abbrev pub set-twice : ℕ
+set-twice = 23
+
+-- HEX file: no end record, or anything after it
+abbrev pub no-end-record : ℕ
+no-end-record = 24
+
+-- HEX file: no data
+abbrev pub no-data : ℕ
+no-data = 25
+
+-- buffer to be filled too small
+abbrev pub buffer-too-small : ℕ
+buffer-too-small = 26
 
 -- two dumps of different length, or of a length that is not a whole number of pages (document 02, k)
 abbrev pub bad-dumps : ℕ

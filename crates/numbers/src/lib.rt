@@ -1,5 +1,4 @@
-// The numbers that come back from a call (document 01, "Numbers that come back"), one name for each, with
-// when it is given.
+// The numbers that come back from a call (documents 01 and 02), one name for each, with when it is given.
 
 // The session is running.
 pub const RUNNING: u32 = 0;
@@ -57,6 +56,27 @@ pub const NO_STEP: u32 = 16;
 
 // Model: flash length not size times count, or its own state names a point that no frame or command has.
 pub const NO_POINT: u32 = 17;
+
+// HEX line: a bad character, digit count or line end.
+pub const BAD_LINE: u32 = 20;
+
+// HEX line: the record's bytes, checksum included, don't add up to 0.
+pub const BAD_CHECKSUM: u32 = 21;
+
+// HEX record: type neither 00 nor 01, type 01 with length or address not 0, or data past the last flash byte.
+pub const BAD_HEX_RECORD: u32 = 22;
+
+// HEX record: a byte set twice.
+pub const SET_TWICE: u32 = 23;
+
+// HEX file: no end record, or anything after it.
+pub const NO_END_RECORD: u32 = 24;
+
+// HEX file: no data.
+pub const NO_DATA: u32 = 25;
+
+// Buffer to be filled too small.
+pub const BUFFER_TOO_SMALL: u32 = 26;
 
 // Two dumps of different length, or of a length that is not a whole number of pages (document 02, k).
 pub const BAD_DUMPS: u32 = 31;

@@ -1,0 +1,3 @@
+// A line of an Intel HEX file by itself (document 02, a).
+pub mod digit;
+pub mod line;

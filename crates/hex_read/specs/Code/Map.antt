@@ -1,0 +1,26 @@
+-- The map of what is set: a bit for each byte of the flash. For the code alone: `follows-fresh` and
+-- `follows-data` of Judging in proofs/Laws/ join it to the cells of hex_format.
+use mathlib.Core.Path.{_≡_}
+use mathlib.Core.List.{List}
+use Prim.Native.Nat.{ℕ, _+_, _/_, _%_, _^_, _≤_, _<_}
+use lib.ListN.{getD}
+
+unfoldable pub bit : (b k : ℕ) → ℕ
+bit b k = b / 2 ^ k % 2
+
+-- the bit of an address
+unfoldable pub marked : List ℕ → ℕ → ℕ
+marked map a = bit (getD map (a / 8) 0) (a % 8)
+
+-- a run of addresses that was free, and is marked
+pub record Run (old new : List ℕ) (a n : ℕ) : Type 0 where
+  pub free : (k : ℕ) → a ≤ k → k < a + n → marked old k ≡ 0
+  pub inside : (k : ℕ) → a ≤ k → k < a + n → marked new k ≡ 1
+  pub outside : (k : ℕ) → (a ≤ k → k < a + n → ⊥) → marked new k ≡ marked old k
+
+-- an address of the run that was marked before
+pub record Clash (old : List ℕ) (a n : ℕ) : Type 0 where
+  pub k : ℕ
+  pub from : a ≤ k
+  pub below : k < a + n
+  pub set : marked old k ≡ 0 → ⊥
