@@ -1,6 +1,5 @@
 -- The laws of the definitions, each in the module of the definition that it is about.
 pub mod Pages
-pub mod Acts
 pub mod Position
 pub mod Onward
 pub mod Advanced

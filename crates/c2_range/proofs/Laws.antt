@@ -1,4 +1,5 @@
 -- The laws of the definitions, each in the module of the definition that it is about.
+pub mod Acts
 pub mod Bounds
 pub mod Decide
 pub mod Range

@@ -2,18 +2,21 @@
 -- Types alone: proofs/Laws/Range proves `Ranges-are`.
 use mathlib.Core.Path.{_≡_}
 use mathlib.Core.Bool.{true}
+use mathlib.Core.List.{List, _∷_}
 use mathlib.Core.Logic.{_↔_, _⊎_}
 use Prim.Native.Nat.{ℕ, _+_, _*_, _^_, _<_, _≤_}
-use lib.ListN.{length, take}
+use lib.ListN.{length, take, drop}
 use Rattle.numbers.specs.Numbers.{done, bad-reply, compare-differs, no-image-byte}
 use Rattle.c2_wire.specs.Place.{strobe-at, samples, count-limit}
 use Rattle.settings.specs.declared.Settings.{Settings}
+use Rattle.c2_order.specs.Acts.{Act}
+use Rattle.c2_order.specs.Conversation.{limits}
+use Rattle.c2_order.specs.Point.{strobes-of, reads-of}
 use Rattle.c2_acts.specs.declared.Stage.{Stage}
 use Rattle.c2_session.specs.declared.Point.{Point}
 use Rattle.c2_session.specs.declared.Point.the-variants.{Running, Ended}
 use Rattle.c2_session.specs.declared.Session.{Session}
-use Rattle.c2_acts.specs.Code.Acts.{task-of, acts-in}
-use Rattle.c2_range.specs.Range.{pages-in, blocks-in, strobes-in, reads-in, in-range}
+use Rattle.c2_range.specs.Range.{pages-in, blocks-in, stage-order, in-range}
 
 -- What opening asks of settings and pages would pass (numbers 1 to 5).
 pub record Opening-passes (t : Settings) (first pages : ℕ) : Type 0 where
@@ -29,10 +32,12 @@ pub record Opening-passes (t : Settings) (first pages : ℕ) : Type 0 where
 pub record Point-exists (wait-limit poll-limit size pages : ℕ) (g : Stage) (i j k q c v : ℕ) : Type 0 where
   pub page : i < pages-in g pages
   pub block : j < blocks-in g size
-  pub act : k < acts-in g
-  pub strobe : q < length (strobes-in (task-of g k))
-  pub count : c < count-limit wait-limit (reads-in poll-limit (task-of g k)) (strobe-at (strobes-in (task-of g k)) q)
-  pub bits : v < 2 ^ samples (take q (strobes-in (task-of g k)))
+  pub act : Act
+  pub later : List Act
+  pub here : drop k (stage-order g) ≡ act ∷ later
+  pub strobe : q < length (strobes-of act)
+  pub count : c < count-limit wait-limit (reads-of (limits wait-limit poll-limit) act) (strobe-at (strobes-of act) q)
+  pub bits : v < 2 ^ samples (take q (strobes-of act))
 
 -- An outcome is one that ends a session, with an offset inside the image for 14 and 0 otherwise.
 pub record Outcome-stands (bytes n o : ℕ) : Type 0 where

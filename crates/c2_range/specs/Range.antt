@@ -1,24 +1,22 @@
 -- Which values are a session within its ranges (document 01, "What the driver keeps over sleep").
-use mathlib.Core.Bool.{Bool, cond, _&&_, _||_}
+use mathlib.Core.Bool.{Bool, false, cond, _&&_, _||_}
 use mathlib.Core.List.{List, [], _∷_}
 use Prim.Native.Nat.{ℕ, _*_, _/_, _^_}
 use lib.Dec.{eqb, ltb, leb}
-use lib.ListN.{length, take}
+use lib.ListN.{length, take, drop, replicate}
 use Rattle.numbers.specs.Numbers.{done, bad-reply, compare-differs, no-image-byte}
-use Rattle.c2_wire.specs.Step.{reset, pause}
-use Rattle.c2_wire.specs.Field.{RESET, PAUSE}
-use Rattle.c2_wire.specs.Frames.{Strobe, plain, frame}
+use Rattle.c2_wire.specs.Frames.{Strobe}
 use Rattle.c2_wire.specs.Place.{strobe-at, samples, count-limit}
-use Rattle.c2_wire.specs.declared.Frame.the-variants.{AddressWrite, AddressRead, DataWrite, DataRead}
 use Rattle.settings.specs.Opening.{opening-refusal}
+use Rattle.c2_order.specs.Acts.{Act, reset-pulse, Block, erase, block-write, block-read}
+use Rattle.c2_order.specs.Order.{lead}
+use Rattle.c2_order.specs.Conversation.{limits}
+use Rattle.c2_order.specs.Point.{strobes-of, reads-of}
 use Rattle.c2_acts.specs.declared.Stage.{Stage}
 use Rattle.c2_acts.specs.declared.Stage.the-variants.{Lead, Erase, Write, Read, Close}
-use Rattle.c2_acts.specs.declared.Task.{Task}
-use Rattle.c2_acts.specs.declared.Task.the-variants.{Reset, Pause, Address, Send, Input, Output, Ident, Status, Compare}
 use Rattle.c2_session.specs.declared.Point.{Point}
 use Rattle.c2_session.specs.declared.Point.the-variants.{Running, Ended}
 use Rattle.c2_session.specs.declared.Session.{Session}
-use Rattle.c2_acts.specs.Code.Acts.{task-of, acts-in}
 
 -- how many pages a stage goes through (`pages-in`), and how many blocks of a page (`blocks-in`): 1 where that
 -- number is not in use and is 0
@@ -36,29 +34,18 @@ blocks-in Write size = size / 256
 blocks-in Read size = size / 256
 blocks-in Close size = 1
 
--- the strobes of an act's frame, whatever byte it sends
-abbrev pub strobes-in : Task → List Strobe
-strobes-in Reset = plain RESET reset ∷ []
-strobes-in Pause = plain PAUSE pause ∷ []
-strobes-in Address = frame AddressWrite 0
-strobes-in Send = frame DataWrite 0
-strobes-in Input = frame AddressRead 0
-strobes-in Output = frame AddressRead 0
-strobes-in Ident = frame DataRead 0
-strobes-in Status = frame DataRead 0
-strobes-in Compare = frame DataRead 0
+-- the acts of a stage in the session's order: up to the pause, of one page's erase, of one block written or
+-- read back, and the last reset. Which acts these are goes by no byte that they send or expect: 0 stands for
+-- each.
+abbrev pub any-block : Block
+any-block = record { address = 0; offset = 0; bytes = replicate 256 0 }
 
--- the reads that an act counts: those of a poll
-abbrev pub reads-in : (poll-limit : ℕ) → Task → ℕ
-reads-in r Reset = 1
-reads-in r Pause = 1
-reads-in r Address = 1
-reads-in r Send = 1
-reads-in r Input = r
-reads-in r Output = r
-reads-in r Ident = 1
-reads-in r Status = 1
-reads-in r Compare = 1
+unfoldable pub stage-order : Stage → List Act
+stage-order Lead = lead (record { id = 0; fpdat = 0; size = 0; count = 0 })
+stage-order Erase = erase 0 0
+stage-order Write = block-write 0 any-block
+stage-order Read = block-read 0 any-block
+stage-order Close = reset-pulse ∷ []
 
 -- whether a place is in range: the strobe exists; zeros seen in a WAIT are below its limit, unsatisfied reads
 -- below theirs, and other counts 0; bits not yet sampled are 0
@@ -66,11 +53,15 @@ unfoldable pub place-in-range : (wait-limit reads : ℕ) → List Strobe → (st
 place-in-range w r ss q c v =
     ltb q (length ss) && ltb c (count-limit w r (strobe-at ss q)) && ltb v (2 ^ samples (take q ss))
 
+-- whether a place is in range in the frame of the first of these acts, if there is one
+unfoldable pub first-in-range : (wait-limit poll-limit : ℕ) → List Act → (strobe count bits : ℕ) → Bool
+first-in-range w r [] q c v = false
+first-in-range w r (a ∷ acts) q c v = place-in-range w (reads-of (limits w r) a) (strobes-of a) q c v
+
 -- whether a running session's point exists in its order
 unfoldable pub running-in-range : (wait-limit poll-limit size pages : ℕ) → Stage → (page block act strobe count bits : ℕ) → Bool
 running-in-range w r size pages g i j k q c v =
-    ltb i (pages-in g pages) && ltb j (blocks-in g size) && ltb k (acts-in g)
-    && place-in-range w (reads-in r (task-of g k)) (strobes-in (task-of g k)) q c v
+    ltb i (pages-in g pages) && ltb j (blocks-in g size) && first-in-range w r (drop k (stage-order g)) q c v
 
 -- whether a number is an outcome that ends a session: 9 to 15, and 32
 unfoldable pub ends-session : (number : ℕ) → Bool

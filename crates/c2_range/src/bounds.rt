@@ -2,8 +2,8 @@
 ghost use mathlib.Core.Path.{_≡_};
 ghost use Prim.Native.Nat.{_^_, _≤_};
 ghost use Rattle.c2_acts.specs.Code.Acts.{acts-in};
-ghost use Rattle.c2_range.specs.Range.{strobes-in, reads-in, place-in-range};
-ghost use Rattle.c2_range.specs.Code.Bounds.{limit-from, sampled-from, below-bounds, inside};
+ghost use Rattle.c2_range.specs.Range.{place-in-range};
+ghost use Rattle.c2_range.specs.Code.Bounds.{strobes-in, reads-in, limit-from, sampled-from, below-bounds, inside};
 use c2_acts::Task;
 use c2_acts::acts_in;
 use c2_session::At;

@@ -26,12 +26,14 @@ use Rattle.c2_session.specs.declared.Session.{Session}
 use Rattle.c2_acts.specs.Code.Acts.{task-of}
 use Rattle.c2_session.specs.Code.Bytes.{compared-offset}
 use Rattle.c2_session.specs.Code.Next.{at}
-use Rattle.c2_range.specs.Range.{strobes-in, place-in-range, point-in-range, in-range}
+use Rattle.c2_range.specs.Range.{place-in-range, point-in-range, in-range}
+use Rattle.c2_range.specs.Code.Bounds.{strobes-in}
 use Rattle.c2_position.specs.Position.{stage-acts, after-stage, point-position, position}
-use Rattle.c2_position.proofs.Laws.Acts.{task-act}
+use Rattle.c2_range.proofs.Laws.Acts.{task-act}
+use Rattle.c2_range.proofs.Laws.Bounds.{bounded}
 use Rattle.c2_position.proofs.Laws.Position.{act-byte}
 use Rattle.c2_position.proofs.Laws.Onward.{acts-here}
-use Rattle.c2_position.proofs.Laws.Advanced.{SessionPoint, exists-of, fits-of, point-of}
+use Rattle.c2_position.proofs.Laws.Advanced.{SessionPoint, fits-of, point-of}
 use Rattle.c2_figure.specs.Code.Left.{wait-left, act-left, point-left, steps-left}
 use Rattle.c2_figure.proofs.Laws.Left.Costs.{stage-costs, after-costs}
 
@@ -99,7 +101,7 @@ counts w r s image e l = go (s .point) (point-of w r s e)
     go : (y : SessionPoint) → point-in-range w r (s .settings .size) (s .pages) y ≡ true
         → figure (limits w r) (point-position s image y) ≡ point-left w r y s
     go (Running g i j k q c v) f =
-        let n = exists-of w r s g i j k q c v f in
+        let n = bounded w r (s .settings .size) (s .pages) g i j k q c v f in
         let h = fits-of w r s image e l in
         rw (acts-here s image h g i j k (n .page) (n .block) (n .act))
         (omega (

@@ -19,7 +19,8 @@ use Rattle.c2_session.specs.declared.Session.{Session}
 use Rattle.c2_session.specs.Code.Advance.{point-advanced, advanced}
 use Rattle.c2_range.specs.Range.{in-range, point-in-range}
 use Rattle.c2_position.specs.Position.{position, point-position}
-use Rattle.c2_position.proofs.Laws.Advanced.{SessionPoint, exists-of, fits-of, point-of}
+use Rattle.c2_range.proofs.Laws.Bounds.{bounded}
+use Rattle.c2_position.proofs.Laws.Advanced.{SessionPoint, fits-of, point-of}
 use Rattle.c2_position.proofs.Laws.Onward.{acts-here}
 use Rattle.c2_position.proofs.Laws.Range.{advanced-in-range}
 use Rattle.c2_position.proofs.Laws.Exchange.{position-valid, exchange-advances}
@@ -76,7 +77,7 @@ position-runs s image h e = go (s .point) e (point-of 20 256 s (h .range))
   where
     go : (y : SessionPoint) → is-running y ≡ true → point-in-range 20 256 (s .settings .size) (s .pages) y ≡ true → Runs (point-position s image y)
     go (Running g i j k q c v) f r =
-        let n = exists-of 20 256 s g i j k q c v r in
+        let n = bounded 20 256 (s .settings .size) (s .pages) g i j k q c v r in
         rw (acts-here s image (fits-of 20 256 s image (h .range) (h .whole)) g i j k (n .page) (n .block) (n .act)) tt
     go (Ended n o) f r = absurd (let z : _≡_ {A = ℕ} 0 1 = cc in omega arith)
 

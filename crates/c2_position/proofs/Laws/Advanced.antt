@@ -39,9 +39,11 @@ use Rattle.c2_session.specs.Code.Bytes.{image-byte, sent-offset, compared-offse
 use Rattle.c2_session.specs.Code.Next.{at, strobe-point, next-act}
 use Rattle.c2_session.specs.Code.Judge.{read-again, differs, compared, frame-judged, sends-image, drives-image, wants, stays, frame-answered}
 use Rattle.c2_session.specs.Code.Advance.{task-taken}
-use Rattle.c2_range.specs.Range.{pages-in, blocks-in, strobes-in, reads-in, place-in-range, running-in-range, point-in-range, in-range}
+use Rattle.c2_range.specs.Range.{pages-in, blocks-in, point-in-range, in-range}
+use Rattle.c2_range.specs.Code.Bounds.{strobes-in}
 use Rattle.c2_position.specs.Position.{page-list, pages-from, writes-from, reads-from, at-act, point-position, position}
-use Rattle.c2_position.proofs.Laws.Acts.{task-act}
+use Rattle.c2_range.proofs.Laws.Acts.{task-act}
+use Rattle.c2_range.proofs.Laws.Bounds.{bounded}
 use Rattle.c2_position.proofs.Laws.Position.{Fits, act-here, act-byte, page-inside, block-inside, image-small}
 use Rattle.c2_position.proofs.Laws.Onward.{rest-from, acts-here, goes-on}
 use Rattle.c2_order.specs.Point
@@ -243,22 +245,6 @@ fits-of w r s image e l =
     let n : s .settings .size * s .pages / s .settings .size ≡ s .pages = mul-div-cancel-left (s .pages) (omega (arith, o .settings .size, o .settings .some)) in
     record { settings = o .settings; some = some-factor (s .settings .size) (s .pages) (o .some); inside = rw n at (o .inside); whole = l ∙ mul-comm (s .settings .size) (s .pages) }
 
--- a point in range exists in the order
-pub record Exists-in (w r : ℕ) (s : Session) (g : Stage) (i j k q c v : ℕ) : Type 0 where
-  pub page : i < pages-in g (s .pages)
-  pub block : j < blocks-in g (s .settings .size)
-  pub act : k < acts-in g
-  pub place : place-in-range w (reads-in r (task-of g k)) (strobes-in (task-of g k)) q c v ≡ true
-
-pub exists-of : (w r : ℕ) (s : Session) (g : Stage) (i j k q c v : ℕ) → running-in-range w r (s .settings .size) (s .pages) g i j k q c v ≡ true
-    → Exists-in w r s g i j k q c v
-unfolding running-in-range
-exists-of w r s g i j k q c v e =
-    let a = both _ _ e in
-    let b = both _ _ (a .0) in
-    let d = both _ _ (b .0) in
-    record { page = ltb-true _ _ (d .0); block = ltb-true _ _ (d .1); act = ltb-true _ _ (b .1); place = a .1 }
-
 -- the point of the order that a point names goes by the session's settings and pages alone (`position-keeps`)
 abbrev pub SessionPoint : Type 0
 SessionPoint = Rattle.c2_session.specs.declared.Point.Point
@@ -291,6 +277,6 @@ advances w r s image e l x =
     go : (y : SessionPoint) → point-in-range w r (s .settings .size) (s .pages) y ≡ true
         → point-position s image (Advance.point-advanced w r y s x image) ≡ Point.next (limits w r) (point-position s image y) x
     go (Running g i j k q c v) f =
-        let n = exists-of w r s g i j k q c v f in
+        let n = bounded w r (s .settings .size) (s .pages) g i j k q c v f in
         replied-here s image (fits-of w r s image e l) w r g i j k (n .page) (n .block) (n .act) (place q c v) x
     go (Ended n o) f = refl

@@ -19,12 +19,14 @@ use Rattle.c2_session.specs.declared.Point.the-variants.{Running, Ended}
 use Rattle.c2_session.specs.declared.Session.{Session}
 use Rattle.c2_acts.specs.Code.Acts.{task-of}
 use Rattle.c2_session.specs.Code.Next.{at, strobe-point}
-use Rattle.c2_range.specs.Range.{strobes-in, reads-in, in-range, point-in-range}
+use Rattle.c2_range.specs.Range.{in-range, point-in-range}
+use Rattle.c2_range.specs.Code.Bounds.{strobes-in, reads-in}
 use Rattle.c2_position.specs.Position.{acts-from, at-act, point-position, position}
 use Rattle.c2_position.specs.Claims.{Placed, In-order, One-session, Each-point}
 use Rattle.c2_position.proofs.Laws.Position.{Fits, act-here, act-byte}
 use Rattle.c2_position.proofs.Laws.Onward.{rest-from, acts-here}
-use Rattle.c2_position.proofs.Laws.Advanced.{SessionPoint, with-point, exists-of, fits-of, point-of, position-keeps}
+use Rattle.c2_position.proofs.Laws.Advanced.{SessionPoint, with-point, fits-of, point-of, position-keeps}
+use Rattle.c2_range.proofs.Laws.Bounds.{bounded}
 use Rattle.c2_position.proofs.Laws.Range.{place-exists}
 use Rattle.c2_position.proofs.Laws.Exchange.{task-exists}
 use Rattle.c2_position.proofs.Laws.Before.{acts-end}
@@ -42,7 +44,7 @@ in-order w r s image e l = go (s .point) (point-of w r s e)
     go : (y : SessionPoint) → point-in-range w r (s .settings .size) (s .pages) y ≡ true
         → Placed (limits w r) (session-order (s .settings) (s .first) image) y (point-position s image y)
     go (Running g i j k q c v) f =
-        let n = exists-of w r s g i j k q c v f in
+        let n = bounded w r (s .settings .size) (s .pages) g i j k q c v f in
         let x = place-exists w (reads-in r (task-of g k)) (strobes-in (task-of g k)) (place q c v) (n .place) in
         let p = task-exists w r (task-of g k) (act-byte s image h g (at g i j k)) (s .settings .id) _ (place q c v) x in
         let a = acts-here s image h g i j k (n .page) (n .block) (n .act) in
@@ -81,8 +83,8 @@ module _ (w r : ℕ) (s : Session) (image : List ℕ) (h : Fits s image) where
   one-point : (y z : SessionPoint) → In y → In z → point-position s image y ≡ point-position s image z → y ≡ z
   unfolding point-position
   one-point (Running g i j k q c v) (Running g₁ i₁ j₁ k₁ q₁ c₁ v₁) e f x =
-      let n = exists-of w r s g i j k q c v e in
-      let m = exists-of w r s g₁ i₁ j₁ k₁ q₁ c₁ v₁ f in
+      let n = bounded w r (s .settings .size) (s .pages) g i j k q c v e in
+      let m = bounded w r (s .settings .size) (s .pages) g₁ i₁ j₁ k₁ q₁ c₁ v₁ f in
       let a = acts-here s image h g i j k (n .page) (n .block) (n .act) in
       let b = acts-here s image h g₁ i₁ j₁ k₁ (m .page) (m .block) (m .act) in
       let acts = sym (acts-there (acts-from g s image i j k) (place q c v)) ∙ ap acts-of x ∙ acts-there (acts-from g₁ s image i₁ j₁ k₁) (place q₁ c₁ v₁) in
@@ -92,12 +94,12 @@ module _ (w r : ℕ) (s : Session) (image : List ℕ) (h : Fits s image) where
       = sym (ap (λ (u : List Act). place-of (at-act u (place q c v))) a) ∙ ap place-of x ∙ ap (λ (u : List Act). place-of (at-act u (place q₁ c₁ v₁))) b in
       λ t. strobe-point (d t) (p t)
   one-point (Running g i j k q c v) (Ended n o) e f x =
-      let m = exists-of w r s g i j k q c v e in
+      let m = bounded w r (s .settings .size) (s .pages) g i j k q c v e in
       let a = acts-here s image h g i j k (m .page) (m .block) (m .act) in
       let z : true ≡ false = sym (ap (λ (u : List Act). runs (at-act u (place q c v))) a) ∙ ap runs x in
       absurd (let y : _≡_ {A = ℕ} 0 1 = cc in omega arith)
   one-point (Ended n o) (Running g i j k q c v) e f x =
-      let m = exists-of w r s g i j k q c v f in
+      let m = bounded w r (s .settings .size) (s .pages) g i j k q c v f in
       let a = acts-here s image h g i j k (m .page) (m .block) (m .act) in
       let z : false ≡ true = ap runs x ∙ ap (λ (u : List Act). runs (at-act u (place q c v))) a in
       absurd (let y : _≡_ {A = ℕ} 0 1 = cc in omega arith)

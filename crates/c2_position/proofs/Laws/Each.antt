@@ -22,12 +22,14 @@ use Rattle.c2_session.specs.declared.Point.the-variants.{Running, Ended}
 use Rattle.c2_session.specs.declared.Session.{Session}
 use Rattle.c2_acts.specs.Code.Acts.{task-of, acts-in}
 use Rattle.c2_session.specs.Code.Next.{at, strobe-point, next-act}
-use Rattle.c2_range.specs.Range.{pages-in, blocks-in, strobes-in, reads-in, point-in-range}
+use Rattle.c2_range.specs.Range.{pages-in, blocks-in, point-in-range}
+use Rattle.c2_range.specs.Code.Bounds.{strobes-in, reads-in}
 use Rattle.c2_position.specs.Position.{acts-from, at-act, point-position}
-use Rattle.c2_position.proofs.Laws.Acts.{task-act}
+use Rattle.c2_range.proofs.Laws.Acts.{task-act}
 use Rattle.c2_position.proofs.Laws.Position.{Fits, act-here, act-byte}
 use Rattle.c2_position.proofs.Laws.Onward.{rest-from, acts-here, goes-on}
-use Rattle.c2_position.proofs.Laws.Advanced.{SessionPoint, exists-of}
+use Rattle.c2_position.proofs.Laws.Advanced.{SessionPoint}
+use Rattle.c2_range.proofs.Laws.Bounds.{bounded}
 use Rattle.c2_position.proofs.Laws.Range.{running-in, onward-in}
 use Rattle.c2_position.proofs.Laws.Before.{lead-first}
 use Rattle.c2_order.specs.Point
@@ -107,7 +109,7 @@ module _ (w r : ℕ) (hw : 0 < w) (hr : 0 < r) (s : Session) (image : List ℕ) 
 
       go : (y : SessionPoint) → next-act s (at g i j k) ≡ y → Found (before ++ a ∷ acts)
       go (Running g₁ i₁ j₁ k₁ q c v) e =
-          let n = exists-of w r s g₁ i₁ j₁ k₁ q c v (rw e at (onward-in w r hw hr s image h g i j k (f .page-in) (f .block-in) (f .act-in))) in
+          let n = bounded w r (s .settings .size) (s .pages) g₁ i₁ j₁ k₁ q c v (rw e at (onward-in w r hw hr s image h g i j k (f .page-in) (f .block-in) (f .act-in))) in
           record {
             stage = g₁;
             page = i₁;

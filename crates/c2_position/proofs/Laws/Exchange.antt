@@ -29,12 +29,14 @@ use Rattle.c2_session.specs.declared.Session.{Session}
 use Rattle.c2_acts.specs.Code.Acts.{task-of}
 use Rattle.c2_session.specs.Code.Next.{at}
 use Rattle.c2_session.specs.Code.Advance.{advanced}
-use Rattle.c2_range.specs.Range.{strobes-in, reads-in, in-range, point-in-range}
+use Rattle.c2_range.specs.Range.{in-range, point-in-range}
+use Rattle.c2_range.specs.Code.Bounds.{strobes-in, reads-in}
 use Rattle.c2_position.specs.Position.{page-list, page-at, block-at, stage-acts, pages-from, writes-from, reads-from, after-stage, acts-from, point-position, position}
-use Rattle.c2_position.proofs.Laws.Acts.{task-act}
+use Rattle.c2_range.proofs.Laws.Acts.{task-act}
 use Rattle.c2_position.proofs.Laws.Position.{Fits, act-byte}
 use Rattle.c2_position.proofs.Laws.Onward.{acts-here}
-use Rattle.c2_position.proofs.Laws.Advanced.{exists-of, fits-of, point-of, SessionPoint, advances}
+use Rattle.c2_position.proofs.Laws.Advanced.{fits-of, point-of, SessionPoint, advances}
+use Rattle.c2_range.proofs.Laws.Bounds.{bounded}
 use Rattle.c2_position.proofs.Laws.Range.{place-exists}
 
 -- what holds of every act of a list holds of every act of its parts
@@ -138,7 +140,7 @@ position-valid w r s image id b e l = go (s .point) (point-of w r s e)
 
     go : (y : SessionPoint) → point-in-range w r (s .settings .size) (s .pages) y ≡ true → Valid (limits w r) (point-position s image y)
     go (Running g i j k q c v) f =
-        let n = exists-of w r s g i j k q c v f in
+        let n = bounded w r (s .settings .size) (s .pages) g i j k q c v f in
         let x = place-exists w (reads-in r (task-of g k)) (strobes-in (task-of g k)) (place q c v) (n .place) in
         let a = acts-here s image h g i j k (n .page) (n .block) (n .act) in
         let both = first-sound (rw a at (acts-sound s image id b g i j k)) in

@@ -20,7 +20,7 @@ use Rattle.c2_session.specs.Code.Next.{at, next-write, next-page, next-read, ne
 use Rattle.c2_range.specs.Range.{pages-in, blocks-in}
 use Rattle.c2_position.specs.Position.{page-list, page-at, blocks-at, block-at, stage-acts, pages-from, writes-from, reads-from, after-stage, acts-from, at-act, point-position}
 use Rattle.c2_position.proofs.Laws.Pages.{length-pages, length-blocks}
-use Rattle.c2_position.proofs.Laws.Acts.{length-command, length-puts, length-compares, length-status}
+use Rattle.c2_range.proofs.Laws.Acts.{length-command, length-puts, length-compares, length-status}
 use Rattle.c2_position.proofs.Laws.Position.{Fits, block-is, block-length, act-here, stands}
 
 pub begin-at : (acts : List Act) → begin acts ≡ at-act acts (place 0 0 0)

@@ -24,7 +24,7 @@ use Rattle.c2_session.specs.Code.Next.{at}
 use Rattle.c2_range.specs.Range.{pages-in, blocks-in}
 use Rattle.c2_position.specs.Position.{page-list, page-at, block-at, stage-acts}
 use Rattle.c2_position.proofs.Laws.Pages.{pages-at, blocks-at-number}
-use Rattle.c2_position.proofs.Laws.Acts.{task-act, lead-at, erase-at, command-byte, write-act-byte, write-at, read-act-byte, read-at}
+use Rattle.c2_range.proofs.Laws.Acts.{task-act, lead-at, erase-at, command-byte, write-act-byte, write-at, read-act-byte, read-at}
 
 -- what is known of a session in range and an image of its length
 pub record Fits (s : Session) (image : List ℕ) : Type 0 where

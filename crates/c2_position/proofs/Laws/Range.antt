@@ -33,9 +33,11 @@ use Rattle.c2_session.specs.Code.Bytes.{compared-offset}
 use Rattle.c2_session.specs.Code.Next.{at, strobe-point, first-strobe, next-write, next-page, next-read, next-stage, next-act}
 use Rattle.c2_session.specs.Code.Judge.{read-again, differs, compared, frame-judged, frame-answered}
 use Rattle.c2_session.specs.Code.Advance.{task-taken, point-replied, point-advanced, advanced}
-use Rattle.c2_range.specs.Range.{pages-in, blocks-in, strobes-in, reads-in, place-in-range, running-in-range, ends-session, offsets-of, ended-in-range, point-in-range, in-range}
+use Rattle.c2_range.specs.Code.Bounds.{strobes-in, reads-in}
+use Rattle.c2_range.proofs.Laws.Bounds.{bounded, bounded-in-range}
+use Rattle.c2_range.specs.Range.{pages-in, blocks-in, place-in-range, ends-session, offsets-of, ended-in-range, point-in-range, in-range}
 use Rattle.c2_position.proofs.Laws.Position.{Fits, image-small}
-use Rattle.c2_position.proofs.Laws.Advanced.{exists-of, fits-of, point-of, compares-late, wanted-there, stays-same}
+use Rattle.c2_position.proofs.Laws.Advanced.{fits-of, point-of, compares-late, wanted-there, stays-same}
 
 -- the strobes of an act are a frame
 pub whole-in : (r : ℕ) (t : Task) → Whole (reads-in r t) (strobes-in t)
@@ -98,9 +100,9 @@ module _ (w r : ℕ) (hw : 0 < w) (hr : 0 < r) (s : Session) (image : List ℕ) 
 
   pub running-in : (g : Stage) (i j k : ℕ) (p : Place) → i < pages-in g (s .pages) → j < blocks-in g (s .settings .size) → k < acts-in g
       → Exists w (reads-in r (task-of g k)) (strobes-in (task-of g k)) p → In (strobe-point (at g i j k) p)
-  unfolding running-in-range
   running-in g i j k p gi gj gk e =
-      rw (lt-ltb _ _ gi, lt-ltb _ _ gj, lt-ltb _ _ gk) (exists-place w (reads-in r (task-of g k)) (strobes-in (task-of g k)) p e)
+      bounded-in-range w r (s .settings .size) (s .pages) g i j k (p .strobe) (p .count) (p .bits)
+      (record { page = gi; block = gj; act = gk; place = exists-place w (reads-in r (task-of g k)) (strobes-in (task-of g k)) p e })
 
   begins-in : (g : Stage) (i j k : ℕ) → i < pages-in g (s .pages) → j < blocks-in g (s .settings .size) → k < acts-in g → In (first-strobe g i j k)
   begins-in g i j k gi gj gk =
@@ -211,7 +213,7 @@ advanced-in-range w r hw hr s image e l x =
 
     go : (y : Point) → point-in-range w r (s .settings .size) (s .pages) y ≡ true → point-in-range w r (s .settings .size) (s .pages) (point-advanced w r y s x image) ≡ true
     go (Running g i j k q c v) f =
-        let n = exists-of w r s g i j k q c v f in
+        let n = bounded w r (s .settings .size) (s .pages) g i j k q c v f in
         replied-in w r hw hr s image h g i j k (n .page) (n .block) (n .act) (place q c v) x
         (place-exists w (reads-in r (task-of g k)) (strobes-in (task-of g k)) (place q c v) (n .place))
     go (Ended n o) f = f

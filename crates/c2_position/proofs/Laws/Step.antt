@@ -30,12 +30,14 @@ use Rattle.c2_acts.specs.Code.Acts.{task-of, read-task}
 use Rattle.c2_session.specs.Code.Bytes.{stage-byte, byte-of, compared-offset}
 use Rattle.c2_session.specs.Code.Next.{at, strobe-point}
 use Rattle.c2_session.specs.Code.Step.{task-step, point-step, session-step}
-use Rattle.c2_range.specs.Range.{strobes-in, reads-in, in-range, point-in-range}
+use Rattle.c2_range.specs.Range.{in-range, point-in-range}
+use Rattle.c2_range.specs.Code.Bounds.{strobes-in, reads-in}
 use Rattle.c2_position.specs.Position.{point-position, position}
-use Rattle.c2_position.proofs.Laws.Acts.{task-act}
+use Rattle.c2_range.proofs.Laws.Acts.{task-act}
 use Rattle.c2_position.proofs.Laws.Position.{Fits, act-byte}
 use Rattle.c2_position.proofs.Laws.Onward.{rest-from, acts-here}
-use Rattle.c2_position.proofs.Laws.Advanced.{exists-of, fits-of, point-of, SessionPoint}
+use Rattle.c2_position.proofs.Laws.Advanced.{fits-of, point-of, SessionPoint}
+use Rattle.c2_range.proofs.Laws.Bounds.{bounded}
 use Rattle.c2_position.proofs.Laws.Range.{place-exists}
 use Rattle.c2_wire.specs.Place
 use Rattle.c2_order.specs.Point
@@ -116,7 +118,7 @@ asks-step w r s image e l = go (s .point) (point-of w r s e)
 
     go : (y : SessionPoint) → point-in-range w r (s .settings .size) (s .pages) y ≡ true → point-step y s image ≡ asks (left-to-say (limits w r) (point-position s image y))
     go (Running g i j k q c v) f =
-        let n = exists-of w r s g i j k q c v f in
+        let n = bounded w r (s .settings .size) (s .pages) g i j k q c v f in
         let x = place-exists w (reads-in r (task-of g k)) (strobes-in (task-of g k)) (place q c v) (n .place) in
         rw (acts-here s image h g i j k (n .page) (n .block) (n .act))
         (sym (asks-task s image h w r g i j k (rest-from s image h g i j k) (place q c v) (task-of g k) refl x))

@@ -12,8 +12,9 @@ use Rattle.c2_acts.specs.declared.Task.{Task}
 use Rattle.c2_session.specs.declared.At.{At}
 use Rattle.c2_session.specs.declared.Session.{Session}
 use Rattle.c2_acts.specs.Code.Acts.{task-of, acts-in}
-use Rattle.c2_range.specs.Range.{pages-in, blocks-in, strobes-in, reads-in, place-in-range, running-in-range, point-in-range, in-range}
-use Rattle.c2_range.specs.Code.Bounds.{below-bounds, inside}
+use Rattle.c2_range.specs.Range.{pages-in, blocks-in, place-in-range, running-in-range, point-in-range, in-range}
+use Rattle.c2_range.specs.Code.Bounds.{strobes-in, reads-in, below-bounds, inside, running-by}
+use Rattle.c2_range.proofs.Laws.Bounds.{running-is}
 
 -- what the tests of a place decide
 module _ (n m k q c v : ℕ) where
@@ -45,14 +46,14 @@ act-is size pages at g b e h = rw (ap (λ x. pages-in x pages) e, ap (λ x. bloc
 -- what the tests of a running point decide
 module _ (w r size pages : ℕ) (g : Stage) (i j k q c v : ℕ) (a : Bool) (ea : a ≡ inside (pages-in g pages) (blocks-in g size) (acts-in g) i j k) where
   pub act-fails : a ≡ false → false ≡ running-in-range w r size pages g i j k q c v
-  unfolding running-in-range
-  act-fails h = rw (← ea, h)
+  unfolding running-by
+  act-fails h = rw (running-is w r size pages g i j k q c v, ← ea, h)
 
   pub place-decides : a ≡ true → (t : Task) → t ≡ task-of g k
       → (b : Bool) → b ≡ place-in-range w (reads-in r t) (strobes-in t) q c v
       → b ≡ running-in-range w r size pages g i j k q c v
-  unfolding running-in-range
-  place-decides h t et b eb = rw (← ea, h, ← et) eb
+  unfolding running-by
+  place-decides h t et b eb = rw (running-is w r size pages g i j k q c v, ← ea, h, ← et) eb
 
 -- what the tests of a session decide
 module _ (w r : ℕ) (s : Session) (b n : ℕ) (eb : b ≡ s .settings .size * s .pages) (en : n ≡ opening-refusal (s .settings) (s .first) b) where

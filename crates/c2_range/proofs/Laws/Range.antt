@@ -1,25 +1,28 @@
 -- A session in range, fact by fact, and back.
 use mathlib.Core.Path.{_≡_, refl, sym, _∙_}
 use mathlib.Core.Bool.{Bool, true, false, cond, _&&_, _||_}
+use mathlib.Core.List.{List, [], _∷_}
 use mathlib.Core.Logic.{_⊎_, inl, inr, ⊎-elim}
 use Prim.Native.Nat.{ℕ, zero, suc, _+_, _*_, _/_, _%_, _^_, _<_, _≤_}
 use native.Mathlib.Nat.{mul-div-right, mul-mod-right, le-mul-of-pos-right}
 use native.Mathlib.Omega.{arith}
 use borrow.Author.Tests.{ltb-true, leb-true, eqb-true, lt-ltb, le-leb, eq-eqb, ne-eqb}
 use lib.Dec.{eqb, ltb, leb}
-use lib.ListN.{length, take}
+use lib.ListN.{length, take, drop}
 use Rattle.laws.proofs.Tests.{passes, both, by-test}
 use Rattle.numbers.specs.Numbers.{done, bad-reply, no-image-byte}
 use Rattle.c2_wire.specs.Place.{strobe-at, samples, count-limit}
 use Rattle.settings.specs.Accepted.{is-fpdat, is-page-size, is-page-count, settings-refusal}
 use Rattle.settings.specs.declared.Settings.{Settings}
 use Rattle.settings.specs.Opening.{is-image, are-pages, opening-refusal}
+use Rattle.c2_order.specs.Acts.{Act}
+use Rattle.c2_order.specs.Conversation.{limits}
+use Rattle.c2_order.specs.Point.{strobes-of, reads-of}
 use Rattle.c2_acts.specs.declared.Stage.{Stage}
 use Rattle.c2_session.specs.declared.Point.{Point}
 use Rattle.c2_session.specs.declared.Point.the-variants.{Running, Ended}
 use Rattle.c2_session.specs.declared.Session.{Session}
-use Rattle.c2_acts.specs.Code.Acts.{task-of, acts-in}
-use Rattle.c2_range.specs.Range.{pages-in, blocks-in, strobes-in, reads-in, place-in-range, running-in-range, ends-session, offsets-of, ended-in-range, point-in-range, in-range}
+use Rattle.c2_range.specs.Range.{pages-in, blocks-in, stage-order, place-in-range, first-in-range, running-in-range, ends-session, offsets-of, ended-in-range, point-in-range, in-range}
 use Rattle.c2_range.specs.Claims.{Opening-passes, Point-exists, Outcome-stands, Point-stands, Within-ranges, Ranges-are}
 
 -- what the tests of settings say
@@ -96,34 +99,41 @@ opening-would-pass t first pages o =
 -- what the tests of a point say
 module _ (w l size pages : ℕ) where
   point-exists : (g : Stage) (i j k q c v : ℕ) → running-in-range w l size pages g i j k q c v ≡ true → Point-exists w l size pages g i j k q c v
-  unfolding running-in-range place-in-range
-  point-exists g i j k q c v e =
-      let a = both (ltb i (pages-in g pages) && ltb j (blocks-in g size) && ltb k (acts-in g)) _ e in
-      let b = both (ltb i (pages-in g pages) && ltb j (blocks-in g size)) (ltb k (acts-in g)) (a .0) in
-      let d = both (ltb i (pages-in g pages)) (ltb j (blocks-in g size)) (b .0) in
-      let m : ℕ = count-limit w (reads-in l (task-of g k)) (strobe-at (strobes-in (task-of g k)) q) in
-      let n : ℕ = 2 ^ samples (take q (strobes-in (task-of g k))) in
-      let f = both (ltb q (length (strobes-in (task-of g k))) && ltb c m) (ltb v n) (a .1) in
-      let h = both (ltb q (length (strobes-in (task-of g k)))) (ltb c m) (f .0) in
-      record {
-        page = ltb-true i (pages-in g pages) (d .0);
-        block = ltb-true j (blocks-in g size) (d .1);
-        act = ltb-true k (acts-in g) (b .1);
-        strobe = ltb-true q (length (strobes-in (task-of g k))) (h .0);
-        count = ltb-true c m (h .1);
-        bits = ltb-true v n (f .1);
-      }
+  unfolding running-in-range first-in-range place-in-range
+  point-exists g i j k q c v e = go (drop k (stage-order g)) refl (a .1)
+    where
+      a : (ltb i (pages-in g pages) && ltb j (blocks-in g size) ≡ true) × (first-in-range w l (drop k (stage-order g)) q c v ≡ true)
+      a = both (ltb i (pages-in g pages) && ltb j (blocks-in g size)) (first-in-range w l (drop k (stage-order g)) q c v) e
 
-  point-is-in-range : (g : Stage) (i j k q c v : ℕ) → Point-exists w l size pages g i j k q c v → running-in-range w l size pages g i j k q c v ≡ true
-  unfolding running-in-range place-in-range
+      go : (acts : List Act) → drop k (stage-order g) ≡ acts → first-in-range w l acts q c v ≡ true → Point-exists w l size pages g i j k q c v
+      go [] h f = absurd (let z : _≡_ {A = ℕ} 0 1 = cc in omega arith)
+      go (x ∷ later) h f =
+          let d = both (ltb i (pages-in g pages)) (ltb j (blocks-in g size)) (a .0) in
+          let m : ℕ = count-limit w (reads-of (limits w l) x) (strobe-at (strobes-of x) q) in
+          let n : ℕ = 2 ^ samples (take q (strobes-of x)) in
+          let y = both (ltb q (length (strobes-of x)) && ltb c m) (ltb v n) f in
+          let z = both (ltb q (length (strobes-of x))) (ltb c m) (y .0) in
+          record {
+            page = ltb-true i (pages-in g pages) (d .0);
+            block = ltb-true j (blocks-in g size) (d .1);
+            act = x;
+            later = later;
+            here = h;
+            strobe = ltb-true q (length (strobes-of x)) (z .0);
+            count = ltb-true c m (z .1);
+            bits = ltb-true v n (y .1);
+          }
+
+  pub point-is-in-range : (g : Stage) (i j k q c v : ℕ) → Point-exists w l size pages g i j k q c v → running-in-range w l size pages g i j k q c v ≡ true
+  unfolding running-in-range first-in-range place-in-range
   point-is-in-range g i j k q c v p =
       rw (
         lt-ltb i (pages-in g pages) (p .page),
         lt-ltb j (blocks-in g size) (p .block),
-        lt-ltb k (acts-in g) (p .act),
-        lt-ltb q (length (strobes-in (task-of g k))) (p .strobe),
-        lt-ltb c (count-limit w (reads-in l (task-of g k)) (strobe-at (strobes-in (task-of g k)) q)) (p .count),
-        lt-ltb v (2 ^ samples (take q (strobes-in (task-of g k)))) (p .bits),
+        p .here,
+        lt-ltb q (length (strobes-of (p .act))) (p .strobe),
+        lt-ltb c (count-limit w (reads-of (limits w l) (p .act)) (strobe-at (strobes-of (p .act)) q)) (p .count),
+        lt-ltb v (2 ^ samples (take q (strobes-of (p .act)))) (p .bits),
       )
 
 -- what the tests of an outcome say

@@ -1,12 +1,43 @@
 -- For the code: the frame of an act as numbers, and tests of numbers below others. `place-by` of
 -- proofs/Laws/Bounds is the law that these are the strobes, counts and sampled bits of the frames;
--- `act-fails` and `place-decides` of proofs/Laws/Decide, that the tests decide whether a running point is in
--- range.
+-- `running-is` there, that a running point is in range exactly if the tests by the act's number pass.
 use mathlib.Core.Bool.{Bool, cond, _&&_}
+use mathlib.Core.List.{List, [], _∷_}
 use Prim.Native.Nat.{ℕ, _-_, _^_}
 use lib.Dec.{eqb, ltb}
+use Rattle.c2_wire.specs.Step.{reset, pause}
+use Rattle.c2_wire.specs.Field.{RESET, PAUSE}
+use Rattle.c2_wire.specs.Frames.{Strobe, plain, frame}
+use Rattle.c2_wire.specs.declared.Frame.the-variants.{AddressWrite, AddressRead, DataWrite, DataRead}
+use Rattle.c2_acts.specs.Code.Acts.{task-of, acts-in}
+use Rattle.c2_acts.specs.declared.Stage.{Stage}
 use Rattle.c2_acts.specs.declared.Task.{Task}
 use Rattle.c2_acts.specs.declared.Task.the-variants.{Reset, Pause, Address, Send, Input, Output, Ident, Status, Compare}
+use Rattle.c2_range.specs.Range.{pages-in, blocks-in, place-in-range}
+
+-- the strobes of an act's frame, with 0 for the byte that it sends
+abbrev pub strobes-in : Task → List Strobe
+strobes-in Reset = plain RESET reset ∷ []
+strobes-in Pause = plain PAUSE pause ∷ []
+strobes-in Address = frame AddressWrite 0
+strobes-in Send = frame DataWrite 0
+strobes-in Input = frame AddressRead 0
+strobes-in Output = frame AddressRead 0
+strobes-in Ident = frame DataRead 0
+strobes-in Status = frame DataRead 0
+strobes-in Compare = frame DataRead 0
+
+-- the reads that an act counts: those of a poll
+abbrev pub reads-in : (poll-limit : ℕ) → Task → ℕ
+reads-in r Reset = 1
+reads-in r Pause = 1
+reads-in r Address = 1
+reads-in r Send = 1
+reads-in r Input = r
+reads-in r Output = r
+reads-in r Ident = 1
+reads-in r Status = 1
+reads-in r Compare = 1
 
 -- how many strobes an act's frame has
 abbrev pub strobes-by : Task → ℕ
@@ -59,3 +90,9 @@ below-bounds n m k q c v = ltb q n && ltb c m && ltb v (2 ^ k)
 -- whether an act is one of so many, in one of so many blocks of so many pages
 abbrev pub inside : (pages blocks acts : ℕ) → (page block act : ℕ) → Bool
 inside n m a i j k = ltb i n && ltb j m && ltb k a
+
+-- whether a running point is in range, by its act's number
+unfoldable pub running-by : (wait-limit poll-limit size pages : ℕ) → Stage → (page block act strobe count bits : ℕ) → Bool
+running-by w r size pages g i j k q c v =
+    inside (pages-in g pages) (blocks-in g size) (acts-in g) i j k
+    && place-in-range w (reads-in r (task-of g k)) (strobes-in (task-of g k)) q c v

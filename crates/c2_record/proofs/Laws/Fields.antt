@@ -19,14 +19,15 @@ use Rattle.c2_session.specs.declared.Point.{Point}
 use Rattle.c2_session.specs.declared.Point.the-variants.{Running, Ended}
 use Rattle.c2_session.specs.declared.Session.{Session}
 use Rattle.c2_acts.specs.Code.Acts.{task-of, acts-in}
-use Rattle.c2_range.specs.Range.{pages-in, blocks-in, strobes-in, reads-in, place-in-range}
+use Rattle.c2_range.specs.Range.{pages-in, blocks-in}
 use Rattle.c2_record.specs.declared.Named.the-variants.{Of}
 use Rattle.c2_record.specs.declared.Reached.the-variants.{At}
 use Rattle.c2_range.specs.Code.Bounds.{strobes-by, limit-by, sampled-from, sampled-by}
 use Rattle.c2_record.specs.Record.{stage-code, fields-of, laid, packed, settings-read, fields-read, stage-named, point-of, session-read}
 use Rattle.c2_range.specs.Claims.{Opening-passes, Point-exists, Outcome-stands, Point-stands}
 use Rattle.c2_record.specs.Claims.{Small}
-use Rattle.c2_range.proofs.Laws.Bounds.{place-by}
+use Rattle.c2_range.proofs.Laws.Bounds.{place-by, bounded}
+use Rattle.c2_range.proofs.Laws.Range.{point-is-in-range}
 
 at-most : (t : Bool) (x y k : ℕ) → x ≤ k → y ≤ k → cond t x y ≤ k
 at-most true x y k p q = p
@@ -130,13 +131,10 @@ pub record Point-fits (i j k q c v : ℕ) : Type 0 where
 
 module _ (w l : ℕ) (s : Small w l) (size pages : ℕ) (hs : size ≤ 1024) (hp : pages ≤ 128) where
   pub point-fits : (g : Stage) (i j k q c v : ℕ) → Point-exists w l size pages g i j k q c v → Point-fits i j k q c v
-  unfolding place-in-range
-  point-fits g i j k q c v p =
+  point-fits g i j k q c v e =
       let t : Task = task-of g k in
-      let ss = strobes-in t in
-      let e : place-in-range w (reads-in l t) ss q c v ≡ true =
-      rw (lt-ltb q (length ss) (p .strobe), lt-ltb c (count-limit w (reads-in l t) (strobe-at ss q)) (p .count), lt-ltb v (2 ^ samples (take q ss)) (p .bits)) in
-      let a = both (ltb q (strobes-by t) && ltb c (limit-by w l t q)) (ltb v (2 ^ sampled-by t q)) (sym (place-by w l t q c v) ∙ e) in
+      let p = bounded w l size pages g i j k q c v (point-is-in-range w l size pages g i j k q c v e) in
+      let a = both (ltb q (strobes-by t) && ltb c (limit-by w l t q)) (ltb v (2 ^ sampled-by t q)) (sym (place-by w l t q c v) ∙ p .place) in
       let b = both (ltb q (strobes-by t)) (ltb c (limit-by w l t q)) (a .0) in
       record {
         page = omega (arith, p .page, pages-most g pages hp);

@@ -23,7 +23,7 @@ use Rattle.c2_acts.specs.Code.Acts.{task-of, acts-in}
 use Rattle.c2_session.specs.Code.Next.{at}
 use Rattle.c2_range.specs.Range.{pages-in, blocks-in}
 use Rattle.c2_position.specs.Position.{page-at, block-at, stage-acts, pages-from, writes-from, reads-from, after-stage}
-use Rattle.c2_position.proofs.Laws.Acts.{task-act}
+use Rattle.c2_range.proofs.Laws.Acts.{task-act}
 use Rattle.c2_position.proofs.Laws.Position.{Fits, block-is, block-length, act-here, stands}
 use Rattle.c2_position.proofs.Laws.Onward.{stage-length, pages-on, pages-over, writes-on, writes-over, reads-on, reads-over}
 use Rattle.c2_figure.specs.Code.Left.{task-cost, byte-cost, block-cost, page-cost, lead-left, bytes-left, stage-left, after-left}
