@@ -14,10 +14,11 @@ use Rattle.settings.specs.Opening.{opening-refusal}
 use Rattle.c2_order.specs.Order.{lead, order, session-order}
 use Rattle.c2_order.specs.Conversation.{session-limits}
 use Rattle.c2_order.specs.Claims.{exchange-of}
-use Rattle.c2_order.specs.Point.{begin}
+use Rattle.c2_order.specs.Point.{begin, strobes-of, reads-of}
 use Rattle.settings.proofs.Laws.Opening.{opened}
 use Rattle.c2_order.proofs.Laws.Point.{begin-says}
 use Rattle.c2_position.specs.Position.{position, point-position, page-list, pages-from}
+use Rattle.c2_range.specs.Range.{stage-order}
 use Rattle.c2_range.proofs.Laws.Range.{opening-passes, ranges-are}
 use Rattle.c2_opening.specs.Opened.{opened-session, exchange-at}
 use Rattle.c2_opening.specs.Code.Started.{started}
@@ -41,7 +42,7 @@ module _ (t : Settings) (first : ℕ) (image : List ℕ) (e : opening-refusal t 
 
   -- the session of an accepted opening is in range, lent its image
   pub begins-lent : t .id < 256 → Bytes image → Lent (opened-session t first (length image)) image
-  unfolding opened-session count-limit samples
+  unfolding opened-session count-limit samples stage-order lead strobes-of reads-of
   begins-lent i b =
       record {
         id = i;
@@ -50,7 +51,7 @@ module _ (t : Settings) (first : ℕ) (image : List ℕ) (e : opening-refusal t 
             (record {
               opening = opening-passes t first (length image / t .size) (ap (λ (z : ℕ). opening-refusal t first z) (sym whole-pages) ∙ e);
               point =
-                  record { page = omega arith; block = omega arith; act = omega arith; strobe = omega arith; count = omega arith; bits = omega arith };
+                  record { page = omega arith; block = omega arith; act = _; later = _; here = refl; strobe = omega arith; count = omega arith; bits = omega arith };
             });
         whole = whole-pages;
       }

@@ -40,7 +40,6 @@ use Rattle.c2_session.specs.Code.Next.{at, strobe-point, next-act}
 use Rattle.c2_session.specs.Code.Judge.{read-again, differs, compared, frame-judged, sends-image, drives-image, wants, stays, frame-answered}
 use Rattle.c2_session.specs.Code.Advance.{task-taken}
 use Rattle.c2_range.specs.Range.{pages-in, blocks-in, point-in-range, in-range}
-use Rattle.c2_range.specs.Code.Bounds.{strobes-in}
 use Rattle.c2_position.specs.Position.{page-list, pages-from, writes-from, reads-from, at-act, point-position, position}
 use Rattle.c2_range.proofs.Laws.Acts.{task-act}
 use Rattle.c2_range.proofs.Laws.Bounds.{bounded}

@@ -14,14 +14,13 @@ use Rattle.settings.specs.Opening.{opening-refusal}
 use Rattle.c2_order.specs.Acts.{Act}
 use Rattle.c2_order.specs.Order.{session-order}
 use Rattle.c2_order.specs.Conversation.{limits}
-use Rattle.c2_session.specs.declared.At.{At}
 use Rattle.c2_session.specs.declared.Point.the-variants.{Running, Ended}
 use Rattle.c2_session.specs.declared.Session.{Session}
 use Rattle.c2_acts.specs.Code.Acts.{task-of}
 use Rattle.c2_session.specs.Code.Next.{at, strobe-point}
 use Rattle.c2_range.specs.Range.{in-range, point-in-range}
 use Rattle.c2_range.specs.Code.Bounds.{strobes-in, reads-in}
-use Rattle.c2_position.specs.Position.{acts-from, at-act, point-position, position}
+use Rattle.c2_position.specs.Position.{acts-from, at-act, point-position}
 use Rattle.c2_position.specs.Claims.{Placed, In-order, One-session, Each-point}
 use Rattle.c2_position.proofs.Laws.Position.{Fits, act-here, act-byte}
 use Rattle.c2_position.proofs.Laws.Onward.{rest-from, acts-here}

@@ -28,7 +28,7 @@ use Rattle.c2_session.specs.declared.Point.the-variants.{Running, Ended}
 use Rattle.c2_session.specs.declared.Session.{Session}
 use Rattle.c2_acts.specs.Code.Acts.{task-of, read-task}
 use Rattle.c2_session.specs.Code.Bytes.{stage-byte, byte-of, compared-offset}
-use Rattle.c2_session.specs.Code.Next.{at, strobe-point}
+use Rattle.c2_session.specs.Code.Next.{at}
 use Rattle.c2_session.specs.Code.Step.{task-step, point-step, session-step}
 use Rattle.c2_range.specs.Range.{in-range, point-in-range}
 use Rattle.c2_range.specs.Code.Bounds.{strobes-in, reads-in}

@@ -5,12 +5,10 @@ use mathlib.Core.Logic.{_⊎_, inl, inr, ⊎-elim}
 use Prim.Native.Nat.{ℕ, _+_, _-_, _*_, _/_, _%_, _^_, _<_, _≤_}
 use native.Mathlib.Nat.{mul-le-mul-left, pow-le-pow-right}
 use native.Mathlib.Omega.{arith}
-use borrow.Author.Tests.{ltb-true, eqb-true, eqb-false, lt-ltb, ne-eqb}
+use borrow.Author.Tests.{ltb-true, eqb-true, eqb-false, ne-eqb}
 use lib.Dec.{eqb, ltb}
-use lib.ListN.{length, take}
 use Rattle.laws.proofs.Tests.{both, by-test}
 use Rattle.settings.specs.declared.Settings.{Settings}
-use Rattle.c2_wire.specs.Place.{strobe-at, samples, count-limit}
 use Rattle.c2_acts.specs.declared.Stage.{Stage}
 use Rattle.c2_acts.specs.declared.Stage.the-variants.{Lead, Erase, Write, Read, Close}
 use Rattle.c2_acts.specs.declared.Task.{Task}
