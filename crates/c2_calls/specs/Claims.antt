@@ -4,7 +4,7 @@
 use mathlib.Core.Path.{_≡_}
 use mathlib.Core.Bool.{true}
 use mathlib.Core.List.{List, _++_}
-use mathlib.Core.Logic.{_↔_}
+use mathlib.Core.Logic.{_↔_, _⊎_}
 use Prim.Native.Nat.{ℕ, _+_, _/_, _<_, _≤_}
 use lib.ListN.{length}
 use Rattle.numbers.specs.Numbers.{running}
@@ -16,7 +16,7 @@ use Rattle.c2_order.specs.Order.{session-order}
 use Rattle.c2_order.specs.Conversation.{session-limits}
 use Rattle.c2_order.specs.Point.{reached}
 use Rattle.c2_order.specs.Figure.{figure}
-use Rattle.c2_order.specs.Claims.{exchange-of, point-after}
+use Rattle.c2_order.specs.Claims.{exchange-of, point-after, Ending}
 use Rattle.c2_session.specs.declared.Session.{Session}
 use Rattle.c2_session.specs.Code.Step.{session-step}
 use Rattle.c2_outcome.specs.Outcome.{number-of, offset-of}
@@ -77,6 +77,13 @@ pub record Follows-on (s : Session) (image replies : List ℕ) : Type 0 where
 abbrev pub Held-follows : Type 0
 Held-follows = (r : List ℕ) (s : Session) (image replies : List ℕ) → unpacked 20 256 r ≡ Held s → Bytes image → length image ≡ image-length s
     → Follows-on s image replies
+
+-- Whatever record a call takes: its session, if it runs, lent an image of its length, still runs after any
+-- replies, or has ended with one of the numbers that end a session, 9 to 14 and 32.
+abbrev pub Held-ends : Type 0
+Held-ends = (r : List ℕ) (s : Session) (image replies : List ℕ) → unpacked 20 256 r ≡ Held s → number-of (s .point) ≡ running
+    → Bytes image → length image ≡ image-length s
+    → (number-of (session-fed s image replies .point) ≡ running) ⊎ Ending (number-of (session-fed s image replies .point))
 
 -- The figure goes by the session and not by the image's bytes.
 abbrev pub Figure-of-any : Type 0

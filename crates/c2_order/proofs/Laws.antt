@@ -4,5 +4,6 @@ pub mod Point
 pub mod Stands
 pub mod Figure
 pub mod Order
+pub mod Ends
 pub mod Claims
 pub mod Paper

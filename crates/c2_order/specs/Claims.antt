@@ -3,16 +3,17 @@
 use mathlib.Core.Path.{_≡_}
 use mathlib.Core.Bool.{true}
 use mathlib.Core.List.{List, _++_}
+use mathlib.Core.Logic.{_⊎_}
 use Prim.Native.Nat.{ℕ, _+_, _*_, _/_, _<_, _≤_}
 use lib.ListN.{length}
-use Rattle.numbers.specs.Numbers.{done}
+use Rattle.numbers.specs.Numbers.{done, bad-reply, compare-differs}
 use Rattle.c2_wire.specs.Bits.{Bytes}
 use Rattle.c2_wire.specs.Exchange.{Exchange, Outcome, outcome, fed, steps, taken, own}
 use Rattle.settings.specs.declared.Settings.{Settings}
 use Rattle.settings.specs.Opening.{opening-refusal}
 use Rattle.c2_order.specs.Order.{session-order}
 use Rattle.c2_order.specs.Conversation.{Limits, Positive, session-limits, conversation}
-use Rattle.c2_order.specs.Point.{Point, ended, Exists-in, begin, reached, left-to-say}
+use Rattle.c2_order.specs.Point.{Point, ended, Stands, Exists-in, begin, reached, left-to-say}
 use Rattle.c2_order.specs.Figure.{figure}
 use Rattle.exchange.specs.Exchange as Shared
 
@@ -94,3 +95,13 @@ pub record Reaching (l : Limits) (s : Settings) (first : ℕ) (image : List ℕ)
 
 abbrev pub Figure-reached : Type 0
 Figure-reached = (l : Limits) (s : Settings) (first : ℕ) (image : List ℕ) → Positive l → Opening s first image → Reaching l s first image
+
+-- The numbers that end a session: 32, and 9 to 14.
+abbrev pub Ending : ℕ → Type 0
+Ending n = (n ≡ done) ⊎ ((bad-reply ≤ n) × (n ≤ compare-differs))
+
+-- From every point of the order on, and whatever the replies, a session that has ended has one of these
+-- numbers.
+abbrev pub Ends-so : Type 0
+Ends-so = (l : Limits) (s : Settings) (first : ℕ) (image : List ℕ) → Opening s first image
+    → (x : Point) → Stands l (session-order s first image) x → (rs : List ℕ) (o : Outcome) → reached l x rs ≡ ended o → Ending (o .number)

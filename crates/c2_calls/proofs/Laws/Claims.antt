@@ -1,27 +1,32 @@
 -- The claims of specs/Claims.antt, each proved under its name; Figure has those of the figure told.
 use mathlib.Core.Path.{_≡_, refl, sym, ap, _∙_}
 use mathlib.Core.List.{List, [], _∷_}
-use mathlib.Core.Logic.{inl, inr}
+use mathlib.Core.Logic.{_⊎_, inl, inr, ⊎-elim}
 use Prim.Native.Nat.{ℕ, zero, suc, _/_, _<_}
 use native.Mathlib.Omega.{arith}
 use borrow.Author.Tests.{eqb-true}
 use lib.Dec.{eqb}
 use lib.ListN.{length, replicate, length-replicate}
 use Rattle.laws.proofs.Tests.{both}
+use Rattle.numbers.specs.Numbers.{running}
 use Rattle.c2_wire.specs.Bits.{Bytes}
 use Rattle.c2_wire.specs.Exchange.{Exchange, Outcome, asks, fed}
 use Rattle.settings.specs.Opening.{opening-refusal}
 use Rattle.c2_order.specs.Acts.{Act}
 use Rattle.c2_order.specs.Order.{order, session-order}
 use Rattle.c2_order.specs.Conversation.{Limits, session-limits}
-use Rattle.c2_order.specs.Point.{Exists-in, reached}
-use Rattle.c2_order.specs.Claims.{Opening}
+use Rattle.c2_order.specs.Point.{Stands, Exists-in, reached}
+use Rattle.c2_order.specs.Claims.{Opening, Ending}
 use Rattle.c2_order.proofs.Laws.Claims.{driven-on}
+use Rattle.c2_order.proofs.Laws.Ends.{ends-so}
 use Rattle.c2_session.specs.declared.Point.the-variants.{Running, Ended}
 use Rattle.c2_session.specs.declared.Session.{Session}
 use Rattle.c2_session.specs.Code.Advance.{advanced}
+use Rattle.c2_outcome.specs.Outcome.{number-of}
 use Rattle.c2_range.specs.Range.{in-range, point-in-range}
-use Rattle.c2_position.specs.Position.{position}
+use Rattle.c2_range.specs.Claims.{Point-stands}
+use Rattle.c2_range.proofs.Laws.Range.{within-ranges}
+use Rattle.c2_position.specs.Position.{point-position, position}
 use Rattle.c2_position.specs.Claims.{Placed}
 use Rattle.c2_position.proofs.Laws.Advanced.{SessionPoint, advances}
 use Rattle.c2_position.proofs.Laws.Step.{asks-step}
@@ -33,7 +38,7 @@ use Rattle.c2_record.proofs.Laws.Claims.{small, pack-unpack, unpacked-exactly}
 use Rattle.c2_opening.specs.Opened.{opened-session, image-length, session-fed}
 use Rattle.c2_calls.specs.Calls.{blank}
 use Rattle.c2_calls.specs.Family.{session-after}
-use Rattle.c2_calls.specs.Claims.{Replies-follow, Held-follows, Parts-join, Figure-of-any}
+use Rattle.c2_calls.specs.Claims.{Replies-follow, Held-follows, Held-ends, Parts-join, Figure-of-any}
 use Rattle.c2_opening.proofs.Laws.Opened.{begins-lent, begins-at, begins-so}
 use Rattle.c2_opening.proofs.Laws.Follows.{Lent, lent-advances, outcome-is, exchange-after, lent-after}
 use Rattle.c2_order.specs.Point
@@ -118,6 +123,29 @@ held-follows r s image rs e b w =
       driven = driven-on session-limits (s .settings) (s .first) image (opening-of s image (x .fpdat) lent) (position s image)
           (placed-exists session-limits (session-order (s .settings) (s .first) image) (s .point) (position s image) here) rs;
     }
+
+-- a session in range that runs stands at an act of its order
+runs-there : (l : Limits) (order : List Act) (size pages : ℕ) (y : SessionPoint) (x : Point.Point) → Placed l order y x
+    → Point-stands 20 256 size pages y → number-of y ≡ running → Stands l order x
+runs-there l order size pages (Running g i j k q c v) x h p e = h
+runs-there l order size pages (Ended n o) x h p e = absurd (⊎-elim (λ a. omega arith) (λ a. omega arith) (p .number))
+
+-- the number of a session whose point of the order is this, where each end of that point is known
+number-known : (s : Session) (image : List ℕ) (y : SessionPoint) (x : Point.Point) → point-position s image y ≡ x
+    → ((o : Outcome) → x ≡ Point.ended o → Ending (o .number)) → (number-of y ≡ running) ⊎ Ending (number-of y)
+unfolding point-position
+number-known s image (Running g i j k q c v) x e f = inl refl
+number-known s image (Ended n o) x e f = inr (f (record { number = n; offset = o }) (sym e))
+
+pub held-ends : Held-ends
+held-ends r s image rs e n b w =
+    let h = unpacked-exactly 20 256 small s r .0 e in
+    let lent : Lent s image = record { id = h .id; bytes = b; range = h .ranges; whole = w } in
+    let here = in-order 20 256 s image (lent .range) (lent .whole) in
+    let order = session-order (s .settings) (s .first) image in
+    let runs = runs-there session-limits order (s .settings .size) (s .pages) (s .point) (position s image) here (within-ranges 20 256 s (lent .range) .point) n in
+    number-known (session-fed s image rs) image (session-fed s image rs .point) (reached session-limits (position s image) rs) (point-reached s image rs lent)
+    (ends-so session-limits (s .settings) (s .first) image (opening-of s image (h .fpdat) lent) (position s image) runs rs)
 
 pub parts-join : Parts-join
 unfolding session-fed

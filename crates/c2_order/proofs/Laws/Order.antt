@@ -1,6 +1,7 @@
 -- What holds of the acts that an order is made of holds of every act of it.
 use mathlib.Core.Path.{refl}
 use mathlib.Core.List.{List, [], _∷_, map}
+use mathlib.Core.Logic.{inr}
 use Prim.Native.Nat.{ℕ, zero, suc, _+_, _*_, _/_, _<_}
 use native.Mathlib.Omega.{arith}
 use lib.ListN.{length, take, drop}
@@ -18,6 +19,7 @@ use Rattle.c2_wire.proofs.Laws.Frames.{masters, masters-frame, whole-address-wr
 use Rattle.settings.specs.declared.Settings.{Settings}
 use Rattle.c2_order.specs.Acts.{Act, poll, expect, reset-pulse, pause-20-ms, address-write, data-write, input-taken, output-ready, put, get, status, puts, compares, Block, erase, block-command, block-write, block-read}
 use Rattle.c2_order.specs.Order.{Page, pages, blocks, joined, lead, page-acts, order, session-order}
+use Rattle.c2_order.specs.Claims.{Ending}
 use Rattle.c2_order.proofs.Laws.Valid.{Framed, Sound, Every, none, more, _then_}
 
 -- a fact of each kind of act that orders are made of
@@ -28,20 +30,20 @@ pub record Ground (P : Act → Type 0) : Type 0 where
   pub writes : (b : ℕ) → P (data-write b)
   pub takes : P (poll input-taken)
   pub readies : P (poll output-ready)
-  pub expects : (x : ℕ) (o : Outcome) → x < 256 → P (expect x o)
+  pub expects : (x : ℕ) (o : Outcome) → x < 256 → Ending (o .number) → P (expect x o)
 
 module _ (P : Act → Type 0) (g : Ground P) where
   every-put : (b : ℕ) → Every P (put b)
   unfolding put
   every-put b = more (g .writes b) (more (g .takes) none)
 
-  every-get : (b : ℕ) (o : Outcome) → b < 256 → Every P (get b o)
+  every-get : (b : ℕ) (o : Outcome) → b < 256 → Ending (o .number) → Every P (get b o)
   unfolding get
-  every-get b o h = more (g .readies) (more (g .expects b o h) none)
+  every-get b o h e = more (g .readies) (more (g .expects b o h e) none)
 
   every-status : Every P status
   unfolding status
-  every-status = every-get 13 (outcome bad-status) (omega arith)
+  every-status = every-get 13 (outcome bad-status) (omega arith) (inr (omega arith, omega arith))
 
   every-puts : (bs : List ℕ) → Every P (puts bs)
   unfolding puts
@@ -51,7 +53,7 @@ module _ (P : Act → Type 0) (g : Ground P) where
   every-compares : (o : ℕ) (bs : List ℕ) → Bytes bs → Every P (compares o bs)
   unfolding compares
   every-compares o [] h = none
-  every-compares o (b ∷ bs) h = every-get b (record { number = compare-differs; offset = o }) (h .0) then every-compares (suc o) bs (h .1)
+  every-compares o (b ∷ bs) h = every-get b (record { number = compare-differs; offset = o }) (h .0) (inr (omega arith, omega arith)) then every-compares (suc o) bs (h .1)
 
   pub every-erase : (f p : ℕ) → Every P (erase f p)
   unfolding erase
@@ -94,7 +96,7 @@ module _ (P : Act → Type 0) (g : Ground P) where
   pub every-lead : (s : Settings) → s .id < 256 → Every P (lead s)
   unfolding lead
   every-lead s h =
-      more (g .resets) (more (g .expects (s .id) (outcome other-device) h) (more (g .resets) (more (g .addresses 2)
+      more (g .resets) (more (g .expects (s .id) (outcome other-device) h (inr (omega arith, omega arith))) (more (g .resets) (more (g .addresses 2)
       (more (g .writes 2) (more (g .writes 4) (more (g .writes 1) (more (g .pauses) none)))))))
 
   pub every-session : (s : Settings) → s .id < 256 → (first : ℕ) (image : List ℕ) → Bytes image → Every P (session-order s first image)
@@ -114,5 +116,5 @@ sound =
       writes = λ b. of-frame DataWrite b (whole-data-write b) (omega arith);
       takes = tt;
       readies = tt;
-      expects = λ x o h. tt;
+      expects = λ x o h e. tt;
     }

@@ -16,11 +16,11 @@ use Rattle.c2_order.specs.Point.{Point, running, ended, strobes-of, Exis
 use Rattle.c2_order.proofs.Laws.Valid.{Sound, Every, more, Valid}
 
 -- what holds of every act of a list holds of those at its end
-every-end : {P : Act → Type 0} (xs ys : List Act) → Every P (xs ++ ys) → Every P ys
+pub every-end : {P : Act → Type 0} (xs ys : List Act) → Every P (xs ++ ys) → Every P ys
 every-end [] ys f = f
 every-end (x ∷ xs) ys (more p f) = every-end xs ys f
 
-first-and-later : {P : Act → Type 0} (a : Act) (acts : List Act) → Every P (a ∷ acts) → P a × Every P acts
+pub first-and-later : {P : Act → Type 0} (a : Act) (acts : List Act) → Every P (a ∷ acts) → P a × Every P acts
 first-and-later a acts (more p f) = (p, f)
 
 pub exists-valid : (l : Limits) (order : List Act) → Every Sound order → (x : Point) → Exists-in l order x → Valid l x

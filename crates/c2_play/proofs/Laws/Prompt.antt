@@ -218,7 +218,7 @@ module _ (s : Settings) where
         writes = writes;
         takes = polls _;
         readies = polls _;
-        expects = λ y bad h. expects y bad;
+        expects = λ y bad h e. expects y bad;
       }
 
   first-refuses : (a : Act) (acts : List Act) → Refuses (a ∷ acts) → Refuses (a ∷ []) × Refuses acts

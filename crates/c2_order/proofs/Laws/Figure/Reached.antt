@@ -86,7 +86,7 @@ passable = record {
   writes = λ b. refl;
   takes = (0, 2, omega arith, omega arith, refl, refl);
   readies = (1, 0, omega arith, omega arith, refl, refl);
-  expects = λ x o h. h;
+  expects = λ x o h e. h;
 }
 
 way-act : (l : Limits) → Positive l → (a : Act) (acts : List Act) → Passable a → Way (conversation l (a ∷ acts)) (cost l a) (conversation l acts)
