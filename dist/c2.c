@@ -1,4 +1,4 @@
-/* Made from the MIR of crate c2, sha256 0a4dc03fd58aff4f72085c303b5d19b13e92702383b3ee05130133cc8d6697fc. */
+/* Made from the MIR of crate c2, sha256 ea0d7185d4eba143a8d5c262f54a3b2f7132a44db3491110caa63ff5a1a3daa6. */
 /*
  * Made by `make c`, not to be edited. A function stands under its path in the proved code. Its result is
  * called result, its parameters a1, a2 .. and its other locals v.., by their numbers in the MIR. A statement
@@ -75,11 +75,6 @@ typedef struct {
     uint64_t f1;
     uint64_t f2;
 } c2_wire__Place;
-
-typedef struct {
-    uint8_t tag;
-    uint8_t u8_0;
-} c2_session__Wanted;
 
 typedef struct {
     uint8_t tag;
@@ -1056,6 +1051,28 @@ static uint64_t c2_session__Session__compared_offset(const c2_session__Session *
     return result;
 }
 
+/* c2_session::Session::differs */
+static c2_session__Point c2_session__Session__differs(const c2_session__Session *a1, const c2_session__At *a2)
+{
+    c2_session__Point result;
+    uint64_t v3;
+    uint64_t v4;
+    uint32_t v5;
+    v3 = c2_session__Session__compared_offset(a1, a2);
+    v4 = v3 % UINT64_C(4294967296);
+    v5 = (uint32_t)v4;
+    result.tag = 1u;
+    result.u32_0 = UINT32_C(14);
+    result.u32_1 = v5;
+    result.c2_acts__Stage_0 = 0;
+    result.u16_0 = 0;
+    result.u16_1 = 0;
+    result.u64_0 = 0;
+    result.u64_1 = 0;
+    result.u64_2 = 0;
+    return result;
+}
+
 /* c2_acts::acts_in */
 static uint16_t c2_acts__acts_in(c2_acts__Stage a1)
 {
@@ -1275,6 +1292,23 @@ static c2_session__Point c2_session__Session__next_act(const c2_session__Session
     return result;
 }
 
+/* c2_session::Session::compared */
+static c2_session__Point c2_session__Session__compared(const c2_session__Session *a1, uint8_t a2,
+    const c2_session__At *a3, uint64_t a4)
+{
+    c2_session__Point result;
+    uint64_t v5;
+    _Bool v6;
+    v5 = (uint64_t)a2;
+    v6 = a4 == v5;
+    if (v6) {
+        result = c2_session__Session__next_act(a1, a3);
+        return result;
+    }
+    result = c2_session__Session__differs(a1, a3);
+    return result;
+}
+
 /* c2_session::Session::expects */
 static c2_session__Point c2_session__Session__expects(const c2_session__Session *a1, _Bool a2, uint32_t a3,
     const c2_session__At *a4)
@@ -1349,77 +1383,10 @@ static c2_session__Point c2_session__Session__polled(const c2_session__Session *
     return result;
 }
 
-/* c2_session::Session::differs */
-static c2_session__Point c2_session__Session__differs(const c2_session__Session *a1, const c2_session__At *a2)
-{
-    c2_session__Point result;
-    uint64_t v3;
-    uint64_t v4;
-    uint32_t v5;
-    v3 = c2_session__Session__compared_offset(a1, a2);
-    v4 = v3 % UINT64_C(4294967296);
-    v5 = (uint32_t)v4;
-    result.tag = 1u;
-    result.u32_0 = UINT32_C(14);
-    result.u32_1 = v5;
-    result.c2_acts__Stage_0 = 0;
-    result.u16_0 = 0;
-    result.u16_1 = 0;
-    result.u64_0 = 0;
-    result.u64_1 = 0;
-    result.u64_2 = 0;
-    return result;
-}
-
-/* c2_session::Session::compared */
-static c2_session__Point c2_session__Session__compared(const c2_session__Session *a1, uint8_t a2,
-    const c2_session__At *a3, uint64_t a4)
-{
-    c2_session__Point result;
-    uint64_t v5;
-    _Bool v6;
-    v5 = (uint64_t)a2;
-    v6 = a4 == v5;
-    if (v6) {
-        result = c2_session__Session__next_act(a1, a3);
-        return result;
-    }
-    result = c2_session__Session__differs(a1, a3);
-    return result;
-}
-
-/* c2_session::Session::wanted_compared */
-static c2_session__Point c2_session__Session__wanted_compared(const c2_session__Session *a1,
-    const c2_session__Wanted *a2, const c2_session__At *a3, uint64_t a4)
-{
-    c2_session__Point result;
-    uint8_t v5;
-    c2_session__Point v6;
-    switch (a2->tag) {
-    case 0u:
-        v5 = a2->u8_0;
-        v6 = c2_session__Session__compared(a1, v5, a3, a4);
-        break;
-    default: /* 1 */
-        v6 = c2_session__next__end_point(UINT32_C(15));
-        break;
-    }
-    result.tag = v6.tag;
-    result.c2_acts__Stage_0 = v6.c2_acts__Stage_0;
-    result.u16_0 = v6.u16_0;
-    result.u32_0 = v6.u32_0;
-    result.u16_1 = v6.u16_1;
-    result.u64_0 = v6.u64_0;
-    result.u64_1 = v6.u64_1;
-    result.u64_2 = v6.u64_2;
-    result.u32_1 = v6.u32_1;
-    return result;
-}
-
 /* c2_session::bytes::image_byte */
-static c2_session__Wanted c2_session__bytes__image_byte(slice_u8 a1, uint64_t a2)
+static uint8_t c2_session__bytes__image_byte(slice_u8 a1, uint64_t a2)
 {
-    c2_session__Wanted result;
+    uint8_t result;
     uint64_t v3;
     _Bool v4;
     const uint8_t *v5;
@@ -1429,12 +1396,10 @@ static c2_session__Wanted c2_session__bytes__image_byte(slice_u8 a1, uint64_t a2
     if (v4) {
         v5 = a1.at + (size_t)a2;
         v6 = *v5;
-        result.tag = 0u;
-        result.u8_0 = v6;
+        result = v6;
         return result;
     }
-    result.tag = 1u;
-    result.u8_0 = 0;
+    result = 0u;
     return result;
 }
 
@@ -1451,7 +1416,7 @@ static c2_session__Point c2_session__Session__frame_judged(const c2_session__Ses
     uint64_t v12;
     _Bool v13;
     _Bool v14;
-    c2_session__Wanted v15;
+    uint8_t v15;
     uint64_t v16;
     uint64_t v17;
     _Bool v18;
@@ -1478,7 +1443,7 @@ static c2_session__Point c2_session__Session__frame_judged(const c2_session__Ses
     case 8u:
         v16 = c2_session__Session__compared_offset(a1, a3);
         v15 = c2_session__bytes__image_byte(a6, v16);
-        v8 = c2_session__Session__wanted_compared(a1, &v15, a3, a5);
+        v8 = c2_session__Session__compared(a1, v15, a3, a5);
         break;
     case 6u:
         v17 = (uint64_t)v7.device_id;
@@ -1510,187 +1475,38 @@ static c2_session__Point c2_session__Session__frame_judged(const c2_session__Ses
     return result;
 }
 
-/* c2_session::Session::sent_offset */
-static uint64_t c2_session__Session__sent_offset(const c2_session__Session *a1, const c2_session__At *a2)
-{
-    uint64_t result;
-    c2_settings v3;
-    _Bool v4;
-    uint64_t v5;
-    uint16_t v6;
-    uint64_t v7;
-    uint64_t v8;
-    v3.device_id = a1->f0.device_id;
-    v3.fpdat = a1->f0.fpdat;
-    v3.page_size = a1->f0.page_size;
-    v3.page_count = a1->f0.page_count;
-    v4 = a2->f3 < 11u;
-    if (v4) {
-        result = c2_session__bytes__block_offset(&v3, a2);
-        return result;
-    }
-    v5 = c2_session__bytes__block_offset(&v3, a2);
-    v6 = (uint16_t)((unsigned)a2->f3 - 11u);
-    v7 = (uint64_t)v6;
-    v8 = v7 / UINT64_C(2);
-    result = v5 + v8;
-    return result;
-}
-
-/* c2_session::judge::sends_image */
-static _Bool c2_session__judge__sends_image(uint16_t a1)
-{
-    _Bool result;
-    _Bool v2;
-    uint16_t v3;
-    v2 = a1 < 11u;
-    if (v2) {
-        result = 0;
-        return result;
-    }
-    v2 = a1 < 523u;
-    if (v2) {
-        v3 = (uint16_t)((unsigned)a1 % 2u);
-        result = v3 == 1u;
-        return result;
-    }
-    result = 0;
-    return result;
-}
-
-/* c2_session::judge::drives_image */
-static _Bool c2_session__judge__drives_image(const c2_session__At *a1, const c2_wire__Place *a2)
-{
-    _Bool result;
-    _Bool v3;
-    v3 = a2->f0 < UINT64_C(5);
-    if (v3) {
-        result = 0;
-        return result;
-    }
-    v3 = a2->f0 < UINT64_C(13);
-    if (v3) {
-        result = c2_session__judge__sends_image(a1->f3);
-        return result;
-    }
-    result = 0;
-    return result;
-}
-
-/* c2_session::judge::wants */
-static c2_session__Point c2_session__judge__wants(const c2_session__Wanted *a1, const c2_session__At *a2,
-    const c2_wire__Place *a3)
-{
-    c2_session__Point result;
-    c2_session__Point v4;
-    switch (a1->tag) {
-    case 0u:
-        v4 = c2_session__next__strobe_point(a2, a3);
-        break;
-    default: /* 1 */
-        v4 = c2_session__next__end_point(UINT32_C(15));
-        break;
-    }
-    result.tag = v4.tag;
-    result.c2_acts__Stage_0 = v4.c2_acts__Stage_0;
-    result.u16_0 = v4.u16_0;
-    result.u32_0 = v4.u32_0;
-    result.u16_1 = v4.u16_1;
-    result.u64_0 = v4.u64_0;
-    result.u64_1 = v4.u64_1;
-    result.u64_2 = v4.u64_2;
-    result.u32_1 = v4.u32_1;
-    return result;
-}
-
-/* c2_session::Session::writes_on */
-static c2_session__Point c2_session__Session__writes_on(const c2_session__Session *a1,
-    const c2_session__At *a2, const c2_wire__Place *a3, slice_u8 a4)
-{
-    c2_session__Point result;
-    _Bool v5;
-    c2_session__Wanted v6;
-    uint64_t v7;
-    v5 = c2_session__judge__drives_image(a2, a3);
-    if (v5) {
-        v7 = c2_session__Session__sent_offset(a1, a2);
-        v6 = c2_session__bytes__image_byte(a4, v7);
-        result = c2_session__judge__wants(&v6, a2, a3);
-        return result;
-    }
-    result = c2_session__next__strobe_point(a2, a3);
-    return result;
-}
-
-/* c2_session::Session::stays */
-static c2_session__Point c2_session__Session__stays(const c2_session__Session *a1, c2_acts__Stage a2,
-    const c2_session__At *a3, const c2_wire__Place *a4, slice_u8 a5)
-{
-    c2_session__Point result;
-    c2_session__Point v6;
-    switch (a2) {
-    case 2u:
-        v6 = c2_session__Session__writes_on(a1, a3, a4, a5);
-        break;
-    case 0u:
-        v6 = c2_session__next__strobe_point(a3, a4);
-        break;
-    case 1u:
-        v6 = c2_session__next__strobe_point(a3, a4);
-        break;
-    case 3u:
-        v6 = c2_session__next__strobe_point(a3, a4);
-        break;
-    default: /* 4 */
-        v6 = c2_session__next__strobe_point(a3, a4);
-        break;
-    }
-    result.tag = v6.tag;
-    result.c2_acts__Stage_0 = v6.c2_acts__Stage_0;
-    result.u16_0 = v6.u16_0;
-    result.u32_0 = v6.u32_0;
-    result.u16_1 = v6.u16_1;
-    result.u64_0 = v6.u64_0;
-    result.u64_1 = v6.u64_1;
-    result.u64_2 = v6.u64_2;
-    result.u32_1 = v6.u32_1;
-    return result;
-}
-
 /* c2_session::Session::frame_answered */
 static c2_session__Point c2_session__Session__frame_answered(const c2_session__Session *a1,
     const c2_wire__Moved *a2, c2_acts__Task a3, const c2_session__At *a4, uint64_t a5, slice_u8 a6)
 {
     c2_session__Point result;
-    c2_acts__Stage v7;
-    c2_wire__Place v8;
-    uint64_t v9;
-    c2_session__Point v10;
-    v7 = a4->f0;
+    c2_wire__Place v7;
+    uint64_t v8;
+    c2_session__Point v9;
     switch (a2->tag) {
     case 0u:
-        v8.f0 = a2->c2_wire__Place_0.f0;
-        v8.f1 = a2->c2_wire__Place_0.f1;
-        v8.f2 = a2->c2_wire__Place_0.f2;
-        v10 = c2_session__Session__stays(a1, v7, a4, &v8, a6);
+        v7.f0 = a2->c2_wire__Place_0.f0;
+        v7.f1 = a2->c2_wire__Place_0.f1;
+        v7.f2 = a2->c2_wire__Place_0.f2;
+        v9 = c2_session__next__strobe_point(a4, &v7);
         break;
     case 1u:
-        v9 = a2->u64_0;
-        v10 = c2_session__Session__frame_judged(a1, a3, a4, a5, v9, a6);
+        v8 = a2->u64_0;
+        v9 = c2_session__Session__frame_judged(a1, a3, a4, a5, v8, a6);
         break;
     default: /* 2 */
-        v10 = c2_session__next__end_point(UINT32_C(10));
+        v9 = c2_session__next__end_point(UINT32_C(10));
         break;
     }
-    result.tag = v10.tag;
-    result.c2_acts__Stage_0 = v10.c2_acts__Stage_0;
-    result.u16_0 = v10.u16_0;
-    result.u32_0 = v10.u32_0;
-    result.u16_1 = v10.u16_1;
-    result.u64_0 = v10.u64_0;
-    result.u64_1 = v10.u64_1;
-    result.u64_2 = v10.u64_2;
-    result.u32_1 = v10.u32_1;
+    result.tag = v9.tag;
+    result.c2_acts__Stage_0 = v9.c2_acts__Stage_0;
+    result.u16_0 = v9.u16_0;
+    result.u32_0 = v9.u32_0;
+    result.u16_1 = v9.u16_1;
+    result.u64_0 = v9.u64_0;
+    result.u64_1 = v9.u64_1;
+    result.u64_2 = v9.u64_2;
+    result.u32_1 = v9.u32_1;
     return result;
 }
 
@@ -2319,23 +2135,47 @@ static uint8_t c2_session__Session__erase_byte(const c2_session__Session *a1, co
     return result;
 }
 
-/* c2_session::Session::write_byte */
-static c2_session__Wanted c2_session__Session__write_byte(const c2_session__Session *a1,
-    const c2_session__At *a2, slice_u8 a3)
+/* c2_session::Session::sent_offset */
+static uint64_t c2_session__Session__sent_offset(const c2_session__Session *a1, const c2_session__At *a2)
 {
-    c2_session__Wanted result;
+    uint64_t result;
+    c2_settings v3;
     _Bool v4;
-    uint8_t v5;
-    uint64_t v6;
+    uint64_t v5;
+    uint16_t v6;
+    uint64_t v7;
+    uint64_t v8;
+    v3.device_id = a1->f0.device_id;
+    v3.fpdat = a1->f0.fpdat;
+    v3.page_size = a1->f0.page_size;
+    v3.page_count = a1->f0.page_count;
     v4 = a2->f3 < 11u;
     if (v4) {
-        v5 = c2_session__Session__block_byte(a1, a2, 7u);
-        result.tag = 0u;
-        result.u8_0 = v5;
+        result = c2_session__bytes__block_offset(&v3, a2);
         return result;
     }
-    v6 = c2_session__Session__sent_offset(a1, a2);
-    result = c2_session__bytes__image_byte(a3, v6);
+    v5 = c2_session__bytes__block_offset(&v3, a2);
+    v6 = (uint16_t)((unsigned)a2->f3 - 11u);
+    v7 = (uint64_t)v6;
+    v8 = v7 / UINT64_C(2);
+    result = v5 + v8;
+    return result;
+}
+
+/* c2_session::Session::write_byte */
+static uint8_t c2_session__Session__write_byte(const c2_session__Session *a1, const c2_session__At *a2,
+    slice_u8 a3)
+{
+    uint8_t result;
+    _Bool v4;
+    uint64_t v5;
+    v4 = a2->f3 < 11u;
+    if (v4) {
+        result = c2_session__Session__block_byte(a1, a2, 7u);
+        return result;
+    }
+    v5 = c2_session__Session__sent_offset(a1, a2);
+    result = c2_session__bytes__image_byte(a3, v5);
     return result;
 }
 
@@ -2364,59 +2204,29 @@ static uint8_t c2_session__bytes__lead_byte(uint16_t a1)
 }
 
 /* c2_session::Session::stage_byte */
-static c2_session__Wanted c2_session__Session__stage_byte(const c2_session__Session *a1, c2_acts__Stage a2,
+static uint8_t c2_session__Session__stage_byte(const c2_session__Session *a1, c2_acts__Stage a2,
     const c2_session__At *a3, slice_u8 a4)
 {
-    c2_session__Wanted result;
-    c2_session__Wanted v5;
-    uint8_t v6;
-    uint8_t v7;
-    uint8_t v8;
+    uint8_t result;
+    uint8_t v5;
     switch (a2) {
     case 0u:
-        v6 = c2_session__bytes__lead_byte(a3->f3);
-        v5.tag = 0u;
-        v5.u8_0 = v6;
+        v5 = c2_session__bytes__lead_byte(a3->f3);
         break;
     case 1u:
-        v7 = c2_session__Session__erase_byte(a1, a3);
-        v5.tag = 0u;
-        v5.u8_0 = v7;
+        v5 = c2_session__Session__erase_byte(a1, a3);
         break;
     case 2u:
         v5 = c2_session__Session__write_byte(a1, a3, a4);
         break;
     case 3u:
-        v8 = c2_session__Session__block_byte(a1, a3, 6u);
-        v5.tag = 0u;
-        v5.u8_0 = v8;
+        v5 = c2_session__Session__block_byte(a1, a3, 6u);
         break;
     default: /* 4 */
-        v5.tag = 0u;
-        v5.u8_0 = 0u;
+        v5 = 0u;
         break;
     }
-    result.tag = v5.tag;
-    result.u8_0 = v5.u8_0;
-    return result;
-}
-
-/* c2_session::bytes::byte_of */
-static uint8_t c2_session__bytes__byte_of(const c2_session__Wanted *a1)
-{
-    uint8_t result;
-    uint8_t v2;
-    uint8_t v3;
-    switch (a1->tag) {
-    case 0u:
-        v2 = a1->u8_0;
-        v3 = v2;
-        break;
-    default: /* 1 */
-        v3 = 0u;
-        break;
-    }
-    result = v3;
+    result = v5;
     return result;
 }
 
@@ -2465,12 +2275,10 @@ static uint8_t c2_session__Session__task_byte(const c2_session__Session *a1, c2_
     uint8_t result;
     c2_acts__Stage v5;
     _Bool v6;
-    c2_session__Wanted v7;
     v5 = a3->f0;
     v6 = c2_session__step__task_sends(a2);
     if (v6) {
-        v7 = c2_session__Session__stage_byte(a1, v5, a3, a4);
-        result = c2_session__bytes__byte_of(&v7);
+        result = c2_session__Session__stage_byte(a1, v5, a3, a4);
         return result;
     }
     result = 0u;
@@ -2769,7 +2577,7 @@ static _Bool c2_range__range__ends_session(uint32_t a1)
     }
     v2 = UINT32_C(9) <= a1;
     if (v2) {
-        result = a1 <= UINT32_C(15);
+        result = a1 <= UINT32_C(14);
         return result;
     }
     result = 0;

@@ -1,4 +1,4 @@
-/* Made from the MIR of crate c2, sha256 0a4dc03fd58aff4f72085c303b5d19b13e92702383b3ee05130133cc8d6697fc. */
+/* Made from the MIR of crate c2, sha256 ea0d7185d4eba143a8d5c262f54a3b2f7132a44db3491110caa63ff5a1a3daa6. */
 /*
  * Made by `make c`, not to be edited. A function stands under its path in the proved code. Its result is
  * called result, its parameters a1, a2 .. and its other locals v.., by their numbers in the MIR. A statement

@@ -111,8 +111,6 @@ enum {
                                    the page, be locked, or want registers written first */
     C2_COMPARE_DIFFERS = 14,    /* a byte read back differs from the image; the offset says which. Try again,
                                    then suspect the flash, or an image that was changed meanwhile */
-    C2_NO_IMAGE_BYTE = 15,      /* an image offset not below the image's length when a byte is wanted. Since 7
-                                   is tested first, no session of these calls ends so; a record may hold it */
 
     /* Refused steps of the modelled target, c2_target.h. Nothing has changed. */
     C2_NO_STEP = 16,  /* step 1 or above 6 */
@@ -155,7 +153,7 @@ typedef struct {
 
 /* The answer to c2_advance. */
 typedef struct {
-    uint32_t number; /* the session's number after the replies taken: C2_RUNNING, C2_DONE or 9 to 15; 6, 7 or
+    uint32_t number; /* the session's number after the replies taken: C2_RUNNING, C2_DONE or 9 to 14; 6, 7 or
                         8 when refused */
     uint32_t offset; /* with C2_COMPARE_DIFFERS the offset, in the image, of the byte that differs; 0 with
                         every other number */
@@ -164,7 +162,7 @@ typedef struct {
 
 /* The answer to c2_steps_left. */
 typedef struct {
-    uint32_t number; /* the session's number: C2_RUNNING, C2_DONE or 9 to 15; 6 for a record that holds none
+    uint32_t number; /* the session's number: C2_RUNNING, C2_DONE or 9 to 14; 6 for a record that holds none
                         */
     uint64_t steps;  /* the most steps still to come with a reply; 0 exactly for an ended session, and with
                         number 6 */
@@ -197,7 +195,7 @@ c2_opened c2_open(uint8_t *record, size_t record_len, const uint8_t *image, size
  * and after. The record is then the session after those replies. Without replies, nothing is written and the
  * record stays as it was; place may then be steps_len.
  *
- * A reply may end the session: a bad one (9), the first that a WAIT, a poll or a compare fails at (10 to 15),
+ * A reply may end the session: a bad one (9), the first that a WAIT, a poll or a compare fails at (10 to 14),
  * or the last one of all (C2_DONE). That reply counts as taken and brings C2_STEP_OFF; the replies behind it
  * are not taken. An ended session takes none and repeats its number, and the offset of C2_COMPARE_DIFFERS; it
  * is tested for 6, 7 and 8 like any other, and 8 counts the replies offered.

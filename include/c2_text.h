@@ -40,8 +40,6 @@ static inline const char *c2_text(uint32_t number) {
         return "device refused a command: it may lack the page, be locked, or want registers written first";
     case C2_COMPARE_DIFFERS:
         return "byte read back differs from the image, see the offset: open again; if it stays, suspect the flash";
-    case C2_NO_IMAGE_BYTE:
-        return "image byte missing: no session of these calls ends so; the record was made elsewhere";
     case C2_NO_STEP:
         return "no such step of the modelled target: give 0 or 2 to 6";
     case C2_NO_POINT:

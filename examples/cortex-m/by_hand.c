@@ -82,7 +82,7 @@ static int held(const uint8_t *r, size_t len, session *s) {
     s->number = r[7];
     s->offset = r[8] | r[9] << 8;
     if (s->number) {
-        if (!zeros(r + 10, 8) || (s->number != 32 && (s->number < 9 || s->number > 15)))
+        if (!zeros(r + 10, 8) || (s->number != 32 && (s->number < 9 || s->number > 14)))
             return 0;
         return s->offset < (s->number == 14 ? s->size * s->pages : 1);
     }
@@ -133,8 +133,8 @@ static unsigned block_offset(const session *s) {
     return s->page * s->size + s->block * 256;
 }
 
-/* The byte that the act sends; 256 where the image has none. */
-static unsigned sent(const session *s, const uint8_t *image, size_t len) {
+/* The byte that the act sends. */
+static unsigned sent(const session *s, const uint8_t *image) {
     unsigned i;
     switch (s->stage) {
     case LEAD:
@@ -146,7 +146,7 @@ static unsigned sent(const session *s, const uint8_t *image, size_t len) {
     default:
         if (s->stage == WRITE && s->act >= 11) {
             i = block_offset(s) + (s->act - 11) / 2;
-            return i < len ? image[i] : 256;
+            return image[i];
         }
         return s->act == 0   ? s->fpdat
                : s->act == 1 ? (s->stage == WRITE ? 7 : 6)
@@ -155,10 +155,10 @@ static unsigned sent(const session *s, const uint8_t *image, size_t len) {
     }
 }
 
-static void begin(session *s, const uint8_t *image, size_t len) {
+static void begin(session *s, const uint8_t *image) {
     s->task = task_of(s->stage, s->act);
     if (s->task == ADDRESS || s->task == SEND)
-        s->byte = sent(s, image, len);
+        s->byte = sent(s, image);
 }
 
 static void end(session *s, unsigned number, unsigned offset) {
@@ -167,7 +167,7 @@ static void end(session *s, unsigned number, unsigned offset) {
     s->stage = s->page = s->block = s->act = s->strobe = s->count = s->bits = 0;
 }
 
-static void onward(session *s, const uint8_t *image, size_t len) {
+static void onward(session *s, const uint8_t *image) {
     s->strobe = s->count = s->bits = 0;
     if (++s->act == acts_in[s->stage]) {
         s->act = 0;
@@ -199,10 +199,10 @@ static void onward(session *s, const uint8_t *image, size_t len) {
             return;
         }
     }
-    begin(s, image, len);
+    begin(s, image);
 }
 
-static void judged(session *s, const uint8_t *image, size_t len) {
+static void judged(session *s, const uint8_t *image) {
     unsigned i;
     switch (s->task) {
     case INPUT:
@@ -231,10 +231,6 @@ static void judged(session *s, const uint8_t *image, size_t len) {
         break;
     case COMPARE:
         i = block_offset(s) + (s->act - 14) / 2;
-        if (i >= len) {
-            end(s, C2_NO_IMAGE_BYTE, 0);
-            return;
-        }
         if (image[i] != s->bits) {
             end(s, C2_COMPARE_DIFFERS, i);
             return;
@@ -243,7 +239,7 @@ static void judged(session *s, const uint8_t *image, size_t len) {
     default:
         break;
     }
-    onward(s, image, len);
+    onward(s, image);
 }
 
 static void waits(session *s, unsigned one) {
@@ -254,7 +250,7 @@ static void waits(session *s, unsigned one) {
         end(s, C2_WAIT_LIMIT_REACHED, 0);
 }
 
-static void take(session *s, unsigned reply, const uint8_t *image, size_t len) {
+static void take(session *s, unsigned reply, const uint8_t *image) {
     unsigned k = s->strobe;
     if (reply > 1) {
         end(s, C2_BAD_REPLY, 0);
@@ -263,7 +259,7 @@ static void take(session *s, unsigned reply, const uint8_t *image, size_t len) {
     switch (s->task) {
     case RESET:
     case PAUSE:
-        onward(s, image, len);
+        onward(s, image);
         return;
     case ADDRESS:
         if (k < 11) {
@@ -277,10 +273,7 @@ static void take(session *s, unsigned reply, const uint8_t *image, size_t len) {
             return;
         }
         if (k < 13) {
-            if (k == 4 && s->byte == 256)
-                end(s, C2_NO_IMAGE_BYTE, 0);
-            else
-                s->strobe++;
+            s->strobe++;
             return;
         }
         break;
@@ -306,7 +299,7 @@ static void take(session *s, unsigned reply, const uint8_t *image, size_t len) {
         }
         break;
     }
-    judged(s, image, len);
+    judged(s, image);
 }
 
 static unsigned bit(unsigned byte, unsigned i) {
@@ -380,9 +373,9 @@ c2_advanced c2_advance(uint8_t *r, size_t record_len, const uint8_t *image, size
         return a;
     }
     if (s.number == 0) {
-        begin(&s, image, image_len);
+        begin(&s, image);
         while (i < replies_len && s.number == 0) {
-            take(&s, replies[i], image, image_len);
+            take(&s, replies[i], image);
             steps[place + i++] = (uint8_t)step(&s);
         }
         r[7] = (uint8_t)s.number;

@@ -18,7 +18,6 @@ pub enum Outcome {
     OtherDevice,
     BadStatus,
     CompareDiffers { offset: usize },
-    NoImageByte,
 }
 
 impl Outcome {
@@ -32,7 +31,6 @@ impl Outcome {
             Outcome::OtherDevice => (12, 0),
             Outcome::BadStatus => (13, 0),
             Outcome::CompareDiffers { offset } => (14, offset),
-            Outcome::NoImageByte => (15, 0),
         }
     }
 }
@@ -349,10 +347,7 @@ impl Session {
     fn begin_entry(&mut self, image: &[u8]) -> Step {
         match self.script() {
             Entry::Put(byte) => self.begin(Task::Put, Frame::data_write(byte)),
-            Entry::PutImage(offset) => match image.get(offset) {
-                Some(&byte) => self.begin(Task::Put, Frame::data_write(byte)),
-                None => self.end(Outcome::NoImageByte),
-            },
+            Entry::PutImage(offset) => self.begin(Task::Put, Frame::data_write(image[offset])),
             Entry::Status | Entry::Compare(_) => self.poll(Task::AwaitOutput),
             Entry::End => self.next_command(),
         }
@@ -387,11 +382,10 @@ impl Session {
         let Entry::Compare(offset) = self.script() else {
             return if value == COMMAND_OK { self.next_entry(image) } else { self.end(Outcome::BadStatus) };
         };
-        match image.get(offset) {
-            None => self.end(Outcome::NoImageByte),
-            Some(&byte) if byte != value => self.end(Outcome::CompareDiffers { offset }),
-            Some(_) => self.next_entry(image),
+        if image[offset] != value {
+            return self.end(Outcome::CompareDiffers { offset });
         }
+        self.next_entry(image)
     }
 
     /// After an erase all blocks of the page are written, then all are read back.

@@ -15,7 +15,6 @@ pub const POLL_LIMIT_REACHED: u32 = 11;
 pub const OTHER_DEVICE: u32 = 12;
 pub const BAD_STATUS: u32 = 13;
 pub const COMPARE_DIFFERS: u32 = 14;
-pub const NO_IMAGE_BYTE: u32 = 15;
 pub const NO_STEP: u32 = 16;
 pub const NO_POINT: u32 = 17;
 pub const BAD_LINE: u32 = 20;

@@ -4,7 +4,7 @@ use mathlib.Core.List.{List, [], _∷_}
 use Prim.Native.Nat.{ℕ, _*_, _/_, _^_}
 use lib.Dec.{eqb, ltb, leb}
 use lib.ListN.{length, take, drop, replicate}
-use Rattle.numbers.specs.Numbers.{done, bad-reply, compare-differs, no-image-byte}
+use Rattle.numbers.specs.Numbers.{done, bad-reply, compare-differs}
 use Rattle.c2_wire.specs.Frames.{Strobe}
 use Rattle.c2_wire.specs.Place.{strobe-at, samples, count-limit}
 use Rattle.settings.specs.Opening.{opening-refusal}
@@ -63,9 +63,9 @@ unfoldable pub running-in-range : (wait-limit poll-limit size pages : ℕ) → S
 running-in-range w r size pages g i j k q c v =
     ltb i (pages-in g pages) && ltb j (blocks-in g size) && first-in-range w r (drop k (stage-order g)) q c v
 
--- whether a number is an outcome that ends a session: 9 to 15, and 32
+-- whether a number is an outcome that ends a session: 9 to 14, and 32
 unfoldable pub ends-session : (number : ℕ) → Bool
-ends-session n = eqb n done || (leb bad-reply n && leb n no-image-byte)
+ends-session n = eqb n done || (leb bad-reply n && leb n compare-differs)
 
 -- what an outcome's offset is below: the image's length for 14, and 1 for any other, so that it is 0
 unfoldable pub offsets-of : (number bytes : ℕ) → ℕ

@@ -14,7 +14,6 @@ use c2_wire::Place;
 use numbers::BAD_REPLY;
 use numbers::COMPARE_DIFFERS;
 use numbers::DONE;
-use numbers::NO_IMAGE_BYTE;
 use settings::image_bytes;
 use settings::opening_refusal;
 
@@ -49,7 +48,7 @@ fn ends_session(number: u32) -> bool
         return true;
     }
     if BAD_REPLY <= number {
-        return number <= NO_IMAGE_BYTE;
+        return number <= COMPARE_DIFFERS;
     }
     false
 }

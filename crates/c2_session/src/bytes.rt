@@ -1,11 +1,10 @@
 // The byte that an act of the session sends or compares.
 ghost use mathlib.Core.Path.{_≡_};
 ghost use Prim.Native.Nat.{_+_, _*_, _%_, _<_};
-ghost use Rattle.c2_session.specs.Code.Bytes.{block-offset, high-byte, lead-byte, erase-byte, block-byte, image-byte, sent-offset, compared-offset, write-byte, stage-byte, byte-of};
+ghost use Rattle.c2_session.specs.Code.Bytes.{block-offset, high-byte, lead-byte, erase-byte, block-byte, image-byte, sent-offset, compared-offset, write-byte, stage-byte};
 ghost use Rattle.c2_session.specs.Code.Next.{at};
 use crate::At;
 use crate::Session;
-use crate::Wanted;
 use c2_acts::BLOCK_BODY;
 use c2_acts::COMMAND_ADDRESS;
 use c2_acts::COMMAND_BYTE;
@@ -54,22 +53,15 @@ fn lead_byte(act: u16) -> u8
     KEY_3
 }
 
-pub(crate) fn image_byte(image: &[u8], i: usize) -> Wanted
+// A byte of the image. Every call has tested the image's length: a missing byte, which would be 0, is not
+// asked for.
+pub(crate) fn image_byte(image: &[u8], i: usize) -> u8
     ensures { λ r. ⌜ r ≡ image-byte (now (image .entry)) i ⌝ }
 {
     if i < image.len() {
-        return Wanted::Byte(image[i]);
+        return image[i];
     }
-    Wanted::Missing
-}
-
-pub(crate) fn byte_of(wanted: Wanted) -> u8
-    ensures { λ r. ⌜ r ≡ byte-of wanted ⌝ }
-{
-    match wanted {
-        Wanted::Byte(b) => b,
-        Wanted::Missing => 0,
-    }
+    0
 }
 
 impl Session {
@@ -142,25 +134,25 @@ impl Session {
         block_offset(settings, at) + ((at.act - FIRST_COMPARE) as usize) / 2
     }
 
-    fn write_byte(self, at: At, image: &[u8]) -> Wanted
+    fn write_byte(self, at: At, image: &[u8]) -> u8
         ensures { λ r. ⌜ r ≡ write-byte self at (now (image .entry)) ⌝ }
     {
         if at.act < BLOCK_BODY {
-            return Wanted::Byte(self.block_byte(at, BLOCK_WRITE));
+            return self.block_byte(at, BLOCK_WRITE);
         }
         image_byte(image, self.sent_offset(at))
     }
 
     // The byte that an act sends.
-    pub(crate) fn stage_byte(self, stage: Stage, at: At, image: &[u8]) -> Wanted
+    pub(crate) fn stage_byte(self, stage: Stage, at: At, image: &[u8]) -> u8
         ensures { λ r. ⌜ r ≡ stage-byte stage self at (now (image .entry)) ⌝ }
     {
         match stage {
-            Stage::Lead => Wanted::Byte(lead_byte(at.act)),
-            Stage::Erase => Wanted::Byte(self.erase_byte(at)),
+            Stage::Lead => lead_byte(at.act),
+            Stage::Erase => self.erase_byte(at),
             Stage::Write => self.write_byte(at, image),
-            Stage::Read => Wanted::Byte(self.block_byte(at, BLOCK_READ)),
-            Stage::Close => Wanted::Byte(0),
+            Stage::Read => self.block_byte(at, BLOCK_READ),
+            Stage::Close => 0,
         }
     }
 }

@@ -18,11 +18,6 @@ pub struct At {
     pub act: u16,
 }
 
-pub enum Wanted {
-    Byte(u8),
-    Missing,
-}
-
 // The point that a session has reached: an act, the strobe in its frame, the zeros seen in a WAIT or the
 // reads done in a poll, and the bits sampled so far; or the outcome, with the image offset for 14.
 pub enum Point {

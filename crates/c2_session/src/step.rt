@@ -5,7 +5,6 @@ ghost use Rattle.c2_session.specs.Code.Step.{alone, task-frame, task-sen
 use crate::At;
 use crate::Point;
 use crate::Session;
-use crate::bytes::byte_of;
 use c2_acts::Task;
 use c2_acts::task_of;
 use c2_wire::Frame;
@@ -71,7 +70,7 @@ impl Session {
     {
         let stage = at.stage;
         if task_sends(task) {
-            return byte_of(self.stage_byte(stage, at, image));
+            return self.stage_byte(stage, at, image);
         }
         0
     }

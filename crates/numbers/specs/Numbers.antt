@@ -65,10 +65,6 @@ bad-status = 13
 abbrev pub compare-differs : ℕ
 compare-differs = 14
 
--- image offset not below the image's length when a byte is wanted
-abbrev pub no-image-byte : ℕ
-no-image-byte = 15
-
 -- model: step 1 or above 6
 abbrev pub no-step : ℕ
 no-step = 16

@@ -48,9 +48,6 @@ pub const BAD_STATUS: u32 = 13;
 // Byte read differs from the image.
 pub const COMPARE_DIFFERS: u32 = 14;
 
-// Image offset not below the image's length when a byte is wanted.
-pub const NO_IMAGE_BYTE: u32 = 15;
-
 // Model: step 1 or above 6.
 pub const NO_STEP: u32 = 16;
 

@@ -249,7 +249,6 @@ impl Outcome {
             (12, 0) => Some(Outcome::OtherDevice),
             (13, 0) => Some(Outcome::BadStatus),
             (14, _) if offset < image_len => Some(Outcome::CompareDiffers { offset }),
-            (15, 0) => Some(Outcome::NoImageByte),
             _ => None,
         }
     }

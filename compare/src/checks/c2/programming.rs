@@ -182,13 +182,13 @@ fn limits(_: &mut Run) -> Checked {
     Ok(4)
 }
 
-/// Each of the numbers 9 and 12 to 15, brought about by something wrong that is known.
+/// Each of the numbers 9 and 12 to 14, brought about by something wrong that is known.
 fn endings(run: &mut Run) -> Checked {
     let ones = [1; 40];
     let inputs = || "device ID 0x04, all replies 1".to_string();
     expect((ended(numbers::OTHER_DEVICE), 16), take(&SETTINGS, &ones)?, inputs)?;
     let random = &mut run.random;
-    Ok(1 + bad_replies(random)? + missing_page()? + stuck_bytes(random)? + short_image()?)
+    Ok(1 + bad_replies(random)? + missing_page()? + stuck_bytes(random)?)
 }
 
 /// A reply above 1 ends the session where it stands, and counts as taken.
@@ -242,38 +242,6 @@ fn stuck_bytes(random: &mut Random) -> Checked {
         expect(Outcome { number: numbers::COMPARE_DIFFERS, offset }, session.outcome(), inputs)?;
     }
     Ok(WRONG_RUNS)
-}
-
-/// Where the image lent has no such byte, the session ends at the reply before each bit of a byte to
-/// be written, and at the STOP of a byte to be compared.
-fn short_image() -> Checked {
-    let image = [0x55; 512];
-    // the lead, the erase, FPDAT, the command, its status and the block's place, then START, INS, LENGTH
-    let first_bit = 75 + (12 + 6 * 27) + 12 + 5 * 27 + 5;
-    // the lead, the erase, two block writes, FPDAT, the command and its statuses, then a whole get
-    let first_compare = 75 + (12 + 6 * 27) + 2 * (12 + 262 * 27) + 12 + 6 * 27 + 27;
-    let rows = [
-        (0, first_bit),
-        (first_bit + 2, first_bit + 3),
-        (first_bit + 6, first_bit + 7),
-        // the last bit is driven already: the next byte is missed
-        (first_bit + 7, first_bit + 27),
-        (first_compare - 1, first_compare),
-    ];
-    for (lent_until, wanted) in rows {
-        let mut device = Device::fresh(SETTINGS, vec![0; 16_384], Vec::new());
-        let mut session = open(&SETTINGS, 0, &image)?;
-        let (mut step, mut taken) = (FIRST_STEP, 0);
-        while session.running() {
-            let lent = if taken < lent_until { &image[..] } else { &[] };
-            let reply = device.step(step);
-            step = session.reply(reply, lent);
-            taken += 1;
-        }
-        let inputs = || format!("image of no bytes after {lent_until} replies");
-        expect((ended(numbers::NO_IMAGE_BYTE), wanted), (session.outcome(), taken), inputs)?;
-    }
-    Ok(rows.len() as u64)
 }
 
 /// Runs a job's session and looks at the figure after each reply: it falls, is 0 exactly at the end,

@@ -52,7 +52,7 @@ fn random_point(random: &mut Random, settings: &Settings, pages: usize) -> Point
 }
 
 fn random_outcome(random: &mut Random, image_len: usize) -> Outcome {
-    let number = random.pick(&[9, 10, 11, 12, 13, 14, 14, 14, 15, numbers::DONE]);
+    let number = random.pick(&[9, 10, 11, 12, 13, 14, 14, 14, 13, numbers::DONE]);
     let offset = if number == numbers::COMPARE_DIFFERS { below(random, image_len) } else { 0 };
     Outcome { number, offset }
 }

@@ -107,7 +107,7 @@ fn zero(bytes: &[u8]) -> bool {
 /// point is 0.
 fn read_outcome(record: &Record, image_len: usize) -> Option<Outcome> {
     let (number, offset) = (u32::from(record[NUMBER]), two(record, OFFSET));
-    let ends = (numbers::BAD_REPLY..=numbers::NO_IMAGE_BYTE).contains(&number) || number == numbers::DONE;
+    let ends = (numbers::BAD_REPLY..=numbers::COMPARE_DIFFERS).contains(&number) || number == numbers::DONE;
     let offset_limit = if number == numbers::COMPARE_DIFFERS { image_len } else { 1 };
     let in_range = ends && offset < offset_limit && zero(&record[STAGE..SPARE]);
     in_range.then_some(Outcome { number, offset })

@@ -427,7 +427,7 @@ impl Session {
                 Some(End::Passed(byte)) => self.judge(byte, image)?,
             },
         }
-        self.step(image)
+        Ok(self.step(image))
     }
 
     fn next_operation(&mut self) -> Result<(), Outcome> {
@@ -447,7 +447,7 @@ impl Session {
         match self.operation() {
             Operation::PollInBusy => return self.polled(sampled & IN_BUSY == 0),
             Operation::PollOutReady => return self.polled(sampled & OUT_READY != 0),
-            Operation::Expect(byte, number) if sampled != value(byte, image)? => {
+            Operation::Expect(byte, number) if sampled != value(byte, image) => {
                 let offset = match byte {
                     Byte::Image(offset) => offset,
                     Byte::Fixed(_) => 0,
@@ -471,25 +471,25 @@ impl Session {
         Ok(())
     }
 
-    fn step(&self, image: &[u8]) -> Result<u8, Outcome> {
+    fn step(&self, image: &[u8]) -> u8 {
         let operation = self.operation();
         let Some(frame) = &self.frame else {
             let pause = matches!(operation, Operation::Pause);
-            return Ok(if pause { PAUSE } else { RESET });
+            return if pause { PAUSE } else { RESET };
         };
         let byte = match operation {
             Operation::AddressWrite(address) => address,
-            Operation::DataWrite(byte) if frame.wants_byte() => value(byte, image)?,
+            Operation::DataWrite(byte) if frame.wants_byte() => value(byte, image),
             _ => 0,
         };
-        Ok(frame.step(byte))
+        frame.step(byte)
     }
 }
 
-/// The byte, or 15 where the image lent has none at that offset.
-fn value(byte: Byte, image: &[u8]) -> Result<u8, Outcome> {
+/// The byte; every image lent is as long as the session's.
+fn value(byte: Byte, image: &[u8]) -> u8 {
     match byte {
-        Byte::Fixed(byte) => Ok(byte),
-        Byte::Image(offset) => image.get(offset).copied().ok_or(Outcome::of(numbers::NO_IMAGE_BYTE)),
+        Byte::Fixed(byte) => byte,
+        Byte::Image(offset) => image[offset],
     }
 }

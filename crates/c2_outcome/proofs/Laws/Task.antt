@@ -21,11 +21,9 @@ use Rattle.c2_session.specs.declared.At.{At}
 use Rattle.c2_session.specs.declared.Point.{Point}
 use Rattle.c2_session.specs.declared.Point.the-variants.{Running, Ended}
 use Rattle.c2_session.specs.declared.Session.{Session}
-use Rattle.c2_session.specs.declared.Wanted.{Wanted}
-use Rattle.c2_session.specs.declared.Wanted.the-variants.{Byte, Missing}
-use Rattle.c2_session.specs.Code.Bytes.{image-byte, sent-offset, compared-offset}
-use Rattle.c2_session.specs.Code.Next.{at, first-strobe, next-write, next-page, next-read, next-stage, next-act}
-use Rattle.c2_session.specs.Code.Judge.{read-again, differs, compared, wanted-compared, frame-judged, drives-image, wants, stays, frame-answered}
+use Rattle.c2_session.specs.Code.Bytes.{image-byte, compared-offset}
+use Rattle.c2_session.specs.Code.Next.{at, next-write, next-page, next-read, next-stage, next-act}
+use Rattle.c2_session.specs.Code.Judge.{read-again, differs, compared, frame-judged, frame-answered}
 use Rattle.c2_session.specs.Code.Step.{alone, task-frame, point-step, session-step, point-step-by, step-by}
 use Rattle.c2_session.specs.Code.Advance.{point-replied, point-advanced, advanced, point-advanced-by, advanced-by}
 use Rattle.c2_outcome.specs.Code.Task.{task-at, task-next}
@@ -91,25 +89,10 @@ module _ (w r : ℕ) (s : Session) (image : List ℕ) (a : At) where
   judged-after Output n x = either (eqb (x % 2) 1) _ _ onward-after (again-after n)
   judged-after Ident n x = either (eqb x (s .settings .id)) _ _ onward-after tt
   judged-after Status n x = either (eqb x 13) _ _ onward-after tt
-  judged-after Compare n x = go (image-byte image (compared-offset s a))
-    where
-      go : (b : Wanted) → After a (wanted-compared b s a x)
-      go (Byte b) = either (eqb x b) _ _ onward-after tt
-      go Missing = tt
-
-  stays-after : (g : Stage) (p : Place) → After a (stays g s a p image)
-  stays-after Lead p = inr refl
-  stays-after Erase p = inr refl
-  stays-after Write p = either (drives-image a p) _ _ (go (image-byte image (sent-offset s a))) (inr refl)
-    where
-      go : (b : Wanted) → After a (wants b a p)
-      go (Byte b) = inr refl
-      go Missing = tt
-  stays-after Read p = inr refl
-  stays-after Close p = inr refl
+  judged-after Compare n x = either (eqb x (image-byte image (compared-offset s a))) _ _ onward-after tt
 
   settled-after : (m : Moved) (k : Task) (n : ℕ) → After a (frame-answered r m k s a n image)
-  settled-after (Within p) k n = stays-after (a .stage) p
+  settled-after (Within p) k n = inr refl
   settled-after (Stopped x) k n = judged-after k n x
   settled-after WaitLimit k n = tt
 

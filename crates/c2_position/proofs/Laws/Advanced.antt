@@ -2,15 +2,15 @@
 use mathlib.Core.Path.{_≡_, refl, sym, ap, _∙_}
 use mathlib.Core.Bool.{Bool, true, false, not, cond}
 use mathlib.Core.List.{List, [], _∷_}
-use Prim.Native.Nat.{ℕ, zero, suc, _+_, _*_, _-_, _/_, _%_, _<_, _≤_}
+use Prim.Native.Nat.{ℕ, zero, suc, _+_, _*_, _/_, _%_, _<_, _≤_}
 use native.Mathlib.Nat.{mod-eq-of-lt, mul-div-cancel-left, mul-comm, mul-zero}
 use native.Mathlib.Omega.{arith}
 use native.Mathlib.Decide.{decLt}
-use borrow.Author.Tests.{lt-ltb, le-ltb, ltb-true, ltb-false, eqb-true}
+use borrow.Author.Tests.{lt-ltb, le-ltb, eqb-true}
 use lib.Dec.{eqb, ltb}
 use lib.ListN.{length}
 use Rattle.laws.proofs.Below.{upto, same-below}
-use Rattle.laws.proofs.Tests.{both, by-test, not-first, not-second}
+use Rattle.laws.proofs.Tests.{both}
 use Rattle.c2_wire.specs.Bits.{odd}
 use Rattle.c2_wire.specs.Step.{Step, reset, pause}
 use Rattle.c2_wire.specs.Field.{Field, RESET, PAUSE}
@@ -33,11 +33,10 @@ use Rattle.c2_acts.specs.declared.Task.the-variants.{Reset, Pause, Address, Sen
 use Rattle.c2_session.specs.declared.At.{At}
 use Rattle.c2_session.specs.declared.Point.the-variants.{Running, Ended}
 use Rattle.c2_session.specs.declared.Session.{Session}
-use Rattle.c2_session.specs.declared.Wanted.the-variants.{Byte}
 use Rattle.c2_acts.specs.Code.Acts.{task-of, acts-in}
-use Rattle.c2_session.specs.Code.Bytes.{image-byte, sent-offset, compared-offset}
+use Rattle.c2_session.specs.Code.Bytes.{image-byte, compared-offset}
 use Rattle.c2_session.specs.Code.Next.{at, strobe-point, next-act}
-use Rattle.c2_session.specs.Code.Judge.{read-again, differs, compared, frame-judged, sends-image, drives-image, wants, stays, frame-answered}
+use Rattle.c2_session.specs.Code.Judge.{read-again, differs, compared, frame-judged, frame-answered}
 use Rattle.c2_session.specs.Code.Advance.{task-taken}
 use Rattle.c2_range.specs.Range.{pages-in, blocks-in, point-in-range, in-range}
 use Rattle.c2_position.specs.Position.{page-list, pages-from, writes-from, reads-from, at-act, point-position, position}
@@ -87,51 +86,19 @@ compares-late Read k h q = go (decLt k 14)
     go (no y) = omega arith
 compares-late Close k h q = none-below (task-of Close) 1 refl k h q
 
--- the byte that a compare wants is there
-pub wanted-there : (s : Session) (image : List ℕ) (h : Fits s image) (g : Stage) (i j k : ℕ) → i < pages-in g (s .pages) → j < blocks-in g (s .settings .size)
+-- a compare is one of a block read, so that its byte is the order's, at an offset inside the image
+pub compares-there : (s : Session) (image : List ℕ) (h : Fits s image) (g : Stage) (i j k : ℕ) → i < pages-in g (s .pages) → j < blocks-in g (s .settings .size)
     → k < acts-in g → Compares g k
-    → (image-byte image (compared-offset s (at g i j k)) ≡ Byte (act-byte s image h g (at g i j k))) × (compared-offset s (at g i j k) < length image)
-unfolding image-byte compared-offset
-wanted-there s image h Read i j k gi gj gk c =
-    let inside : i * s .settings .size + j * 256 + (k - 14) / 2 < length image = omega (arith, page-inside s image h i gi, block-inside s image h j gj) in (
-      rw (lt-ltb (i * s .settings .size + j * 256 + (k - 14) / 2) (length image) inside, le-ltb k 11 (omega arith)),
-      inside,
-    )
-wanted-there s image h Lead i j k gi gj gk c = absurd c
-wanted-there s image h Erase i j k gi gj gk c = absurd c
-wanted-there s image h Write i j k gi gj gk c = absurd c
-wanted-there s image h Close i j k gi gj gk c = absurd c
-
--- the byte that a strobe drives is there
-sends-inside : (k : ℕ) → sends-image k ≡ true → (11 ≤ k) × (k < 523)
-unfolding sends-image
-sends-inside k e =
-    let a = not-first (ltb k 11) (cond (ltb k 523) (eqb (k % 2) 1) false) e in
-    let b = not-second (ltb k 523) (eqb (k % 2) 1) (a .1) in
-    (ltb-false k 11 (a .0), ltb-true k 523 (b .0))
-
-writes-stay : (s : Session) (image : List ℕ) → Fits s image → (i j k : ℕ) → i < s .pages → j < s .settings .size / 256 → (p : Place)
-    → stays Write s (at Write i j k) p image ≡ strobe-point (at Write i j k) p
-unfolding drives-image image-byte sent-offset
-writes-stay s image h i j k gi gj p = by-test (drives-image (at Write i j k) p) driving (λ e. rw e)
-  where
-    driving : drives-image (at Write i j k) p ≡ true → stays Write s (at Write i j k) p image ≡ strobe-point (at Write i j k) p
-    driving e =
-        let a = not-first (ltb (p .strobe) 5) _ e in
-        let b = not-second (ltb (p .strobe) 13) (sends-image k) (a .1) in
-        rw e (there (sends-inside k (b .1)))
-      where
-        there : (11 ≤ k) × (k < 523) → wants (image-byte image (sent-offset s (at Write i j k))) (at Write i j k) p ≡ strobe-point (at Write i j k) p
-        there c =
-            rw (lt-ltb (i * s .settings .size + j * 256 + (k - 11) / 2) (length image) (omega (arith, page-inside s image h i gi, block-inside s image h j gj)))
-
-pub stays-same : (s : Session) (image : List ℕ) → Fits s image → (g : Stage) (i j k : ℕ) → i < pages-in g (s .pages) → j < blocks-in g (s .settings .size) → (p : Place)
-    → stays g s (at g i j k) p image ≡ strobe-point (at g i j k) p
-stays-same s image h Lead i j k gi gj p = refl
-stays-same s image h Erase i j k gi gj p = refl
-stays-same s image h Write i j k gi gj p = writes-stay s image h i j k gi gj p
-stays-same s image h Read i j k gi gj p = refl
-stays-same s image h Close i j k gi gj p = refl
+    → (image-byte image (compared-offset s (at g i j k)) ≡ act-byte s image h g (at g i j k)) × (compared-offset s (at g i j k) < length image)
+unfolding compared-offset
+compares-there s image h Read i j k gi gj gk c = (
+  rw (le-ltb k 11 (omega arith)),
+  omega (arith, page-inside s image h i gi, block-inside s image h j gj),
+)
+compares-there s image h Lead i j k gi gj gk c = absurd c
+compares-there s image h Erase i j k gi gj gk c = absurd c
+compares-there s image h Write i j k gi gj gk c = absurd c
+compares-there s image h Close i j k gi gj gk c = absurd c
 
 -- a step that stands in no frame is over at its reply
 step-over : (w : ℕ) (f : Field) (x : Step) (p : Place) (b : Bool) → followed w (plain f x ∷ []) p b ≡ Stopped (p .bits)
@@ -184,19 +151,15 @@ module _ (s : Session) (image : List ℕ) (h : Fits s image) (w r : ℕ)
   judged-here Ident q n x = cond-position (eqb x (s .settings .id)) _ _ _ _ onward-here refl
   judged-here Status q n x = cond-position (eqb x 13) _ _ _ _ onward-here refl
   judged-here Compare q n x =
-      let c = wanted-there s image h g i j k gi gj gk (compares-late g k gk q) in
+      let c = compares-there s image h g i j k gi gj gk (compares-late g k gk q) in
       let m : compared-offset s (at g i j k) % 4294967296 ≡ compared-offset s (at g i j k) = mod-eq-of-lt (omega (arith, c .1, image-small s image h)) in
       rw (c .0) (cond-position (eqb x (act-byte s image h g a)) _ _ _ _ onward-here (rw m))
-
-  -- another strobe of the act's frame: the byte that it may drive is there
-  stays-on : (p : Place) → point-position s image (stays g s (at g i j k) p image) ≡ Point.running here after p
-  stays-on p = ap (λ (x : Rattle.c2_session.specs.declared.Point.Point). point-position s image x) (stays-same s image h g i j k gi gj p) ∙ stays-here p
 
   settled-here : (t : Task) → task-of g k ≡ t → (n : ℕ) (m : Moved)
       → point-position s image (frame-answered r m t s (at g i j k) n image) ≡ Point.settled (limits w r) (task-act t (act-byte s image h g a) (s .settings .id) (compared-offset s a)) after n m
   unfolding Point.settled point-position
   settled-here t q n (Within p) =
-      stays-on p ∙ ap (λ (x : Task). Point.running (task-act x (act-byte s image h g a) (s .settings .id) (compared-offset s a)) after p) q
+      stays-here p ∙ ap (λ (x : Task). Point.running (task-act x (act-byte s image h g a) (s .settings .id) (compared-offset s a)) after p) q
   settled-here t q n (Stopped x) = judged-here t q n x
   settled-here t q n WaitLimit = refl
 

@@ -19,7 +19,7 @@ use Rattle.c2_acts.specs.declared.Stage.the-variants.{Lead, Erase, Write, Read,
 use Rattle.c2_session.specs.declared.At.{At}
 use Rattle.c2_session.specs.declared.Session.{Session}
 use Rattle.c2_acts.specs.Code.Acts.{task-of, acts-in}
-use Rattle.c2_session.specs.Code.Bytes.{erase-byte, block-byte, image-byte, sent-offset, compared-offset, write-byte, stage-byte, byte-of}
+use Rattle.c2_session.specs.Code.Bytes.{erase-byte, block-byte, image-byte, sent-offset, compared-offset, write-byte, stage-byte}
 use Rattle.c2_session.specs.Code.Next.{at}
 use Rattle.c2_range.specs.Range.{pages-in, blocks-in}
 use Rattle.c2_position.specs.Position.{page-list, page-at, block-at, stage-acts}
@@ -105,19 +105,14 @@ module _ (s : Session) (image : List ℕ) (h : Fits s image) where
 
   -- the byte that the act at a point sends or compares
   abbrev pub act-byte : Stage → At → ℕ
-  act-byte Lead a = byte-of (stage-byte Lead s a image)
-  act-byte Erase a = byte-of (stage-byte Erase s a image)
-  act-byte Write a = byte-of (stage-byte Write s a image)
-  act-byte Read a = cond (ltb (a .act) 11) (byte-of (stage-byte Read s a image)) (byte-of (image-byte image (compared-offset s a)))
+  act-byte Lead a = stage-byte Lead s a image
+  act-byte Erase a = stage-byte Erase s a image
+  act-byte Write a = stage-byte Write s a image
+  act-byte Read a = cond (ltb (a .act) 11) (stage-byte Read s a image) (image-byte image (compared-offset s a))
   act-byte Close a = 0
 
   abbrev pub act-here : Stage → At → Act
   act-here g a = task-act (task-of g (a .act)) (act-byte g a) (s .settings .id) (compared-offset s a)
-
-  -- a byte of the image at an offset below its length is there
-  pub image-there : (n : ℕ) → n < length image → byte-of (image-byte image n) ≡ getD image n 0
-  unfolding image-byte
-  image-there n g = rw (lt-ltb n (length image) g)
 
   cond-same : {A : Type 0} (t : Bool) (x : A) → cond t x x ≡ x
   cond-same true x = refl
@@ -169,8 +164,8 @@ module _ (s : Session) (image : List ℕ) (h : Fits s image) where
       go (no y) (yes z) =
           let n : ℕ = (k - 11) / 2 in
           let e : getD (take 256 (drop (j * 256) (take size (drop (i * size) image)))) ((k - 11) / 2) 0
-          ≡ byte-of (image-byte image (i * size + j * 256 + (k - 11) / 2))
-          = block-byte-at i j n gi gj (omega arith) ∙ sym (image-there (i * size + j * 256 + n) (omega (arith, page-inside i gi, block-inside j gj))) in
+          ≡ image-byte image (i * size + j * 256 + (k - 11) / 2)
+          = block-byte-at i j n gi gj (omega arith) in
           rw (le-ltb k 11 (omega arith)) (ap (λ (x : ℕ). task-act (task-of Write k) x (s .settings .id) o) e)
       go (no y) (no z) = last (omega arith) (decLt k 524)
 
@@ -200,8 +195,8 @@ module _ (s : Session) (image : List ℕ) (h : Fits s image) where
       go (no y) (no z) =
           let n : ℕ = (k - 14) / 2 in
           let e : getD (take 256 (drop (j * 256) (take size (drop (i * size) image)))) ((k - 14) / 2) 0
-          ≡ byte-of (image-byte image (i * size + j * 256 + (k - 14) / 2))
-          = block-byte-at i j n gi gj (omega arith) ∙ sym (image-there (i * size + j * 256 + n) (omega (arith, page-inside i gi, block-inside j gj))) in
+          ≡ image-byte image (i * size + j * 256 + (k - 14) / 2)
+          = block-byte-at i j n gi gj (omega arith) in
           rw (le-ltb k 11 (omega arith)) (rw (le-ltb k 11 (omega arith)) at (ap (λ (x : ℕ). task-act (task-of Read k) x (s .settings .id) o) e))
 
   -- at every point of a stage the session's numbers stand for the act of the order

@@ -37,7 +37,7 @@ use Rattle.c2_range.specs.Code.Bounds.{strobes-in, reads-in}
 use Rattle.c2_range.proofs.Laws.Bounds.{bounded, bounded-in-range}
 use Rattle.c2_range.specs.Range.{pages-in, blocks-in, place-in-range, ends-session, offsets-of, ended-in-range, point-in-range, in-range}
 use Rattle.c2_position.proofs.Laws.Position.{Fits, image-small}
-use Rattle.c2_position.proofs.Laws.Advanced.{fits-of, point-of, compares-late, wanted-there, stays-same}
+use Rattle.c2_position.proofs.Laws.Advanced.{fits-of, point-of, compares-late, compares-there}
 
 -- the strobes of an act are a frame
 pub whole-in : (r : ℕ) (t : Task) → Whole (reads-in r t) (strobes-in t)
@@ -167,14 +167,14 @@ module _ (w r : ℕ) (hw : 0 < w) (hr : 0 < r) (s : Session) (image : List ℕ) 
     judged-in Ident q n x = cond-in (eqb x (s .settings .id)) (next-act s (at g i j k)) (Ended other-device 0) (onward-in g i j k gi gj gk) refl
     judged-in Status q n x = cond-in (eqb x 13) (next-act s (at g i j k)) (Ended bad-status 0) (onward-in g i j k gi gj gk) refl
     judged-in Compare q n x =
-        let c = wanted-there s image h g i j k gi gj gk (compares-late g k gk q) in
+        let c = compares-there s image h g i j k gi gj gk (compares-late g k gk q) in
         let m : compared-offset s (at g i j k) % 4294967296 ≡ compared-offset s (at g i j k) = mod-eq-of-lt (omega (arith, c .1, image-small s image h)) in
         rw (c .0) (cond-in (eqb x _) (next-act s (at g i j k)) (Ended compare-differs (compared-offset s (at g i j k) % 4294967296)) (onward-in g i j k gi gj gk)
         (rw m (lt-ltb (compared-offset s (at g i j k)) (s .settings .size * s .pages) (omega (arith, c .1, h .whole, mul-comm (s .settings .size) (s .pages))))))
 
     settled-in : (t : Task) → task-of g k ≡ t → (n : ℕ) (m : Moved) → exists-after w (reads-in r t) (strobes-in t) m → In (frame-answered r m t s (at g i j k) n image)
     unfolding ended-in-range ends-session offsets-of
-    settled-in t q n (Within p) e = rw (stays-same s image h g i j k gi gj p) (running-in g i j k p gi gj gk (rw q e))
+    settled-in t q n (Within p) e = running-in g i j k p gi gj gk (rw q e)
     settled-in t q n (Stopped x) e = judged-in t q n x
     settled-in t q n WaitLimit e = refl
 

@@ -27,7 +27,7 @@ use Rattle.c2_acts.specs.declared.Task.the-variants.{Reset, Pause, Address, Sen
 use Rattle.c2_session.specs.declared.Point.the-variants.{Running, Ended}
 use Rattle.c2_session.specs.declared.Session.{Session}
 use Rattle.c2_acts.specs.Code.Acts.{task-of, read-task}
-use Rattle.c2_session.specs.Code.Bytes.{stage-byte, byte-of, compared-offset}
+use Rattle.c2_session.specs.Code.Bytes.{stage-byte, compared-offset}
 use Rattle.c2_session.specs.Code.Next.{at}
 use Rattle.c2_session.specs.Code.Step.{task-step, point-step, session-step}
 use Rattle.c2_range.specs.Range.{in-range, point-in-range}
@@ -53,13 +53,13 @@ late-unsent k h =
     (by-test (eqb (k % 2) 1) (λ e. rw e) (λ e. by-test (eqb k 12) (λ f. rw (e, f)) (λ f. rw (e, f))))
 
 sent-byte : (s : Session) (image : List ℕ) (h : Fits s image) (g : Stage) (i j k : ℕ) → is-sent (task-of g k) ≡ true
-    → act-byte s image h g (at g i j k) ≡ byte-of (stage-byte g s (at g i j k) image)
+    → act-byte s image h g (at g i j k) ≡ stage-byte g s (at g i j k) image
 sent-byte s image h Lead i j k e = refl
 sent-byte s image h Erase i j k e = refl
 sent-byte s image h Write i j k e = refl
 sent-byte s image h Read i j k e = go (decLt k 11)
   where
-    go : Dec (k < 11) → act-byte s image h Read (at Read i j k) ≡ byte-of (stage-byte Read s (at Read i j k) image)
+    go : Dec (k < 11) → act-byte s image h Read (at Read i j k) ≡ stage-byte Read s (at Read i j k) image
     go (yes y) = rw (lt-ltb k 11 y)
     go (no y) = absurd (let z : false ≡ true = sym (late-unsent k (omega arith)) ∙ e in let n : _≡_ {A = ℕ} 0 1 = cc in omega arith)
 sent-byte s image h Close i j k e = refl

@@ -10,13 +10,13 @@ use borrow.Author.Tests.{ltb-true, leb-true, eqb-true, lt-ltb, le-leb, eq-eqb, n
 use lib.Dec.{eqb, ltb, leb}
 use lib.ListN.{length, take, drop}
 use Rattle.laws.proofs.Tests.{passes, both, by-test}
-use Rattle.numbers.specs.Numbers.{done, bad-reply, no-image-byte}
 use Rattle.c2_wire.specs.Place.{strobe-at, samples, count-limit}
 use Rattle.settings.specs.Accepted.{is-fpdat, is-page-size, is-page-count, settings-refusal}
 use Rattle.settings.specs.declared.Settings.{Settings}
 use Rattle.settings.specs.Opening.{is-image, are-pages, opening-refusal}
 use Rattle.c2_order.specs.Acts.{Act}
 use Rattle.c2_order.specs.Conversation.{limits}
+use Rattle.c2_order.specs.Claims.{Ending}
 use Rattle.c2_order.specs.Point.{strobes-of, reads-of}
 use Rattle.c2_acts.specs.declared.Stage.{Stage}
 use Rattle.c2_session.specs.declared.Point.{Point}
@@ -137,17 +137,17 @@ module _ (w l size pages : ℕ) where
       )
 
 -- what the tests of an outcome say
-ends : (n : ℕ) → ends-session n ≡ true → (n ≡ done) ⊎ ((bad-reply ≤ n) × (n ≤ no-image-byte))
+ends : (n : ℕ) → ends-session n ≡ true → Ending n
 unfolding ends-session
 ends n e =
     ⊎-elim (λ p. inl (eqb-true n 32 p))
-    (λ p. let b = both (leb 9 n) (leb n 15) p in inr (leb-true 9 n (b .0), leb-true n 15 (b .1)))
-    (either (eqb n 32) (leb 9 n && leb n 15) e)
+    (λ p. let b = both (leb 9 n) (leb n 14) p in inr (leb-true 9 n (b .0), leb-true n 14 (b .1)))
+    (either (eqb n 32) (leb 9 n && leb n 14) e)
 
-is-end : (n : ℕ) → (n ≡ done) ⊎ ((bad-reply ≤ n) × (n ≤ no-image-byte)) → ends-session n ≡ true
+is-end : (n : ℕ) → Ending n → ends-session n ≡ true
 unfolding ends-session
-is-end n (inl p) = first-of (eqb n 32) (leb 9 n && leb n 15) (eq-eqb n 32 p)
-is-end n (inr p) = second-of (eqb n 32) (leb 9 n && leb n 15) (rw (le-leb 9 n (p .0), le-leb n 15 (p .1)))
+is-end n (inl p) = first-of (eqb n 32) (leb 9 n && leb n 14) (eq-eqb n 32 p)
+is-end n (inr p) = second-of (eqb n 32) (leb 9 n && leb n 14) (rw (le-leb 9 n (p .0), le-leb n 14 (p .1)))
 
 outcome-stands : (bytes n o : ℕ) → ended-in-range bytes n o ≡ true → Outcome-stands bytes n o
 unfolding ended-in-range offsets-of

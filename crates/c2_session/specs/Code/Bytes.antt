@@ -1,18 +1,15 @@
 -- For the code: the byte that an act sends or compares, by arithmetic. `stands` of proofs/Laws/Position in
--- c2_position is the law that for an image of the session's length these are the bytes of the order;
--- `image-byte` says besides which bytes a shorter image lacks (number 15).
+-- c2_position is the law that for an image of the session's length these are the bytes of the order.
 use mathlib.Core.Bool.{cond}
 use mathlib.Core.List.{List}
 use Prim.Native.Nat.{ℕ, _+_, _-_, _*_, _/_, _%_}
 use lib.Dec.{eqb, ltb}
-use lib.ListN.{length, getD}
+use lib.ListN.{getD}
 use Rattle.settings.specs.declared.Settings.{Settings}
 use Rattle.c2_acts.specs.declared.Stage.{Stage}
 use Rattle.c2_acts.specs.declared.Stage.the-variants.{Lead, Erase, Write, Read, Close}
 use Rattle.c2_session.specs.declared.At.{At}
 use Rattle.c2_session.specs.declared.Session.{Session}
-use Rattle.c2_session.specs.declared.Wanted.{Wanted}
-use Rattle.c2_session.specs.declared.Wanted.the-variants.{Byte, Missing}
 
 -- the image offset of the block at a point
 abbrev pub block-offset : Settings → At → ℕ
@@ -38,9 +35,9 @@ block-byte s at command =
     cond (eqb (at .act) 0) (s .settings .fpdat)
     (cond (eqb (at .act) 1) command (cond (eqb (at .act) 5) (high-byte s at) 0))
 
--- a byte of the image, or that the image has none there
-unfoldable pub image-byte : List ℕ → ℕ → Wanted
-image-byte image i = cond (ltb i (length image)) (Byte (getD image i 0)) Missing
+-- a byte of the image; one that a shorter image lacks reads as 0
+abbrev pub image-byte : List ℕ → ℕ → ℕ
+image-byte image i = getD image i 0
 
 -- the image offset of the byte that an act sends (`sent-offset`, in a block write) or compares
 -- (`compared-offset`, in a block read)
@@ -51,18 +48,13 @@ unfoldable pub compared-offset : Session → At → ℕ
 compared-offset s at = block-offset (s .settings) at + (at .act - 14) / 2
 
 -- the byte that an act of a block write sends
-unfoldable pub write-byte : Session → At → List ℕ → Wanted
-write-byte s at image = cond (ltb (at .act) 11) (Byte (block-byte s at 7)) (image-byte image (sent-offset s at))
+unfoldable pub write-byte : Session → At → List ℕ → ℕ
+write-byte s at image = cond (ltb (at .act) 11) (block-byte s at 7) (image-byte image (sent-offset s at))
 
 -- the byte that an act of any stage sends
-abbrev pub stage-byte : Stage → Session → At → List ℕ → Wanted
-stage-byte Lead s at image = Byte (lead-byte (at .act))
-stage-byte Erase s at image = Byte (erase-byte s at)
+abbrev pub stage-byte : Stage → Session → At → List ℕ → ℕ
+stage-byte Lead s at image = lead-byte (at .act)
+stage-byte Erase s at image = erase-byte s at
 stage-byte Write s at image = write-byte s at image
-stage-byte Read s at image = Byte (block-byte s at 6)
-stage-byte Close s at image = Byte 0
-
--- the byte that is wanted, 0 where the image has none
-abbrev pub byte-of : Wanted → ℕ
-byte-of (Byte b) = b
-byte-of Missing = 0
+stage-byte Read s at image = block-byte s at 6
+stage-byte Close s at image = 0

@@ -1,26 +1,21 @@
 -- For the code: what a reply makes of an act, where its frame goes on and where it is over. `advances` of
 -- proofs/Laws/Advanced in c2_position is the law that for an image of the session's length this is the next
--- point of the order. For a shorter image these definitions say besides where 15 ends the session.
-use mathlib.Core.Bool.{Bool, false, cond}
+-- point of the order.
+use mathlib.Core.Bool.{cond}
 use mathlib.Core.List.{List}
 use Prim.Native.Nat.{ℕ, _+_, _/_, _%_}
 use lib.Dec.{eqb, ltb}
-use Rattle.numbers.specs.Numbers.{wait-limit-reached, poll-limit-reached, other-device, bad-status, compare-differs, no-image-byte}
+use Rattle.numbers.specs.Numbers.{wait-limit-reached, poll-limit-reached, other-device, bad-status, compare-differs}
 use Rattle.c2_wire.specs.Place.{place}
-use Rattle.c2_wire.specs.declared.Place.{Place}
 use Rattle.c2_wire.specs.declared.Moved.{Moved}
 use Rattle.c2_wire.specs.declared.Moved.the-variants.{Within, Stopped, WaitLimit}
-use Rattle.c2_acts.specs.declared.Stage.{Stage}
-use Rattle.c2_acts.specs.declared.Stage.the-variants.{Lead, Erase, Write, Read, Close}
 use Rattle.c2_acts.specs.declared.Task.{Task}
 use Rattle.c2_acts.specs.declared.Task.the-variants.{Reset, Pause, Address, Send, Input, Output, Ident, Status, Compare}
 use Rattle.c2_session.specs.declared.At.{At}
 use Rattle.c2_session.specs.declared.Point.{Point}
 use Rattle.c2_session.specs.declared.Point.the-variants.{Ended}
 use Rattle.c2_session.specs.declared.Session.{Session}
-use Rattle.c2_session.specs.declared.Wanted.{Wanted}
-use Rattle.c2_session.specs.declared.Wanted.the-variants.{Byte, Missing}
-use Rattle.c2_session.specs.Code.Bytes.{image-byte, sent-offset, compared-offset}
+use Rattle.c2_session.specs.Code.Bytes.{image-byte, compared-offset}
 use Rattle.c2_session.specs.Code.Next.{strobe-point, end-point, next-act}
 
 -- the point after an unsatisfied read of a poll: the next read, or the limit
@@ -35,11 +30,6 @@ differs s a = Ended compare-differs (compared-offset s a % 4294967296)
 unfoldable pub compared : (wanted : ℕ) → Session → At → (byte : ℕ) → Point
 compared b s a x = cond (eqb x b) (next-act s a) (differs s a)
 
--- the point after a byte read back, beside the image's byte, if the image has one
-abbrev pub wanted-compared : Wanted → Session → At → ℕ → Point
-wanted-compared (Byte b) s a x = compared b s a x
-wanted-compared Missing s a x = end-point no-image-byte
-
 -- the point after the reply to a frame's STOP, where the frame has given this byte
 abbrev pub frame-judged : (poll-limit : ℕ) → Task → Session → At → (reads byte : ℕ) → List ℕ → Point
 frame-judged limit Reset s a n x image = next-act s a
@@ -50,32 +40,10 @@ frame-judged limit Input s a n x image = cond (eqb (x / 2 % 2) 0) (next-act s a)
 frame-judged limit Output s a n x image = cond (eqb (x % 2) 1) (next-act s a) (read-again limit a n)
 frame-judged limit Ident s a n x image = cond (eqb x (s .settings .id)) (next-act s a) (end-point other-device)
 frame-judged limit Status s a n x image = cond (eqb x 0x0d) (next-act s a) (end-point bad-status)
-frame-judged limit Compare s a n x image = wanted-compared (image-byte image (compared-offset s a)) s a x
-
--- Number 15: whether an act of a block write sends a byte of the image (`sends-image`), and whether a strobe
--- of it drives a bit of that byte (`drives-image`).
-unfoldable pub sends-image : (act : ℕ) → Bool
-sends-image act = cond (ltb act 11) false (cond (ltb act 523) (eqb (act % 2) 1) false)
-
-unfoldable pub drives-image : At → Place → Bool
-drives-image a p = cond (ltb (p .strobe) 5) false (cond (ltb (p .strobe) 13) (sends-image (a .act)) false)
-
--- Number 15: a reply that leads to a strobe of a byte of the image ends the session where the image has no
--- such byte.
-abbrev pub wants : Wanted → At → Place → Point
-wants (Byte b) a p = strobe-point a p
-wants Missing a p = end-point no-image-byte
-
--- the point after a reply that leaves the act's frame under way
-abbrev pub stays : Stage → Session → At → Place → List ℕ → Point
-stays Lead s a p image = strobe-point a p
-stays Erase s a p image = strobe-point a p
-stays Write s a p image = cond (drives-image a p) (wants (image-byte image (sent-offset s a)) a p) (strobe-point a p)
-stays Read s a p image = strobe-point a p
-stays Close s a p image = strobe-point a p
+frame-judged limit Compare s a n x image = compared (image-byte image (compared-offset s a)) s a x
 
 -- the point after a reply to a strobe of the act's frame
 abbrev pub frame-answered : (poll-limit : ℕ) → Moved → Task → Session → At → (reads : ℕ) → List ℕ → Point
-frame-answered limit (Within p) k s a n image = stays (a .stage) s a p image
+frame-answered limit (Within p) k s a n image = strobe-point a p
 frame-answered limit (Stopped x) k s a n image = frame-judged limit k s a n x image
 frame-answered limit WaitLimit k s a n image = end-point wait-limit-reached

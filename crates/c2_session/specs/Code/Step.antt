@@ -15,7 +15,7 @@ use Rattle.c2_session.specs.declared.Point.{Point}
 use Rattle.c2_session.specs.declared.Point.the-variants.{Running, Ended}
 use Rattle.c2_session.specs.declared.Session.{Session}
 use Rattle.c2_acts.specs.Code.Acts.{task-of}
-use Rattle.c2_session.specs.Code.Bytes.{stage-byte, byte-of}
+use Rattle.c2_session.specs.Code.Bytes.{stage-byte}
 use Rattle.c2_session.specs.Code.Next.{at}
 
 -- the step of an act that stands in no frame, 0 for any other act
@@ -56,7 +56,7 @@ task-sends Compare = false
 
 -- the byte that an act's frame sends, 0 for a frame that reads
 abbrev pub task-byte : Task → Session → At → List ℕ → ℕ
-task-byte k s a image = cond (task-sends k) (byte-of (stage-byte (a .stage) s a image)) 0
+task-byte k s a image = cond (task-sends k) (stage-byte (a .stage) s a image) 0
 
 -- the step at a strobe of an act
 abbrev pub task-step : Task → Session → At → (strobe : ℕ) → List ℕ → ℕ

@@ -5,8 +5,8 @@ use Rattle.c2_session.proofs.Session.frame_answered.Tie as tie
 enum-known-moved : tie.Need-enum-known-moved
 enum-known-moved c = search needs
 
-stays-requires : tie.Need-stays-requires
-stays-requires c κs = search needs
+strobe-point-requires : tie.Need-strobe-point-requires
+strobe-point-requires c κs = search needs
 
 enum-known-moved-2 : tie.Need-enum-known-moved-2
 enum-known-moved-2 c = search needs
@@ -21,7 +21,7 @@ end-point-requires : tie.Need-end-point-requires
 end-point-requires c κs = search needs
 
 returns : tie.Need-returns
-returns c = rw (c .before .before .moved .given .1) (c .stays .ensures)
+returns c = rw (c .before .before .moved .given .1) (c .strobe-point .ensures)
 
 returns-2 : tie.Need-returns-2
 returns-2 c = rw (c .before .before .moved2 .given .1) (c .frame-judged .ensures)
@@ -34,7 +34,7 @@ frame-answered-spec =
     tie.close
     (tie.spec
     enum-known-moved
-    stays-requires
+    strobe-point-requires
     enum-known-moved-2
     frame-judged-requires
     enum-told

@@ -29,8 +29,8 @@ compared-offset-requires c κs = search needs
 image-byte-requires : tie.Need-image-byte-requires
 image-byte-requires c κs = search needs
 
-wanted-compared-requires : tie.Need-wanted-compared-requires
-wanted-compared-requires c κs = search needs
+compared-requires : tie.Need-compared-requires
+compared-requires c κs = search needs
 
 enum-told-5 : tie.Need-enum-told-5
 enum-told-5 c = search needs
@@ -76,7 +76,7 @@ returns-3 c = rw (c .before .enum-told3 .given .1) (c .expects .ensures)
 
 returns-4 : tie.Need-returns-4
 returns-4 c =
-    rw (c .before .before .before .enum-told4 .given .1, c .wanted-compared .ensures, c .before .image-byte .ensures, c .before .before .compared-offset .ensures)
+    rw (c .before .before .before .enum-told4 .given .1, c .compared .ensures, c .before .image-byte .ensures, c .before .before .compared-offset .ensures)
 
 returns-5 : tie.Need-returns-5
 returns-5 c = rw (c .before .before .enum-told5 .given .1) (c .expects2 .ensures)
@@ -106,7 +106,7 @@ frame-judged-spec =
     enum-told-4
     compared-offset-requires
     image-byte-requires
-    wanted-compared-requires
+    compared-requires
     enum-told-5
     cast-expects
     expects-requires-2

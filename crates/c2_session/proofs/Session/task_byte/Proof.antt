@@ -9,15 +9,12 @@ task-sends-requires c κs = search needs
 stage-byte-requires : tie.Need-stage-byte-requires
 stage-byte-requires c κs = search needs
 
-byte-of-requires : tie.Need-byte-of-requires
-byte-of-requires c κs = search needs
-
 returns : tie.Need-returns
-returns c = rw (c .byte-of .ensures, c .before .stage-byte .ensures) (search (needs, picks))
+returns c = rw (c .stage-byte .ensures) (search (needs, picks))
 
 returns-2 : tie.Need-returns-2
 returns-2 c = search (needs, picks)
 
 pub task-byte-spec : {M : Type 1} → statement M
 task-byte-spec =
-    tie.close (tie.spec task-sends-requires stage-byte-requires byte-of-requires returns returns-2)
+    tie.close (tie.spec task-sends-requires stage-byte-requires returns returns-2)

@@ -1,19 +1,18 @@
+use mathlib.Core.Path.{sym}
 use borrow.Author.Needs.{needs}
+use lib.ListN.{List·getD-eq-default}
 use Rattle.laws.proofs.Pick.{picks}
-use Rattle.c2_session.specs.Code.Bytes.{image-byte}
 use Rattle.c2_session.proofs.bytes.image_byte.Statement.{statement}
 use Rattle.c2_session.proofs.bytes.image_byte.Tie as tie
 
-shared-slice-read-t6 : tie.Need-shared-slice-read-t6
-shared-slice-read-t6 c = search needs
+shared-slice-read-result : tie.Need-shared-slice-read-result
+shared-slice-read-result c = search needs
 
 returns : tie.Need-returns
-unfolding image-byte
 returns c = search (needs, picks)
 
 returns-2 : tie.Need-returns-2
-unfolding image-byte
-returns-2 c = search (needs, picks)
+returns-2 c = sym (List·getD-eq-default (c .before .args .image .now) 0 (c .if1 .left))
 
 pub image-byte-spec : {M : Type 1} → statement M
-image-byte-spec = tie.close (tie.spec shared-slice-read-t6 returns returns-2)
+image-byte-spec = tie.close (tie.spec shared-slice-read-result returns returns-2)
