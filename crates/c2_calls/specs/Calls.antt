@@ -1,6 +1,6 @@
--- The driver's calls as data, each with everything that it is lent, and what each answers and leaves in what it
--- was lent, for all inputs (document 01, "Numbers that come back"). `C2` of specs/Family.antt puts them together,
--- and the contracts of the calls in C cite it.
+-- The driver's calls as data, each with everything that it is lent, and what each answers and leaves in what
+-- it was lent, for all inputs (document 01, "Numbers that come back"). `C2` of specs/Family.antt puts them
+-- together, and the contracts of the calls in C cite it.
 use mathlib.Core.Bool.{cond}
 use mathlib.Core.List.{List, _++_}
 use Prim.Native.Nat.{ℕ, _+_}

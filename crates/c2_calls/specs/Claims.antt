@@ -1,6 +1,7 @@
--- What is claimed of a session whose replies come in parts, by the definitions that the calls meet (demand 2,
--- and the first half of demand 3); of the records that calls write; and of the figure that a question tells.
--- Types alone: proofs/Laws/Claims proves each, and proofs/Laws/Figure `Told-zero` and `Told-falls`.
+-- What is claimed of refused calls (demand 1) and of an opening's answer; of a session whose replies come in
+-- parts, by the definitions that the calls meet (demand 2, and the first half of demand 3); of the records
+-- that calls write; and of the figure that a question tells. Types alone: proofs/Laws/Claims proves each, and
+-- proofs/Laws/Figure `Left-as-asked`, `Told-zero` and `Told-falls`.
 use mathlib.Core.Path.{_≡_}
 use mathlib.Core.Bool.{true}
 use mathlib.Core.List.{List, _++_}
@@ -9,6 +10,7 @@ use Prim.Native.Nat.{ℕ, _+_, _/_, _<_, _≤_}
 use lib.ListN.{length}
 use Rattle.numbers.specs.Numbers.{running}
 use Rattle.c2_wire.specs.Bits.{Bytes}
+use Rattle.c2_wire.specs.Step.{off, code}
 use Rattle.c2_wire.specs.Exchange.{fed, asks, outcome-of, own}
 use Rattle.settings.specs.declared.Settings.{Settings}
 use Rattle.settings.specs.Opening.{opening-refusal}
@@ -27,8 +29,32 @@ use Rattle.c2_record.specs.declared.Unpacked.the-variants.{Held}
 use Rattle.c2_record.specs.Record.{packed, unpacked}
 use Rattle.c2_opening.specs.Opened.{opened-session, image-length, exchange-at, session-fed}
 use Rattle.exchange.specs.Calls.{done}
-use Rattle.c2_calls.specs.Calls.{taking, asking, blank}
+use Rattle.c2_calls.specs.declared.Opened.{Opened}
+use Rattle.c2_calls.specs.Calls.{Call, opening, taking, asking, refusal, Done, blank}
 use Rattle.c2_calls.specs.Family.{C2, told-left, session-after}
+
+-- A refused call answers the number, changes no byte that it was lent and takes no reply: an opening gives
+-- step 6, and its record is as lent; so are record and step buffer of a call that takes replies; a question
+-- is told no steps to come.
+abbrev pub Changes-nothing : (c : Call) → (number : ℕ) → Done c → Type 0
+Changes-nothing (opening r image t first) n d = (d .answer .number ≡ n) × (d .answer .step ≡ code off) × (d .held ≡ r)
+Changes-nothing (taking r image rs buffer place) n d =
+    (d .answer .number ≡ n) × (d .answer .offset ≡ 0) × (d .answer .taken ≡ 0) × (d .steps ≡ buffer) × (d .held ≡ r)
+Changes-nothing (asking r) n d = (d .number ≡ n) × (d .steps ≡ 0)
+
+-- Whatever a call is lent: where the rules give it a number, that is its answer, and it changes nothing.
+abbrev pub Refused-keeps : Type 0
+Refused-keeps = (c : Call) → (refusal c ≡ 0 → ⊥) → Changes-nothing c (refusal c) (done C2 c)
+
+-- What an opening answers: the number 0, running, and the first step of the session's exchange.
+pub record First-asked (t : Settings) (first : ℕ) (image : List ℕ) (answer : Opened) : Type 0 where
+  pub number : answer .number ≡ running
+  pub step : answer .step ≡ asks (exchange-of session-limits t first image)
+
+-- Every accepted opening answers so.
+abbrev pub Opening-answers : Type 0
+Opening-answers = (held image : List ℕ) (t : Settings) (first : ℕ) → refusal (opening held image t first) ≡ 0
+    → First-asked t first image (done C2 (opening held image t first) .answer)
 
 -- The session that was opened, after replies: its settings and pages are those of the opening; its record is
 -- taken and holds it, with the image of the opening; it stands at the point of the order that the replies
@@ -90,11 +116,20 @@ abbrev pub Figure-of-any : Type 0
 Figure-of-any = (s : Session) (image : List ℕ) → in-range 20 256 s ≡ true → length image ≡ image-length s
     → figure session-limits (position s image) ≡ figure session-limits (position s (blank s))
 
+-- the figure that a question answers, lent this record
+abbrev pub figure-told : (held : List ℕ) → ℕ
+figure-told r = done C2 (asking r) .steps
+
+-- Whatever the record, the most steps to come that a driver has is what a question would answer.
+abbrev pub Left-as-asked : Type 0
+Left-as-asked = (r : List ℕ) → told-left r ≡ figure-told r
+
 -- Whatever the record, the figure told is 0 exactly if the number told is not 0, running.
 abbrev pub Told-zero : Type 0
-Told-zero = (r : List ℕ) → told-left r ≡ 0 ↔ (done C2 (asking r) .number ≡ running → ⊥)
+Told-zero = (r : List ℕ) → figure-told r ≡ 0 ↔ (done C2 (asking r) .number ≡ running → ⊥)
 
 -- Whatever the record, a call that takes replies lowers the figure told by at least the replies taken.
 abbrev pub Told-falls : Type 0
 Told-falls = (r image replies buffer : List ℕ) (place : ℕ) → Bytes image
-    → told-left (done C2 (taking r image replies buffer place) .held) + done C2 (taking r image replies buffer place) .answer .taken ≤ told-left r
+    → figure-told (done C2 (taking r image replies buffer place) .held) + done C2 (taking r image replies buffer place) .answer .taken
+    ≤ figure-told r

@@ -6,7 +6,7 @@ use Prim.Native.Nat.{ℕ, suc, _+_, _*_, _/_, _<_, _≤_}
 use lib.ListN.{length, take}
 use Rattle.numbers.specs.Numbers.{done, running}
 use Rattle.c2_wire.specs.Bits.{Bytes}
-use Rattle.c2_wire.specs.Step.{reset, off, code}
+use Rattle.c2_wire.specs.Step.{off, code}
 use Rattle.c2_wire.specs.Exchange.{outcome}
 use Rattle.settings.specs.declared.Settings.{Settings}
 use Rattle.c2_order.specs.Order.{Page, pages, rising}
@@ -20,7 +20,8 @@ use Rattle.c2_play.specs.Pages.{with-pages}
 use Rattle.c2_cut.specs.Cut.{Cut}
 use Rattle.c2_calls.specs.Calls.{Call, opening, taking, refusal}
 use Rattle.c2_calls.specs.Family.{C2, Told, by-replies}
-use Rattle.exchange.specs.Calls.{heard, told, in-a-row, May-follow, Refused-unchanged}
+use Rattle.c2_calls.specs.Claims.{Refused-keeps}
+use Rattle.exchange.specs.Calls.{heard, told, in-a-row, May-follow}
 
 -- THE JOB: a device's settings, the numbers of the pages to be programmed, and the image, page by page in
 -- that order.
@@ -96,10 +97,10 @@ pub record Ready (t : Settings) (b : Bench) : Type 0 where
   pub flash : Bytes (b .flash)
   pub delays : Bytes (b .delays)
 
--- THE CLAIM. The steps that the target is sent, as the calls tell it: the opening's step, 4, then the steps
--- that were written.
+-- THE CLAIM. The steps that the target is sent, as the calls tell it: the opening's step, then the steps that
+-- were written.
 abbrev pub sent : Told → List ℕ
-sent x = code reset ∷ x .steps
+sent x = x .first-step ∷ x .steps
 
 -- each reply taken is the target's own to the step before
 abbrev pub Own : Settings → Bench → Told → (replies : List ℕ) → Type 0
@@ -127,7 +128,7 @@ pub record Against (j : Job) (b : Bench) (start x : Told) (rs : List ℕ) : Type
 -- what the calls tell is what the replies in a row come to; the most steps to come and the replies taken are
 -- together at most what the opening told; and where the replies are the target's own, `Against` holds.
 pub record Whole (j : Job) (start x : Told) (calls : List Call) : Type 0 where
-  pub refused : Refused-unchanged C2
+  pub refused : Refused-keeps
   pub told-is : x ≡ by-replies (j .settings) (first-of (j .pages)) (j .image) (in-a-row C2 calls)
   pub bounded : x .left + x .taken ≤ start .left
   pub against : (b : Bench) → Ready (j .settings) b → Own (j .settings) b x (in-a-row C2 calls) → Against j b start x (in-a-row C2 calls)
@@ -139,8 +140,8 @@ Calls-program = (j : Job) (held : List ℕ) (before : Told) (calls : List Call) 
     → May-follow C2 (j .image) (heard C2 before (opens held j)) calls
     → Whole j (heard C2 before (opens held j)) (told C2 before (opens held j ∷ calls)) calls
 
--- Lists with the same replies in a row are alike in all that they tell (`Calls-alike`), a list of a single call
--- too (`Like-one-call`), where its step buffer has room.
+-- Lists with the same replies in a row are alike in all that they tell (`Calls-alike`), a list of a single
+-- call too (`Like-one-call`), where its step buffer has room.
 abbrev pub Calls-alike : Type 0
 Calls-alike = (j : Job) (held : List ℕ) (before : Told) (calls others : List Call) → Begins held j
     → May-follow C2 (j .image) (heard C2 before (opens held j)) calls

@@ -4,19 +4,23 @@ use mathlib.Core.List.{List, [], _∷_}
 use mathlib.Core.Logic.{_⊎_, inl, inr, ⊎-elim}
 use Prim.Native.Nat.{ℕ, zero, suc, _/_, _<_}
 use native.Mathlib.Omega.{arith}
-use borrow.Author.Tests.{eqb-true}
+use borrow.Author.Tests.{eqb-true, eq-eqb, ne-eqb}
 use lib.Dec.{eqb}
 use lib.ListN.{length, replicate, length-replicate}
 use Rattle.laws.proofs.Tests.{both}
+use Rattle.exchange.specs.Calls.{done}
 use Rattle.numbers.specs.Numbers.{running}
 use Rattle.c2_wire.specs.Bits.{Bytes}
+use Rattle.c2_wire.specs.Step.{reset, code}
 use Rattle.c2_wire.specs.Exchange.{Exchange, Outcome, asks, fed}
+use Rattle.c2_wire.specs.Frames.{strobes}
+use Rattle.settings.specs.declared.Settings.{Settings}
 use Rattle.settings.specs.Opening.{opening-refusal}
 use Rattle.c2_order.specs.Acts.{Act}
-use Rattle.c2_order.specs.Order.{order, session-order}
-use Rattle.c2_order.specs.Conversation.{Limits, session-limits}
+use Rattle.c2_order.specs.Order.{lead, order, session-order}
+use Rattle.c2_order.specs.Conversation.{Limits, session-limits, conversation}
 use Rattle.c2_order.specs.Point.{Stands, Exists-in, reached}
-use Rattle.c2_order.specs.Claims.{Opening, Ending}
+use Rattle.c2_order.specs.Claims.{Opening, exchange-of, Ending}
 use Rattle.c2_order.proofs.Laws.Claims.{driven-on}
 use Rattle.c2_order.proofs.Laws.Ends.{ends-so}
 use Rattle.c2_session.specs.declared.Point.the-variants.{Running, Ended}
@@ -36,9 +40,9 @@ use Rattle.c2_record.specs.declared.Unpacked.the-variants.{Held}
 use Rattle.c2_record.specs.Record.{unpacked}
 use Rattle.c2_record.proofs.Laws.Claims.{small, pack-unpack, unpacked-exactly}
 use Rattle.c2_opening.specs.Opened.{opened-session, image-length, session-fed}
-use Rattle.c2_calls.specs.Calls.{blank}
+use Rattle.c2_calls.specs.Calls.{opening, taking, asking, refusal, untouched, refused-answer, does, blank}
 use Rattle.c2_calls.specs.Family.{session-after}
-use Rattle.c2_calls.specs.Claims.{Replies-follow, Held-follows, Held-ends, Parts-join, Figure-of-any}
+use Rattle.c2_calls.specs.Claims.{Refused-keeps, Opening-answers, Replies-follow, Held-follows, Held-ends, Parts-join, Figure-of-any}
 use Rattle.c2_opening.proofs.Laws.Opened.{begins-lent, begins-at, begins-so}
 use Rattle.c2_opening.proofs.Laws.Follows.{Lent, lent-advances, outcome-is, exchange-after, lent-after}
 use Rattle.c2_order.specs.Point
@@ -161,6 +165,22 @@ lent-held r image s e b l =
 pub blank-bytes : (n : ℕ) → Bytes (replicate n 0)
 blank-bytes zero = tt
 blank-bytes (suc n) = (omega arith, blank-bytes n)
+
+pub refused-keeps : Refused-keeps
+unfolding done untouched refused-answer
+refused-keeps (opening r image t first) n = rw (ne-eqb (refusal (opening r image t first)) 0 n) (refl, refl, refl)
+refused-keeps (taking r image rs buffer place) n = rw (ne-eqb (refusal (taking r image rs buffer place)) 0 n) (refl, refl, refl, refl, refl)
+refused-keeps (asking r) n = rw (ne-eqb (refusal (asking r)) 0 n) (refl, refl)
+
+-- the first step is the reset
+pub first-is-reset : (t : Settings) (first : ℕ) (image : List ℕ) → asks (exchange-of session-limits t first image) ≡ code reset
+unfolding asks conversation session-order order lead strobes
+first-is-reset t first image = refl
+
+pub opening-answers : Opening-answers
+unfolding done does
+opening-answers held image t first e =
+    rw (eq-eqb (refusal (opening held image t first)) 0 e) (record { number = refl; step = sym (first-is-reset t first image) })
 
 pub figure-of-any : Figure-of-any
 figure-of-any s image e l = counts 20 256 s image e l ∙ sym (counts 20 256 s (blank s) e (length-replicate (image-length s) 0))

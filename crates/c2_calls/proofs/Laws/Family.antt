@@ -11,7 +11,7 @@ use Rattle.laws.proofs.Tests.{passes}
 use Rattle.exchange.specs.Calls.{Goes-on, Lists-are-replies}
 use Rattle.exchange.proofs.Laws.Calls.{lists-are-replies}
 use Rattle.numbers.specs.Numbers.{other-image, no-room}
-use Rattle.c2_wire.specs.Exchange.{Exchange, fed, steps, outcome-of}
+use Rattle.c2_wire.specs.Exchange.{Exchange, asks, fed, steps, outcome-of}
 use Rattle.c2_wire.proofs.Laws.Exchange.{fed-append, steps-append, taken-append}
 use Rattle.settings.specs.declared.Settings.{Settings}
 use Rattle.c2_order.specs.Conversation.{session-limits}
@@ -28,7 +28,7 @@ use Rattle.c2_calls.specs.declared.Remaining.{Remaining}
 use Rattle.c2_calls.specs.Calls.{Call, opening, taking, asking, held-number, refusal, Taking-done, taken-answer, steps-written, takes, blank, remaining-answer, does}
 use Rattle.c2_calls.specs.Claims.{Follows}
 use Rattle.c2_calls.specs.Family.{Told, told-left, hears, replies-of, C2, session-after, by-replies}
-use Rattle.c2_calls.proofs.Laws.Claims.{replies-follow, parts-join, lent-held, blank-bytes, figure-of-any}
+use Rattle.c2_calls.proofs.Laws.Claims.{first-is-reset, replies-follow, parts-join, lent-held, blank-bytes, figure-of-any}
 use Rattle.c2_wire.specs.Exchange
 
 -- what a step buffer holds from the place on, as far as steps were written
@@ -101,7 +101,7 @@ module _ (t : Settings) (first : ℕ) (image : List ℕ) (o : Opening t first im
         let out = ap outcome-of (sym (fed-append said qs rs)) in
         let left = left-told (qs ++ rs) in
         ap (λ (d : Taking-done). hears (by qs) (taking (kept qs) image rs buffer place) d) done-is
-        ∙ (λ i. record { held = kept (qs ++ rs); steps = more i; taken = sum i; outcome = out i; left = left i })
+        ∙ (λ i. record { held = kept (qs ++ rs); first-step = asks said; steps = more i; taken = sum i; outcome = out i; left = left i })
 
   -- an accepted question changes nothing of what the driver has
   pub asks-on : (qs : List ℕ) → hears (by qs) (asking (kept qs)) (does (asking (kept qs))) ≡ by qs
@@ -110,6 +110,7 @@ module _ (t : Settings) (first : ℕ) (image : List ℕ) (o : Opening t first im
       let a = asked qs in
       λ i. record {
         held = kept qs;
+        first-step = asks said;
         steps = steps said qs;
         taken = Exchange.taken said qs;
         outcome = record { number = a i .number; offset = outcome-of (fed said qs) .offset };
@@ -125,7 +126,7 @@ module _ (t : Settings) (first : ℕ) (image : List ℕ) (o : Opening t first im
       let n = outcome-now s image (lent-held (packed s) image s (f .held) (o .bytes) (f .whole)) in
       let said = sym n ∙ ap outcome-of (f .left) in
       let left = left-told [] in
-      λ i. record { held = packed s; steps = []; taken = 0; outcome = said i; left = left i }
+      λ i. record { held = packed s; first-step = sym (first-is-reset t first image) i; steps = []; taken = 0; outcome = said i; left = left i }
 
   pub goes-on : Goes-on C2 image (by-replies t first image)
   unfolding refusal replies-of by-replies

@@ -38,7 +38,7 @@ use Rattle.c2_opening.specs.Opened.{image-length, exchange-at, session-fed}
 use Rattle.c2_opening.proofs.Laws.Follows.{Lent, outcome-now, lent-after}
 use Rattle.c2_calls.specs.Calls.{taking, asking, held-number, refusal, untouched, refused-answer, taken-answer, blank, remaining-answer, does}
 use Rattle.c2_calls.specs.Family.{C2, told-left}
-use Rattle.c2_calls.specs.Claims.{Told-zero, Told-falls}
+use Rattle.c2_calls.specs.Claims.{figure-told, Left-as-asked, Told-zero, Told-falls}
 use Rattle.c2_calls.proofs.Laws.Claims.{opening-of, placed-exists, held-follows, lent-held, blank-bytes, figure-of-any}
 use Rattle.c2_order.specs.Point
 
@@ -73,13 +73,21 @@ module _ (r : List ℕ) (s : Session) (e : unpacked 20 256 r ≡ Held s) where
       let n = ap (λ (o : Outcome). o .number) (outcome-now s (blank s) lent) in
       rw n (number-zero (s .point) (within-ranges 20 256 s (lent .range) .point) (in-order 20 256 s (blank s) (lent .range) (lent .whole)))
 
+pub left-as-asked : Left-as-asked
+unfolding done refusal does untouched
+left-as-asked r = go (unpacked 20 256 r) refl
+  where
+    go : (u : Unpacked) → unpacked 20 256 r ≡ u → told-left r ≡ figure-told r
+    go (Held s) e = rw (e, told-left, figure-told)
+    go Refused e = rw (e, told-left, figure-told)
+
 pub told-zero : Told-zero
 unfolding done refusal does untouched
 told-zero r = go (unpacked 20 256 r) refl
   where
-    go : (u : Unpacked) → unpacked 20 256 r ≡ u → told-left r ≡ 0 ↔ (done C2 (asking r) .number ≡ running → ⊥)
-    go (Held s) e = let q : told-left r ≡ remaining-answer (Held s) .steps = ap (λ (u : Unpacked). remaining-answer u .steps) e in rw (q, e) (told-zero-held r s e)
-    go Refused e = let q : told-left r ≡ 0 = ap (λ (u : Unpacked). remaining-answer u .steps) e in rw (q, e) ((λ f g. omega arith), (λ f. refl))
+    go : (u : Unpacked) → unpacked 20 256 r ≡ u → figure-told r ≡ 0 ↔ (done C2 (asking r) .number ≡ running → ⊥)
+    go (Held s) e = rw (e, figure-told) (told-zero-held r s e)
+    go Refused e = rw (e, figure-told) ((λ f g. omega arith), (λ f. refl))
 
 -- what an accepted call leaves: the figure at the point that the replies reach
 falls-held : (r image rs : List ℕ) (s : Session) → unpacked 20 256 r ≡ Held s → Bytes image → length image ≡ image-length s
@@ -95,9 +103,10 @@ falls-held r image rs s e b w =
     ap (λ (u : Unpacked). remaining-answer u .steps) (g .held) ∙ sym (figure-of-any after image (k .range) (k .whole)) ∙ ap (figure session-limits) (g .point) in
     omega (arith, f, told, figure-of-any s image (h .range) (h .whole))
 
-pub told-falls : Told-falls
+left-falls : (r image rs buffer : List ℕ) (place : ℕ) → Bytes image
+    → told-left (done C2 (taking r image rs buffer place) .held) + done C2 (taking r image rs buffer place) .answer .taken ≤ told-left r
 unfolding done refusal does untouched refused-answer taken-answer
-told-falls r image rs buffer place b = go (unpacked 20 256 r) refl
+left-falls r image rs buffer place b = go (unpacked 20 256 r) refl
   where
     go : (u : Unpacked) → unpacked 20 256 r ≡ u
         → told-left (done C2 (taking r image rs buffer place) .held) + done C2 (taking r image rs buffer place) .answer .taken ≤ told-left r
@@ -114,3 +123,7 @@ told-falls r image rs buffer place b = go (unpacked 20 256 r) refl
             → told-left (done C2 (taking r image rs buffer place) .held) + done C2 (taking r image rs buffer place) .answer .taken ≤ told-left r
         refused t = rw (e, t) (omega arith)
     go Refused e = rw e (omega arith)
+
+pub told-falls : Told-falls
+told-falls r image rs buffer place b =
+    rw (← left-as-asked r, ← left-as-asked (done C2 (taking r image rs buffer place) .held)) (left-falls r image rs buffer place b)

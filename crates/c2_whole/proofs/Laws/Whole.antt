@@ -9,19 +9,16 @@ use lib.Dec.{eqb}
 use lib.ListN.{length, take, drop, replicate, length-replicate}
 use Rattle.laws.proofs.Tests.{passes}
 use Rattle.exchange.specs.Calls.{done, heard, told, in-a-row, May-follow}
-use Rattle.exchange.proofs.Laws.Calls.{refused-unchanged}
 use Rattle.numbers.specs.Numbers.{running, bad-record}
 use Rattle.numbers.specs.Numbers
-use Rattle.c2_wire.specs.Step.{reset, code}
 use Rattle.c2_wire.specs.Exchange.{Exchange, ended, ask, at, Outcome, outcome, asks, steps, taken, fed, outcome-of}
-use Rattle.c2_wire.specs.Frames.{strobes}
 use Rattle.settings.specs.declared.Settings.{Settings}
 use Rattle.settings.specs.Accepted.{settings-refusal}
 use Rattle.settings.specs.Opening.{opening-refusal}
 use Rattle.settings.proofs.Laws.Opening.{settings-pass}
 use Rattle.settings.proofs.Laws.Opening as Facts
-use Rattle.c2_order.specs.Order.{Page, pages, rising, lead, order, session-order}
-use Rattle.c2_order.specs.Conversation.{Positive, session-limits, conversation}
+use Rattle.c2_order.specs.Order.{Page, pages, rising, session-order}
+use Rattle.c2_order.specs.Conversation.{Positive, session-limits}
 use Rattle.c2_order.specs.Point.{begin, reached}
 use Rattle.c2_order.specs.Figure.{figure}
 use Rattle.c2_order.specs.Claims.{Opening, exchange-of}
@@ -47,16 +44,12 @@ use Rattle.c2_cut.proofs.Laws.Again.{pages-again, same-place}
 use Rattle.c2_cut.proofs.Laws.ByReplies.{cuts-by-replies}
 use Rattle.c2_calls.specs.Calls.{Call, opening, taking, opening-number, refusal}
 use Rattle.c2_calls.specs.Family.{C2, Told, replies-of, by-replies}
+use Rattle.c2_calls.proofs.Laws.Claims.{refused-keeps}
 use Rattle.c2_calls.proofs.Laws.Family.{c2-lists, accepts}
 use Rattle.c2_calls.proofs.Laws.Family as Lists
 use Rattle.c2_whole.specs.Whole.{Job, first-of, opens, Begins, job-pages, programmed, anew, Bench, replies, given, Ready, sent, Own, Whole, Calls-program, Calls-alike, Like-one-call, Calls-exist, Fresh-ready}
 use Rattle.c2_whole.proofs.Laws.Target.{stands, bench, ready, replies-alike, given-alike}
 use Rattle.c2_whole.proofs.Laws.Bench.{met-along, last-keeps}
-
--- the first step is the reset
-pub first-step : (t : Settings) (first : ℕ) (image : List ℕ) → asks (exchange-of session-limits t first image) ≡ code reset
-unfolding asks conversation session-order order lead strobes
-first-step t first image = refl
 
 module _ (j : Job) (held : List ℕ) (g : Begins held j) where
   abbrev first : ℕ
@@ -177,7 +170,7 @@ module _ (j : Job) (held : List ℕ) (g : Begins held j) (rs : List ℕ) (b : Be
 
   sent-is : sent (by-replies (j .settings) (first-of (j .pages)) (j .image) rs) ≡ asks e ∷ steps e rs
   unfolding by-replies
-  sent-is = ap (λ (n : ℕ). n ∷ steps e rs) (sym (first-step (j .settings) (first-of (j .pages)) (j .image)))
+  sent-is = refl
 
   replies-there : replies (j .settings) b (take (taken e rs) (sent (by-replies (j .settings) (first-of (j .pages)) (j .image) rs)))
       ≡ own-replies u y (b .flash) (answered e rs)
@@ -284,7 +277,7 @@ calls-program j held before calls g m =
     let rs = in-a-row C2 calls in
     let e = told-are j held g before calls m in
     record {
-      refused = refused-unchanged C2;
+      refused = refused-keeps;
       told-is = e;
       bounded = rw (e, starts j held g before) (bounds j held g rs);
       against = λ b r own.
