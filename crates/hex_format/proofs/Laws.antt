@@ -10,3 +10,4 @@ pub mod Histories
 pub mod Pages
 pub mod Faults
 pub mod Claims
+pub mod Decided

@@ -1,12 +1,12 @@
 -- What is claimed of Intel HEX files beyond one call (document 02, a). Types alone: `Claims` in
--- proofs/Laws/ proves each.
+-- proofs/Laws/ proves each, and `Decided` the last.
 use mathlib.Core.Path.{_≡_}
 use mathlib.Core.Bool.{true, false}
 use mathlib.Core.List.{List, []}
-use mathlib.Core.Logic.{_⊎_}
-use Prim.Native.Nat.{ℕ, suc, _+_, _-_, _*_, _%_, _≤_, _<_}
+use mathlib.Core.Logic.{_↔_, _⊎_}
+use Prim.Native.Nat.{ℕ, suc, _+_, _-_, _*_, _/_, _%_, _≤_, _<_}
 use lib.ListN.{length, getD, take}
-use Rattle.numbers.specs.Numbers.{bad-line, bad-checksum, bad-hex-record, set-twice, no-end-record}
+use Rattle.numbers.specs.Numbers.{bad-line, bad-checksum, bad-hex-record, set-twice, no-end-record, no-data, buffer-too-small}
 use Rattle.settings.specs.declared.Settings.{Settings}
 use Rattle.settings.specs.Accepted.{settings-refusal}
 use Rattle.hex_format.specs.declared.Line.the-variants.{Bad, Data, Last}
@@ -109,3 +109,35 @@ abbrev pub No-fault : Type 0
 No-fault =
     (s : Settings) (room : ℕ) (file : List ℕ) → settings-refusal s ≡ 0 → hex-read s room file .line ≡ 0
     → (j m : ℕ) → j < length (lines file) → Fault-at s file j m → ⊥
+
+-- 4. After the lines, where none is faulty: 24 exactly if no line is the end record; else 25 exactly if no
+-- byte is set; else 26 exactly if the room is below the image's length; else the file is accepted.
+
+-- the first and the last address that lines set
+pub record Touched (flash : ℕ) (file : List ℕ) : Type 0 where
+  pub low : ℕ
+  pub low-byte : ℕ
+  pub low-set : Set flash file low low-byte
+  pub high : ℕ
+  pub high-byte : ℕ
+  pub high-set : Set flash file high high-byte
+  pub between : (k b : ℕ) → Set flash file k b → (low ≤ k) × (k ≤ high)
+
+-- the image's length: from the start of the first touched page to the end of the last one
+abbrev pub touched-bytes : (size low high : ℕ) → ℕ
+touched-bytes size low high = high / size * size + size - low / size * size
+
+pub record Decided (s : Settings) (room : ℕ) (file : List ℕ) (a : Answer) : Type 0 where
+  pub missing-end : a .number ≡ no-end-record ↔ (Ended (s .size * s .count) (lines file) → ⊥)
+  pub none-set : Ended (s .size * s .count) (lines file) → a .number ≡ no-data ↔ ((k b : ℕ) → Set (s .size * s .count) file k b → ⊥)
+  pub touches : (k b : ℕ) → Set (s .size * s .count) file k b → Touched (s .size * s .count) file
+  pub too-small : Ended (s .size * s .count) (lines file) → (t : Touched (s .size * s .count) file)
+      → a .number ≡ buffer-too-small ↔ room < touched-bytes (s .size) (t .low) (t .high)
+  pub file-accepted : Ended (s .size * s .count) (lines file) → (t : Touched (s .size * s .count) file)
+      → a .number ≡ 0 ↔ touched-bytes (s .size) (t .low) (t .high) ≤ room
+  pub image-bytes : a .number ≡ 0 → (t : Touched (s .size * s .count) file) → length (a .image) ≡ touched-bytes (s .size) (t .low) (t .high)
+
+abbrev pub Answered-exactly : Type 0
+Answered-exactly =
+    (s : Settings) (room : ℕ) (file : List ℕ) → settings-refusal s ≡ 0 → ((j m : ℕ) → j < length (lines file) → Fault-at s file j m → ⊥)
+    → Decided s room file (hex-read s room file)

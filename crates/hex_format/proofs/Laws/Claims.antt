@@ -29,7 +29,7 @@ pub read-back-holds : Read-back
 read-back-holds s first space room image all e big = read-back s first space room image all e big
 
 -- taken, as a record of its parts
-parts : (t : Taken) → t .number ≡ 0 → t ≡ took 0 (t .ended) (t .cells)
+pub parts : (t : Taken) → t .number ≡ 0 → t ≡ took 0 (t .ended) (t .cells)
 parts t z = ap (λ n. took n (t .ended) (t .cells)) z
 
 -- the history of an accepted file
@@ -116,12 +116,12 @@ judges flash n all before (l ∷ ls) ended cells e c h f =
           none = λ q. absurd (omega arith);
         })
 
-file-judges : (flash : ℕ) (file : List ℕ) → Judges flash (lines file) (walked 0 false (replicate flash unset) (lines file))
+pub file-judges : (flash : ℕ) (file : List ℕ) → Judges flash (lines file) (walked 0 false (replicate flash unset) (lines file))
 file-judges flash file =
     judges flash 0 (lines file) [] (lines file) false (replicate flash unset) refl refl (history-none flash) (λ j m g. absurd (omega arith))
 
 -- the answer's line and number are the walk's where a line decided
-abbrev walk : Settings → List ℕ → Walked
+abbrev pub walk : Settings → List ℕ → Walked
 walk s file = walked 0 false (replicate (s .size * s .count) unset) (lines file)
 
 cut-line : (size room : ℕ) (cells : List ℕ) → cut-out size room cells .line ≡ 0
@@ -152,7 +152,7 @@ unfolding answered
 answered-number size room w n = rw (ne-eqb (w .number) 0 n)
 
 module _ (s : Settings) (room : ℕ) (file : List ℕ) (ok : settings-refusal s ≡ 0) where
-  is-answered : hex-read s room file ≡ answered (s .size) room (walk s file)
+  pub is-answered : hex-read s room file ≡ answered (s .size) room (walk s file)
   unfolding hex-read
   is-answered = rw ok
 
@@ -295,7 +295,7 @@ module _ (s : Settings) (file : List ℕ) (ok : settings-refusal s ≡ 0) (right
   abbrev image : List ℕ
   image = bytes (take n (drop (page * s .size) F))
 
-  long : length image ≡ n
+  pub long : length image ≡ n
   long = window-long F (page * s .size) n fits
 
   to-set : (k b : ℕ) → Among flash (lines file) k b → Set flash file k b
