@@ -64,6 +64,31 @@ abbrev pub More-exactly : Type 0
 More-exactly = (size : ℕ) (a b list : List ℕ) → Accepted size a b
     → ranges-answer size a b list .more ≡ 1 ↔ ranges-answer size a b list .held < length (ranges a b)
 
+-- Else, where it holds all of them, it says 0.
+abbrev pub No-more : Type 0
+No-more = (size : ℕ) (a b list : List ℕ) → Accepted size a b
+    → ranges-answer size a b list .more ≡ 0 ↔ ranges-answer size a b list .held ≡ length (ranges a b)
+
+-- An accepted call answers the number 0.
+abbrev pub Accepted-zero : Type 0
+Accepted-zero = (size : ℕ) (a b list : List ℕ) → Accepted size a b
+    → (ranges-answer size a b list .number ≡ 0) × (first-answer size a b .number ≡ 0)
+
+-- What a refused call answers: its number, and nothing found. The list buffer is as it was lent.
+pub record Nothing-found (size : ℕ) (a b list : List ℕ) : Type 0 where
+  pub ranges-number : ranges-answer size a b list .number ≡ dump-refusal size (length a) (length b)
+  pub no-more : ranges-answer size a b list .more ≡ 0
+  pub none-held : ranges-answer size a b list .held ≡ 0
+  pub list-stays : ranges-list size a b list ≡ list
+  pub first-number : first-answer size a b .number ≡ dump-refusal size (length a) (length b)
+  pub no-difference : first-answer size a b .differs ≡ 0
+  pub no-page : first-answer size a b .page ≡ 0
+  pub no-offset : first-answer size a b .offset ≡ 0
+
+-- Every refused call answers so.
+abbrev pub Refused-finds-nothing : Type 0
+Refused-finds-nothing = (size : ℕ) (a b list : List ℕ) → (Accepted size a b → ⊥) → Nothing-found size a b list
+
 -- What a list buffer holds afterwards: the first ranges, all of them or as many as it takes whole. Every
 -- number behind them stays.
 pub record Holds (a b list : List ℕ) (held : ℕ) (after : List ℕ) : Type 0 where
@@ -81,6 +106,11 @@ Holds-first = (size : ℕ) (a b list : List ℕ) → Accepted size a b
 -- The quick form says equal exactly if there is no range.
 abbrev pub Equal-exactly : Type 0
 Equal-exactly = (size : ℕ) (a b : List ℕ) → Accepted size a b → first-answer size a b .differs ≡ 0 ↔ ranges a b ≡ []
+
+-- Where it says equal, page and offset are 0.
+abbrev pub Equal-zeros : Type 0
+Equal-zeros = (size : ℕ) (a b : List ℕ) → Accepted size a b → first-answer size a b .differs ≡ 0
+    → (first-answer size a b .page ≡ 0) × (first-answer size a b .offset ≡ 0)
 
 -- the quick form tells a place: that of a difference, by its page and the offset in it
 pub record Tells (size : ℕ) (a b : List ℕ) (place : ℕ) : Type 0 where

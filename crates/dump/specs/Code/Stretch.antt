@@ -1,6 +1,6 @@
--- For the code: how far two dumps go on being equal, or differing. Nothing here needs to be believed:
--- `Ranges` and `First` in proofs/Laws of dump_ranges have the laws that join it to the ranges and to the
--- first difference.
+-- For the code: how far two dumps go on being equal, or differing. Nothing here needs to be believed: of
+-- proofs/Laws, `Listing` joins it to the ranges that are listed, `Pages` to the pages that the quick form
+-- goes over, and `Stretch` has the laws of a stretch that grows.
 use mathlib.Core.Path.{_≡_}
 use mathlib.Core.List.{List}
 use Prim.Native.Nat.{ℕ, _<_, _≤_}

@@ -7,15 +7,15 @@ use Prim.Native.Nat.{ℕ, _+_, _-_, _*_, _/_, _<_, _≤_}
 use native.Mathlib.Nat.{div-add-mod', mod-lt}
 use native.Mathlib.Omega.{arith}
 use native.Mathlib.Decide.{decLt}
-use borrow.Author.Tests.{ltb-true, ltb-false, eqb-true, eqb-false}
+use borrow.Author.Tests.{ltb-true, ltb-false, eqb-true, eqb-false, ne-eqb}
 use lib.Dec.{ltb, eqb}
 use lib.ListN.{length, take, drop, getD, length-append, length-drop}
 use lib.Seq.{take-at, drop-at, take-all, length-take-le}
 use Rattle.laws.proofs.Tests.{by-test}
 use Rattle.dump_ranges.specs.Ranges.{Range, ranges, listed, equal-bytes}
-use Rattle.dump_ranges.specs.Answers.{ranges-found, ranges-answer, list-filled, ranges-list, first-found, first-answer}
+use Rattle.dump_ranges.specs.Answers.{dump-refusal, ranges-found, ranges-refused, ranges-answer, list-filled, ranges-list, first-found, first-refused, first-answer}
 use Rattle.dump_ranges.specs.Claims.{Equal-at, Covered, Longest, Ranges-cover, Ranges-rise, Ranges-longest, Ranges-only}
-use Rattle.dump_ranges.specs.Claims.{More-exactly, Holds-first, Equal-exactly, First-of-ranges}
+use Rattle.dump_ranges.specs.Claims.{More-exactly, No-more, Accepted-zero, Refused-finds-nothing, Holds-first, Equal-exactly, Equal-zeros, First-of-ranges}
 use Rattle.dump_ranges.proofs.Laws.Answers.{dumps}
 use Rattle.dump_ranges.proofs.Laws.Ranges.{rises}
 use Rattle.dump_ranges.proofs.Laws.First.{start-of, first-start, no-range, some-range}
@@ -93,6 +93,40 @@ pub more-exactly : More-exactly
 unfolding ranges-answer ranges-found more-than
 more-exactly size a b list z = rw z (more-of (length list / 2) (ranges a b))
 
+-- there are no more than are held, as a number
+none-of : (n : ℕ) (rs : List Range) → more-than n (length rs) ≡ 0 ↔ length (take n rs) ≡ length rs
+unfolding more-than
+none-of n rs = by-test (ltb n (length rs)) more none
+  where
+    more : ltb n (length rs) ≡ true → more-than n (length rs) ≡ 0 ↔ length (take n rs) ≡ length rs
+    more t = let h = ltb-true n (length rs) t in let p = first-part n rs in rw t (λ q. absurd (omega arith), λ l. absurd (omega (arith, p .most)))
+
+    none : ltb n (length rs) ≡ false → more-than n (length rs) ≡ 0 ↔ length (take n rs) ≡ length rs
+    none t = let h = ltb-false n (length rs) t in rw t (λ _. ap length (take-all n rs (omega arith)), λ _. refl)
+
+pub no-more : No-more
+unfolding ranges-answer ranges-found more-than
+no-more size a b list z = rw z (none-of (length list / 2) (ranges a b))
+
+pub accepted-zero : Accepted-zero
+unfolding ranges-answer ranges-found first-answer first-found
+accepted-zero size a b list z = rw z (refl, by-test (ltb (equal-bytes a b) (length a)) (λ t. rw t) (λ t. rw t))
+
+pub refused-finds-nothing : Refused-finds-nothing
+unfolding ranges-answer ranges-refused ranges-list first-answer first-refused
+refused-finds-nothing size a b list n =
+    let t = ne-eqb (dump-refusal size (length a) (length b)) 0 n in
+    record {
+      ranges-number = rw t;
+      no-more = rw t;
+      none-held = rw t;
+      list-stays = rw t;
+      first-number = rw t;
+      no-difference = rw t;
+      no-page = rw t;
+      no-offset = rw t;
+    }
+
 pub holds-first : Holds-first
 unfolding ranges-answer ranges-found ranges-list list-filled
 holds-first size a b list z =
@@ -117,6 +151,11 @@ equal-exactly size a b z =
     rw z (by-test (ltb (equal-bytes a b) (length a))
     (λ t. rw t (λ q. absurd (omega arith), λ q. absurd (omega (arith, some-range 0 a b e (ltb-true _ _ t), ap length q))))
     (λ t. rw t (λ q. no-range 0 a b e (ltb-false _ _ t), λ q. refl)))
+
+pub equal-zeros : Equal-zeros
+unfolding first-answer first-found
+equal-zeros size a b z =
+    rw z (by-test (ltb (equal-bytes a b) (length a)) (λ t. rw t (λ q. absurd (omega arith))) (λ t. rw t (λ q. (refl, refl))))
 
 pub first-of-ranges : First-of-ranges
 unfolding first-answer first-found start-of
