@@ -123,17 +123,17 @@ long-put n = raw (0 ∷ 3 ∷ 2 ∷ (2 + n % 2) ∷ (2 + n / 2) ∷ 3 ∷ replic
 
 -- a frame with this step in place of one of its own (`with-step`), and with C2D driven low, then high, at
 -- each of these places (`driven-at`)
-abbrev pub with-step : Move → (place step : ℕ) → List Move
-with-step m i x = raw (take i (steps (m ∷ [])) ++ x ∷ drop (i + 1) (steps (m ∷ [])))
+abbrev pub with-step : List Move → (place step : ℕ) → List Move
+with-step ms i x = raw (take i (steps ms) ++ x ∷ drop (i + 1) (steps ms))
 
-abbrev pub driven-at : Move → (places : List ℕ) → List (List Move)
-driven-at m is = map (λ i. with-step m i 2) is ++ map (λ i. with-step m i 3) is
+abbrev pub driven-at : List Move → (places : List ℕ) → List (List Move)
+driven-at ms is = map (λ i. with-step ms i 2) is ++ map (λ i. with-step ms i 3) is
 
 -- Driving C2D at any of these places of a frame sets the mark; the replies, and all else of the target, are
 -- as without the drive.
-pub record Drives-mark (m : Move) (places : List ℕ) : Type 0 where
-  pub same-replies : map (replies []) (driven-at m places) ≡ map (λ _. replies [] (m ∷ [])) (driven-at m places)
-  pub marks : map (λ x. after [] x .target) (driven-at m places) ≡ map (λ _. with-mark (after [] (m ∷ []) .target)) (driven-at m places)
+pub record Drives-mark (ms : List Move) (places : List ℕ) : Type 0 where
+  pub same-replies : map (replies []) (driven-at ms places) ≡ map (λ _. replies [] ms) (driven-at ms places)
+  pub marks : map (λ x. after [] x .target) (driven-at ms places) ≡ map (λ _. with-mark (after [] ms .target)) (driven-at ms places)
 
 -- the numbers by which step 0 is refused where the target stands at these points (`at-points`), has these
 -- commands under way (`at-commands`) or has this output (`at-outputs`)
@@ -177,10 +177,10 @@ pub record Strobe-corners : Type 0 where
       ≡ 1 ∷ 0 ∷ 0 ∷ 1 ∷ 1 ∷ 1 ∷ replicate 32 0 ++ 1 ∷ id-after 0
   pub data-released : on-reads [] (raw (0 ∷ 3 ∷ 2 ∷ 2 ∷ 2 ∷ replicate 10 0) ++ look ∷ get ∷ []) ≡ 1 ∷ 0x00 ∷ []
   -- Driving any other strobe sets a mark, and the drive has no other effect: START, WAIT, read bits, STOP.
-  pub driven-address-write : Drives-mark (to 7) (0 ∷ 11 ∷ [])
-  pub driven-address-read : Drives-mark look (0 ∷ 3 ∷ 4 ∷ 5 ∷ 6 ∷ 7 ∷ 8 ∷ 9 ∷ 10 ∷ 11 ∷ [])
-  pub driven-data-write : Drives-mark (put 7) (0 ∷ 13 ∷ 14 ∷ [])
-  pub driven-data-read : Drives-mark get (0 ∷ 5 ∷ 6 ∷ 7 ∷ 8 ∷ 9 ∷ 10 ∷ 11 ∷ 12 ∷ 13 ∷ 14 ∷ [])
+  pub driven-address-write : Drives-mark (to 7 ∷ []) (0 ∷ 11 ∷ [])
+  pub driven-address-read : Drives-mark (look ∷ []) (0 ∷ 3 ∷ 4 ∷ 5 ∷ 6 ∷ 7 ∷ 8 ∷ 9 ∷ 10 ∷ 11 ∷ [])
+  pub driven-data-write : Drives-mark (put 7 ∷ []) (0 ∷ 13 ∷ 14 ∷ [])
+  pub driven-data-read : Drives-mark (get ∷ []) (0 ∷ 5 ∷ 6 ∷ 7 ∷ 8 ∷ 9 ∷ 10 ∷ 11 ∷ 12 ∷ 13 ∷ 14 ∷ [])
   -- The same in a later strobe of a WAIT.
   pub driven-waiting : (replies (2 ∷ []) (raw (0 ∷ 2 ∷ 2 ∷ 2 ∷ 2 ∷ 0 ∷ 3 ∷ 0 ∷ replicate 9 0)) ≡ id-after 2)
       × (after (2 ∷ []) (raw (0 ∷ 2 ∷ 2 ∷ 2 ∷ 2 ∷ 0 ∷ 3 ∷ [])) .target .collision ≡ true)
@@ -197,6 +197,11 @@ pub record Length-corners : Type 0 where
       ≡ 1 ∷ 0 ∷ 0 ∷ 1 ∷ 0 ∷ 1 ∷ replicate 16 0 ++ 1 ∷ []
   -- They have a WAIT, and take a delay at it.
   pub takes-a-delay : (after (0 ∷ 0 ∷ []) (long-get 1) .target .place ≡ 1) × (after (0 ∷ 0 ∷ []) (long-put 1) .target .place ≡ 1)
+  -- Driving START, WAIT, a read bit or STOP of them sets the mark too, and has no other effect. Their LENGTH
+  -- and written DATA are the master's to drive.
+  pub driven-long-read : Drives-mark (long-get 1) (0 ∷ 5 ∷ 6 ∷ 13 ∷ 14 ∷ 21 ∷ 22 ∷ [])
+  pub driven-long-write : Drives-mark (long-put 1) (0 ∷ 21 ∷ 22 ∷ [])
+  pub own-long-drive : (after [] (long-get 3) .target .collision ≡ false) × (after [] (long-put 3) .target .collision ≡ false)
   -- They take no output.
   pub takes-no-output : on-reads [] (put 0x08 ∷ long-get 1 ++ look ∷ get ∷ []) ≡ 1 ∷ 0x0d ∷ []
   -- They run to their end and write nothing: a byte put would give a status.

@@ -50,6 +50,9 @@ length-corners =
       reads-zeros-3 = refl;
       reads-zeros-at-fpdat = refl;
       takes-a-delay = (refl, refl);
+      driven-long-read = record { same-replies = refl; marks = refl };
+      driven-long-write = record { same-replies = refl; marks = refl };
+      own-long-drive = (refl, refl);
       takes-no-output = refl;
       writes-nothing-1 = refl;
       writes-nothing-2 = refl;
