@@ -35,14 +35,8 @@ told-left r = remaining-answer (unpacked 20 256 r) .steps
 -- place on
 unfoldable pub hears : Told → (c : Call) → Done c → Told
 hears x (opening r image t first) d =
-    record {
-      held = d .held;
-      first-step = d .answer .step;
-      steps = [];
-      taken = 0;
-      outcome = outcome (d .answer .number);
-      left = told-left (d .held);
-    }
+    let o = outcome (d .answer .number) in
+    record { held = d .held; first-step = d .answer .step; steps = []; taken = 0; outcome = o; left = told-left (d .held) }
 hears x (taking r image rs buffer place) d =
     record {
       held = d .held;

@@ -127,6 +127,7 @@ pub record Touched (flash : ℕ) (file : List ℕ) : Type 0 where
 abbrev pub touched-bytes : (size low high : ℕ) → ℕ
 touched-bytes size low high = high / size * size + size - low / size * size
 
+-- what decides the number of an answer where the lines are right, and how long its image is
 pub record Decided (s : Settings) (room : ℕ) (file : List ℕ) (a : Answer) : Type 0 where
   pub missing-end : a .number ≡ no-end-record ↔ (Ended (s .size * s .count) (lines file) → ⊥)
   pub none-set : Ended (s .size * s .count) (lines file) → a .number ≡ no-data ↔ ((k b : ℕ) → Set (s .size * s .count) file k b → ⊥)

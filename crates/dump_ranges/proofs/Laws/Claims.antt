@@ -89,10 +89,6 @@ more-of n rs = by-test (ltb n (length rs)) more none
         let h = ltb-false n (length rs) t in
         rw t (λ q. absurd (omega arith), λ l. absurd (omega (arith, first-part n rs .all-or-most l)))
 
-pub more-exactly : More-exactly
-unfolding ranges-answer ranges-found more-than
-more-exactly size a b list z = rw z (more-of (length list / 2) (ranges a b))
-
 -- there are no more than are held, as a number
 none-of : (n : ℕ) (rs : List Range) → more-than n (length rs) ≡ 0 ↔ length (take n rs) ≡ length rs
 unfolding more-than
@@ -107,6 +103,10 @@ none-of n rs = by-test (ltb n (length rs)) more none
 pub no-more : No-more
 unfolding ranges-answer ranges-found more-than
 no-more size a b list z = rw z (none-of (length list / 2) (ranges a b))
+
+pub more-exactly : More-exactly
+unfolding ranges-answer ranges-found more-than
+more-exactly size a b list z = rw z (more-of (length list / 2) (ranges a b))
 
 pub accepted-zero : Accepted-zero
 unfolding ranges-answer ranges-found first-answer first-found
