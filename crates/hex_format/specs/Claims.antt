@@ -115,17 +115,17 @@ No-fault =
 
 -- the first and the last address that lines set
 pub record Touched (flash : ℕ) (file : List ℕ) : Type 0 where
-  pub low : ℕ
-  pub low-byte : ℕ
-  pub low-set : Set flash file low low-byte
-  pub high : ℕ
-  pub high-byte : ℕ
-  pub high-set : Set flash file high high-byte
-  pub between : (k b : ℕ) → Set flash file k b → (low ≤ k) × (k ≤ high)
+  pub least : ℕ
+  pub least-byte : ℕ
+  pub least-set : Set flash file least least-byte
+  pub greatest : ℕ
+  pub greatest-byte : ℕ
+  pub greatest-set : Set flash file greatest greatest-byte
+  pub between : (k b : ℕ) → Set flash file k b → (least ≤ k) × (k ≤ greatest)
 
 -- the image's length: from the start of the first touched page to the end of the last one
-abbrev pub touched-bytes : (size low high : ℕ) → ℕ
-touched-bytes size low high = high / size * size + size - low / size * size
+abbrev pub touched-bytes : (size least greatest : ℕ) → ℕ
+touched-bytes size least greatest = greatest / size * size + size - least / size * size
 
 -- what decides the number of an answer where the lines are right, and how long its image is
 pub record Decided (s : Settings) (room : ℕ) (file : List ℕ) (a : Answer) : Type 0 where
@@ -133,10 +133,11 @@ pub record Decided (s : Settings) (room : ℕ) (file : List ℕ) (a : Answer) : 
   pub none-set : Ended (s .size * s .count) (lines file) → a .number ≡ no-data ↔ ((k b : ℕ) → Set (s .size * s .count) file k b → ⊥)
   pub touches : (k b : ℕ) → Set (s .size * s .count) file k b → Touched (s .size * s .count) file
   pub too-small : Ended (s .size * s .count) (lines file) → (t : Touched (s .size * s .count) file)
-      → a .number ≡ buffer-too-small ↔ room < touched-bytes (s .size) (t .low) (t .high)
+      → a .number ≡ buffer-too-small ↔ room < touched-bytes (s .size) (t .least) (t .greatest)
   pub file-accepted : Ended (s .size * s .count) (lines file) → (t : Touched (s .size * s .count) file)
-      → a .number ≡ 0 ↔ touched-bytes (s .size) (t .low) (t .high) ≤ room
-  pub image-bytes : a .number ≡ 0 → (t : Touched (s .size * s .count) file) → length (a .image) ≡ touched-bytes (s .size) (t .low) (t .high)
+      → a .number ≡ 0 ↔ touched-bytes (s .size) (t .least) (t .greatest) ≤ room
+  pub image-bytes : a .number ≡ 0 → (t : Touched (s .size * s .count) file)
+      → length (a .image) ≡ touched-bytes (s .size) (t .least) (t .greatest)
 
 abbrev pub Answered-exactly : Type 0
 Answered-exactly =

@@ -79,12 +79,12 @@ module _ (s : Settings) (room : ℕ) (file : List ℕ) (ok : settings-refusal s 
   touched some =
       let p = past-there F some in
       record {
-        low = first-set F;
-        low-byte = cell F (first-set F);
-        low-set = set-there (first-set F) (first-there F some);
-        high = past-set F - 1;
-        high-byte = cell F (past-set F - 1);
-        high-set = set-there (past-set F - 1) (p .1);
+        least = first-set F;
+        least-byte = cell F (first-set F);
+        least-set = set-there (first-set F) (first-there F some);
+        greatest = past-set F - 1;
+        greatest-byte = cell F (past-set F - 1);
+        greatest-set = set-there (past-set F - 1) (p .1);
         between = λ k b c.
             let x = set-from F k (is-set k b c) in
             let y = set-below F k (is-set k b c) in
@@ -98,15 +98,15 @@ module _ (s : Settings) (room : ℕ) (file : List ℕ) (ok : settings-refusal s 
   abbrev n : ℕ
   n = (past-set F - 1) / s .size * s .size + s .size - first-set F / s .size * s .size
 
-  same-span : all-unset F ≡ false → (t : Touched flash file) → touched-bytes (s .size) (t .low) (t .high) ≡ n
+  same-span : all-unset F ≡ false → (t : Touched flash file) → touched-bytes (s .size) (t .least) (t .greatest) ≡ n
   same-span some t =
       let p = past-there F some in
-      let x = set-from F (t .low) (is-set (t .low) (t .low-byte) (t .low-set)) in
-      let y = set-below F (t .high) (is-set (t .high) (t .high-byte) (t .high-set)) in
+      let x = set-from F (t .least) (is-set (t .least) (t .least-byte) (t .least-set)) in
+      let y = set-below F (t .greatest) (is-set (t .greatest) (t .greatest-byte) (t .greatest-set)) in
       let u = t .between (first-set F) (cell F (first-set F)) (set-there (first-set F) (first-there F some)) in
       let v = t .between (past-set F - 1) (cell F (past-set F - 1)) (set-there (past-set F - 1) (p .1)) in
-      let low : t .low ≡ first-set F = omega (arith, u .0, x) in
-      let high : t .high ≡ past-set F - 1 = omega (arith, v .1, y) in
+      let low : t .least ≡ first-set F = omega (arith, u .0, x) in
+      let high : t .greatest ≡ past-set F - 1 = omega (arith, v .1, y) in
       λ i. touched-bytes (s .size) (low i) (high i)
 
   -- no end record
@@ -142,8 +142,8 @@ module _ (s : Settings) (room : ℕ) (file : List ℕ) (ok : settings-refusal s 
           missing-end = (λ y. absurd (omega (arith, y, z)), λ f. absurd (f d));
           none-set = λ _. (λ _. q, λ _. z);
           touches = touches;
-          too-small = λ _ t. absurd (q (t .low) (t .low-byte) (t .low-set));
-          file-accepted = λ _ t. absurd (q (t .low) (t .low-byte) (t .low-set));
+          too-small = λ _ t. absurd (q (t .least) (t .least-byte) (t .least-set));
+          file-accepted = λ _ t. absurd (q (t .least) (t .least-byte) (t .least-set));
           image-bytes = λ y. absurd (omega (arith, y, z));
         }
 
