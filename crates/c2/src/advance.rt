@@ -4,7 +4,7 @@ ghost use mathlib.Core.List.{_++_};
 ghost use Prim.Native.Nat.{_≤_};
 ghost use lib.ListN.{length, drop};
 ghost use Rattle.c2_outcome.specs.Outcome.{number-of, offset-of};
-ghost use Rattle.exchange.specs.Calls.{done};
+ghost use Rattle.exchange.specs.Calls.{call-done};
 ghost use Rattle.c2_calls.specs.Calls.{taking, refused-answer};
 ghost use Rattle.c2_calls.specs.Family.{C2};
 ghost use Rattle.c2.specs.Code.Loop.{ran, wrote};
@@ -84,9 +84,9 @@ pub extern "C" fn c2_advance(
     steps: &mut [u8],
     place: usize,
 ) -> Advanced
-    ensures { λ r. ⌜ r ≡ done C2 (taking (now (held .entry)) (now (image .entry)) (now (replies .entry)) (now (steps .entry)) place) .answer ⌝ }
-    ensures { λ _. ⌜ now (steps .exit) ≡ done C2 (taking (now (held .entry)) (now (image .entry)) (now (replies .entry)) (now (steps .entry)) place) .steps ⌝ }
-    ensures { λ _. ⌜ now (held .exit) ≡ done C2 (taking (now (held .entry)) (now (image .entry)) (now (replies .entry)) (now (steps .entry)) place) .held ⌝ }
+    ensures { λ r. ⌜ r ≡ call-done C2 (taking (now (held .entry)) (now (image .entry)) (now (replies .entry)) (now (steps .entry)) place) .answer ⌝ }
+    ensures { λ _. ⌜ now (steps .exit) ≡ call-done C2 (taking (now (held .entry)) (now (image .entry)) (now (replies .entry)) (now (steps .entry)) place) .steps ⌝ }
+    ensures { λ _. ⌜ now (held .exit) ≡ call-done C2 (taking (now (held .entry)) (now (image .entry)) (now (replies .entry)) (now (steps .entry)) place) .held ⌝ }
 {
     let Unpacked::Held(s) = c2_record::unpack(held) else {
         return refused(BAD_RECORD);

@@ -1,6 +1,6 @@
 // The call that tells how much is left.
 ghost use mathlib.Core.Path.{_≡_};
-ghost use Rattle.exchange.specs.Calls.{done};
+ghost use Rattle.exchange.specs.Calls.{call-done};
 ghost use Rattle.c2_calls.specs.Calls.{asking};
 ghost use Rattle.c2_calls.specs.Family.{C2};
 use c2_calls::Remaining;
@@ -12,7 +12,7 @@ use numbers::BAD_RECORD;
 // and 0.
 #[no_mangle]
 pub extern "C" fn c2_steps_left(held: &[u8]) -> Remaining
-    ensures { λ r. ⌜ r ≡ done C2 (asking (now (held .entry))) ⌝ }
+    ensures { λ r. ⌜ r ≡ call-done C2 (asking (now (held .entry))) ⌝ }
 {
     let Unpacked::Held(s) = c2_record::unpack(held) else {
         return Remaining {

@@ -1,6 +1,6 @@
 // The call that opens a session.
 ghost use mathlib.Core.Path.{_≡_};
-ghost use Rattle.exchange.specs.Calls.{done};
+ghost use Rattle.exchange.specs.Calls.{call-done};
 ghost use Rattle.c2_calls.specs.Calls.{opening};
 ghost use Rattle.c2_calls.specs.Family.{C2};
 use c2_calls::Opened;
@@ -20,8 +20,8 @@ const NO_STEP: u32 = OFF as u32;
 // first, then 1 to 5, in this order; a refused opening changes no byte.
 #[no_mangle]
 pub extern "C" fn c2_open(held: &mut [u8], image: &[u8], t: Settings, first: u32) -> Opened
-    ensures { λ r. ⌜ r ≡ done C2 (opening (now (held .entry)) (now (image .entry)) t first) .answer ⌝ }
-    ensures { λ _. ⌜ now (held .exit) ≡ done C2 (opening (now (held .entry)) (now (image .entry)) t first) .held ⌝ }
+    ensures { λ r. ⌜ r ≡ call-done C2 (opening (now (held .entry)) (now (image .entry)) t first) .answer ⌝ }
+    ensures { λ _. ⌜ now (held .exit) ≡ call-done C2 (opening (now (held .entry)) (now (image .entry)) t first) .held ⌝ }
 {
     if held.len() != RECORD_BYTES {
         return Opened {

@@ -102,7 +102,8 @@ blank s = replicate (image-length s) 0
 -- what a question is answered: the session's number, and the figure of the most steps to come; 6 and 0 for a
 -- bad record
 abbrev pub remaining-answer : Unpacked → Remaining
-remaining-answer (Held s) = record { number = outcome-of (exchange-at s (blank s)) .number; steps = figure session-limits (position s (blank s)) }
+remaining-answer (Held s) =
+    record { number = outcome-of (exchange-at s (blank s)) .number; steps = figure session-limits (position s (blank s)) }
 remaining-answer Refused = record { number = bad-record; steps = 0 }
 
 -- what an accepted call does: an opening gives its first step, 4, and leaves the new session's record

@@ -9,7 +9,7 @@ use mathlib.Core.Logic.{_↔_, _⊎_}
 use Prim.Native.Nat.{ℕ, _+_, _/_, _<_, _≤_}
 use lib.ListN.{length}
 use Rattle.numbers.specs.Numbers.{running}
-use Rattle.c2_wire.specs.Bits.{Bytes}
+use Rattle.laws.specs.Bytes.{Bytes}
 use Rattle.c2_wire.specs.Step.{off, code}
 use Rattle.c2_wire.specs.Exchange.{fed, asks, outcome-of, own}
 use Rattle.settings.specs.declared.Settings.{Settings}
@@ -28,7 +28,7 @@ use Rattle.c2_position.specs.Claims.{Placed}
 use Rattle.c2_record.specs.declared.Unpacked.the-variants.{Held}
 use Rattle.c2_record.specs.Record.{packed, unpacked}
 use Rattle.c2_opening.specs.Opened.{opened-session, image-length, exchange-at, session-fed}
-use Rattle.exchange.specs.Calls.{done}
+use Rattle.exchange.specs.Calls.{call-done}
 use Rattle.c2_calls.specs.declared.Opened.{Opened}
 use Rattle.c2_calls.specs.Calls.{Call, opening, taking, asking, refusal, Done, blank}
 use Rattle.c2_calls.specs.Family.{C2, told-left, session-after}
@@ -44,7 +44,7 @@ Changes-nothing (asking r) n d = (d .number ≡ n) × (d .steps ≡ 0)
 
 -- Whatever a call is lent: where the rules give it a number, that is its answer, and it changes nothing.
 abbrev pub Refused-keeps : Type 0
-Refused-keeps = (c : Call) → (refusal c ≡ 0 → ⊥) → Changes-nothing c (refusal c) (done C2 c)
+Refused-keeps = (c : Call) → (refusal c ≡ 0 → ⊥) → Changes-nothing c (refusal c) (call-done C2 c)
 
 -- What an opening answers: the number 0, running, and the first step of the session's exchange.
 pub record First-asked (t : Settings) (first : ℕ) (image : List ℕ) (answer : Opened) : Type 0 where
@@ -54,7 +54,7 @@ pub record First-asked (t : Settings) (first : ℕ) (image : List ℕ) (answer :
 -- Every accepted opening answers so.
 abbrev pub Opening-answers : Type 0
 Opening-answers = (held image : List ℕ) (t : Settings) (first : ℕ) → refusal (opening held image t first) ≡ 0
-    → First-asked t first image (done C2 (opening held image t first) .answer)
+    → First-asked t first image (call-done C2 (opening held image t first) .answer)
 
 -- The session that was opened, after replies: its settings and pages are those of the opening; its record is
 -- taken and holds it, with the image of the opening; it stands at the point of the order that the replies
@@ -101,7 +101,8 @@ pub record Follows-on (s : Session) (image replies : List ℕ) : Type 0 where
 -- Whatever record a call takes, ours or not: its session, lent an image of its length, goes on so after any
 -- replies.
 abbrev pub Held-follows : Type 0
-Held-follows = (r : List ℕ) (s : Session) (image replies : List ℕ) → unpacked 20 256 r ≡ Held s → Bytes image → length image ≡ image-length s
+Held-follows = (r : List ℕ) (s : Session) (image replies : List ℕ) → unpacked 20 256 r ≡ Held s → Bytes image
+    → length image ≡ image-length s
     → Follows-on s image replies
 
 -- Whatever record a call takes: its session, if it runs, lent an image of its length, still runs after any
@@ -118,7 +119,7 @@ Figure-of-any = (s : Session) (image : List ℕ) → in-range 20 256 s ≡ true 
 
 -- the figure that a question answers, lent this record
 abbrev pub figure-told : (held : List ℕ) → ℕ
-figure-told r = done C2 (asking r) .steps
+figure-told r = call-done C2 (asking r) .steps
 
 -- Whatever the record, the most steps to come that a driver has is what a question would answer.
 abbrev pub Left-as-asked : Type 0
@@ -126,10 +127,11 @@ Left-as-asked = (r : List ℕ) → told-left r ≡ figure-told r
 
 -- Whatever the record, the figure told is 0 exactly if the number told is not 0, running.
 abbrev pub Told-zero : Type 0
-Told-zero = (r : List ℕ) → figure-told r ≡ 0 ↔ (done C2 (asking r) .number ≡ running → ⊥)
+Told-zero = (r : List ℕ) → figure-told r ≡ 0 ↔ (call-done C2 (asking r) .number ≡ running → ⊥)
 
 -- Whatever the record, a call that takes replies lowers the figure told by at least the replies taken.
 abbrev pub Told-falls : Type 0
 Told-falls = (r image replies buffer : List ℕ) (place : ℕ) → Bytes image
-    → figure-told (done C2 (taking r image replies buffer place) .held) + done C2 (taking r image replies buffer place) .answer .taken
+    → figure-told (call-done C2 (taking r image replies buffer place) .held)
+    + call-done C2 (taking r image replies buffer place) .answer .taken
     ≤ figure-told r

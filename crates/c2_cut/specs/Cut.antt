@@ -35,7 +35,8 @@ Read-back l s ps own n i = Over l s (take (suc i) ps) (take n own)
 -- named is as before; one whose read-back has ended holds its image; one not yet begun is as before; at most
 -- one is begun and its read-back not ended.
 pub record Cut (l : Limits) (s : Settings) (ps : List Page) (own : List ℕ) (n : ℕ) (f F : List ℕ) : Type 0 where
-  pub unnamed : (q : ℕ) → q < s .count → ((i : ℕ) (p : Page) → At ps i p → p .number ≡ q → ⊥) → page-of (s .size) q F ≡ page-of (s .size) q f
+  pub unnamed : (q : ℕ) → q < s .count → ((i : ℕ) (p : Page) → At ps i p → p .number ≡ q → ⊥)
+      → page-of (s .size) q F ≡ page-of (s .size) q f
   pub read-back : (i : ℕ) (p : Page) → At ps i p → Read-back l s ps own n i → page-of (s .size) (p .number) F ≡ p .bytes
   pub waiting : (i : ℕ) (p : Page) → At ps i p → (Begun l s ps own n i → ⊥) → page-of (s .size) (p .number) F ≡ page-of (s .size) (p .number) f
   pub one : (i j : ℕ) (p q : Page) → At ps i p → At ps j q → Begun l s ps own n i → (Read-back l s ps own n i → ⊥)

@@ -5,7 +5,7 @@ use mathlib.Core.Bool.{true}
 use mathlib.Core.List.{List, [], _∷_, _++_}
 use Prim.Native.Nat.{ℕ, zero, suc}
 use lib.ListN.{length, replicate}
-use Rattle.c2_wire.specs.Bits.{Bytes}
+use Rattle.laws.specs.Bytes.{Bytes}
 use Rattle.c2_wire.specs.Exchange.{outcome, asks, steps, fed, outcome-of}
 use Rattle.c2_order.specs.Acts.{Act, poll, expect, address-write, data-write, input-taken, output-ready, length-code, coded-length}
 use Rattle.c2_order.specs.Order.{session-order}
@@ -67,7 +67,8 @@ table page device =
     -- P8: the 20th zero refuses
     row (number-after (data-write 0) (replicate 13 1 ++ replicate 20 0) ∷ []) (10 ∷ []) ∷
     -- P9: a poll satisfied at its 256th read passes, for InBusy 0 and for OutReady 1
-    row (number-after (poll input-taken) (times 255 reads-2 ++ reads-0) ∷ number-after (poll output-ready) (times 255 reads-0 ++ reads-1) ∷ []) (32 ∷ 32 ∷ []) ∷
+    row (number-after (poll input-taken) (times 255 reads-2 ++ reads-0)
+    ∷ number-after (poll output-ready) (times 255 reads-0 ++ reads-1) ∷ []) (32 ∷ 32 ∷ []) ∷
     -- P10: the 256th unsatisfied read refuses
     row (number-after (poll input-taken) (times 256 reads-2) ∷ number-after (poll output-ready) (times 256 reads-0) ∷ []) (11 ∷ 11 ∷ []) ∷
     -- P11: one page of 512

@@ -40,15 +40,19 @@ abbrev pub play : Setup → Exchange → Target → List ℕ → Played
 play u e t f = against (whole-step u) e t f
 
 -- The steps that the replies taken answer: the first, and each that was written but the last.
-unfoldable pub answered : Exchange → (replies : List ℕ) → List ℕ
-answered e rs = take (taken e rs) (asks e ∷ steps e rs)
+unfoldable pub answered-steps : Exchange → (replies : List ℕ) → List ℕ
+answered-steps e rs = take (taken e rs) (asks e ∷ steps e rs)
 
 -- Each reply taken is the target's own to the step before.
 abbrev pub Own-replies : Setup → Target → List ℕ → Exchange → (replies : List ℕ) → Type 0
-Own-replies u t f e rs = take (taken e rs) rs ≡ own-replies u t f (answered e rs)
+Own-replies u t f e rs = take (taken e rs) rs ≡ own-replies u t f (answered-steps e rs)
 
 -- How an exchange stands after replies, with the target and the flash as the steps that they answer have left
 -- them.
 abbrev pub played-after : Setup → Exchange → Target → List ℕ → (replies : List ℕ) → Played
 played-after u e t f rs =
-    record { outcome = outcome-of (fed e rs); target = left-by u t f (answered e rs) .target; flash = left-by u t f (answered e rs) .flash }
+    record {
+      outcome = outcome-of (fed e rs);
+      target = left-by u t f (answered-steps e rs) .target;
+      flash = left-by u t f (answered-steps e rs) .flash;
+    }

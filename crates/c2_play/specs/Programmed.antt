@@ -5,7 +5,7 @@ use mathlib.Core.List.{List, [], _++_}
 use Prim.Native.Nat.{ℕ, _+_, _*_, _/_, _≤_}
 use lib.ListN.{length, take, drop}
 use Rattle.numbers.specs.Numbers.{done}
-use Rattle.c2_wire.specs.Bits.{Bytes}
+use Rattle.laws.specs.Bytes.{Bytes}
 use Rattle.c2_wire.specs.Exchange.{outcome}
 use Rattle.c2_order.specs.Order.{session-order}
 use Rattle.settings.specs.declared.Settings.{Settings}

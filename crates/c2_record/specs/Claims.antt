@@ -6,7 +6,7 @@ use mathlib.Core.List.{List}
 use mathlib.Core.Logic.{_↔_}
 use Prim.Native.Nat.{ℕ, _<_, _≤_}
 use lib.ListN.{length}
-use Rattle.c2_wire.specs.Bits.{Bytes}
+use Rattle.laws.specs.Bytes.{Bytes}
 use Rattle.c2_session.specs.declared.Session.{Session}
 use Rattle.c2_range.specs.Range.{in-range}
 use Rattle.c2_record.specs.declared.Unpacked.the-variants.{Held, Refused}
@@ -26,12 +26,12 @@ pub record Small (wait-limit poll-limit : ℕ) : Type 0 where
   pub poll : poll-limit ≤ 256
 
 -- A record is 32 bytes.
-pub record Whole (r : List ℕ) : Type 0 where
+pub record Whole-record (r : List ℕ) : Type 0 where
   pub size : length r ≡ 32
   pub bytes : Bytes r
 
 abbrev pub Packed-whole : Type 0
-Packed-whole = (s : Session) → Whole (packed s)
+Packed-whole = (s : Session) → Whole-record (packed s)
 
 -- Packing a session in range and unpacking gives that session back.
 abbrev pub Pack-unpack : Type 0

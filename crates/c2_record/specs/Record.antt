@@ -5,6 +5,7 @@ use mathlib.Core.List.{List, [], _∷_}
 use Prim.Native.Nat.{ℕ, _+_, _*_, _/_, _%_}
 use lib.Dec.{eqb}
 use lib.ListN.{getD}
+use Rattle.laws.specs.Bytes.{low}
 use Rattle.settings.specs.declared.Settings.{Settings}
 use Rattle.c2_acts.specs.declared.Stage.{Stage}
 use Rattle.c2_acts.specs.declared.Stage.the-variants.{Lead, Erase, Write, Read, Close}
@@ -35,10 +36,7 @@ fields-of (Running g i j k q c v) =
 fields-of (Ended n o) =
     record { number = n; offset = o; stage = 0; page = 0; block = 0; act = 0; strobe = 0; count = 0; bits = 0 }
 
--- a field of one byte (`low`); a field of two bytes has its low byte first, then its high byte (`high`)
-abbrev pub low : ℕ → ℕ
-low x = x % 256
-
+-- A field of one byte is kept to it (`low`); one of two bytes has its low byte first, then its high one.
 abbrev pub high : ℕ → ℕ
 high x = x / 256 % 256
 

@@ -2,7 +2,7 @@
 ghost use mathlib.Core.Path.{_≡_};
 ghost use Prim.Native.Nat.{_+_, _≤_};
 ghost use lib.ListN.{length};
-ghost use Rattle.c2_record.specs.Code.Spare.{four, zeros, unused, spare};
+ghost use Rattle.c2_record.specs.Code.Spare.{four, all-zero, unused, spare};
 use crate::LAST_EIGHT;
 use crate::NUMBER;
 use crate::OFFSET;
@@ -21,7 +21,7 @@ fn four(a: u8, b: u8, c: u8, d: u8) -> u32
 // Whether the eight bytes from this one on are 0.
 fn zeros(r: &[u8], i: usize) -> bool
     requires { ⌜ i + 8 ≤ length (now r) ⌝ }
-    ensures { λ q. ⌜ q ≡ zeros (now (r .entry)) i ⌝ }
+    ensures { λ q. ⌜ q ≡ all-zero (now (r .entry)) i ⌝ }
 {
     if four(r[i], r[i + 1], r[i + 2], r[i + 3]) == 0 {
         return four(r[i + 4], r[i + 5], r[i + 6], r[i + 7]) == 0;

@@ -4,7 +4,7 @@ use mathlib.Core.List.{List}
 use Prim.Native.Nat.{ℕ, _+_, _*_, _/_}
 use lib.ListN.{length}
 use Rattle.numbers.specs.Numbers.{done}
-use Rattle.c2_wire.specs.Bits.{Bytes}
+use Rattle.laws.specs.Bytes.{Bytes}
 use Rattle.c2_report.specs.Report.{image-refusal, reported}
 
 -- An image that is not refused is programmed: 32, done, after 76 replies and 28,518 a page.

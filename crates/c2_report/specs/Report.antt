@@ -17,28 +17,32 @@ use Rattle.c2_play.specs.Playing.{run-replies, whole-step, play}
 use Rattle.c2_report.specs.declared.Report.{Report}
 
 -- ID 0x04, FPDAT 0xB4, 32 pages of 512
-abbrev pub device : Settings
-device = record { id = 0x04; fpdat = 0xb4; size = 512; count = 32 }
+abbrev pub program-device : Settings
+program-device = record { id = 0x04; fpdat = 0xb4; size = 512; count = 32 }
 
--- the device without delays (`plain`), and its flash, all 0 (`blank`)
-abbrev pub plain : Setup
-plain = setup device []
+-- the device without delays (`no-delays`), and its flash, all 0 (`zero-flash`)
+abbrev pub no-delays : Setup
+no-delays = setup program-device []
 
-abbrev pub blank : List ℕ
-blank = replicate 16384 0
+abbrev pub zero-flash : List ℕ
+zero-flash = replicate 16384 0
 
 -- the exchange of a session over the image, from page 0
 abbrev pub from-page-0 : (image : List ℕ) → Exchange
-from-page-0 image = exchange-of session-limits device 0 image
+from-page-0 image = exchange-of session-limits program-device 0 image
 
 -- The number by which an image is refused, or 0: as an opening refuses it, and above 16,384 bytes by 5.
 unfoldable pub image-refusal : (image : List ℕ) → ℕ
-image-refusal image = cond (ltb 16384 (length image)) past-last-page (opening-refusal device 0 (length image))
+image-refusal image = cond (ltb 16384 (length image)) past-last-page (opening-refusal program-device 0 (length image))
 
 -- Pages, replies and outcome; a refusal has pages 0, replies 0 and its number.
 unfoldable pub reported : (image : List ℕ) → Report
 reported image =
     let e = from-page-0 image in
     cond (eqb (image-refusal image) 0)
-    (record { pages = length image / 512; replies = length (run-replies (whole-step plain) e fresh blank); outcome = play plain e fresh blank .outcome .number })
+    (record {
+      pages = length image / 512;
+      replies = length (run-replies (whole-step no-delays) e fresh zero-flash);
+      outcome = play no-delays e fresh zero-flash .outcome .number;
+    })
     (record { pages = 0; replies = 0; outcome = image-refusal image })

@@ -1,6 +1,6 @@
 // What the program says of an image: a fresh modelled target is programmed with it from page 0.
 ghost use mathlib.Core.Path.{_≡_};
-ghost use Rattle.c2_report.specs.Report.{device, reported};
+ghost use Rattle.c2_report.specs.Report.{program-device, reported};
 use c2_run::c2_program;
 use numbers::PAST_LAST_PAGE;
 use numbers::RUNNING;
@@ -19,7 +19,7 @@ const PAGE: usize = 512;
 const FLASH: usize = 16384;
 
 fn device() -> Settings
-    ensures { λ r. ⌜ r ≡ device ⌝ }
+    ensures { λ r. ⌜ r ≡ program-device ⌝ }
 {
     Settings {
         id: 0x04,

@@ -5,7 +5,7 @@ use mathlib.Core.List.{List}
 use Prim.Native.Nat.{ℕ, _*_, _≤_}
 use lib.ListN.{length}
 use Rattle.numbers.specs.Numbers.{done}
-use Rattle.c2_wire.specs.Bits.{Bytes}
+use Rattle.laws.specs.Bytes.{Bytes}
 use Rattle.settings.specs.declared.Settings.{Settings}
 use Rattle.c2_order.specs.Order.{session-order}
 use Rattle.c2_order.specs.Conversation.{session-limits}
@@ -23,5 +23,6 @@ pub record Ran-well (t : Settings) (first : ℕ) (image f ds : List ℕ) (budget
   pub holds : run-flash t first image f ds budget ≡ laid-over (first * t .size) image f
 
 abbrev pub Runs-program : Type 0
-Runs-program = (t : Settings) (first : ℕ) (image f ds : List ℕ) (budget : ℕ) → Opening t first image → length f ≡ t .size * t .count → Bytes f → Bytes ds
+Runs-program = (t : Settings) (first : ℕ) (image f ds : List ℕ) (budget : ℕ) → Opening t first image → length f ≡ t .size * t .count
+    → Bytes f → Bytes ds
     → figure session-limits (begin (session-order t first image)) ≤ budget → Ran-well t first image f ds budget

@@ -38,7 +38,8 @@ played (suc n) u (ask (at g x) k) y f =
 -- the number by which a run is refused: 1 to 5, then 17
 unfoldable pub run-refusal : Settings → (first : ℕ) → (image flash : List ℕ) → ℕ
 run-refusal t first image f =
-    cond (eqb (opening-refusal t first (length image)) 0) (cond (eqb (length f) (t .size * t .count)) 0 no-point) (opening-refusal t first (length image))
+    cond (eqb (opening-refusal t first (length image)) 0) (cond (eqb (length f) (t .size * t .count)) 0 no-point)
+    (opening-refusal t first (length image))
 
 -- the exchange of the session's order against a fresh target
 unfoldable pub run : Settings → (first : ℕ) → (image flash delays : List ℕ) → (budget : ℕ) → Left
@@ -50,7 +51,12 @@ unfoldable pub run-answer : Settings → (first : ℕ) → (image flash delays :
 run-answer t first image f ds n =
     let x = run t first image f ds n in
     cond (eqb (run-refusal t first image f) 0)
-    (record { number = outcome-of (x .exchange) .number; offset = outcome-of (x .exchange) .offset; replies = x .replies; collision = x .target .collision })
+    (record {
+      number = outcome-of (x .exchange) .number;
+      offset = outcome-of (x .exchange) .offset;
+      replies = x .replies;
+      collision = x .target .collision;
+    })
     (record { number = run-refusal t first image f; offset = 0; replies = 0; collision = false })
 
 unfoldable pub run-flash : Settings → (first : ℕ) → (image flash delays : List ℕ) → (budget : ℕ) → List ℕ

@@ -1,6 +1,6 @@
 // The session after a reply.
 ghost use mathlib.Core.Path.{_≡_};
-ghost use Rattle.c2_session.specs.Code.Next.{at};
+ghost use Rattle.c2_session.specs.Code.Next.{act-at};
 ghost use Rattle.c2_session.specs.Code.Advance.{task-taken, replied-by, point-advanced, advanced, point-advanced-by, advanced-by};
 use crate::At;
 use crate::Point;

@@ -2,7 +2,7 @@
 ghost use mathlib.Core.Path.{_≡_};
 ghost use Prim.Native.Nat.{_+_, _*_, _%_, _<_};
 ghost use Rattle.c2_session.specs.Code.Bytes.{block-offset, high-byte, lead-byte, erase-byte, block-byte, image-byte, sent-offset, compared-offset, write-byte, stage-byte};
-ghost use Rattle.c2_session.specs.Code.Next.{at};
+ghost use Rattle.c2_session.specs.Code.Next.{act-at};
 use crate::At;
 use crate::Session;
 use c2_acts::BLOCK_BODY;

@@ -1,6 +1,6 @@
 // The step that the session waits at.
 ghost use mathlib.Core.Path.{_≡_};
-ghost use Rattle.c2_session.specs.Code.Next.{at};
+ghost use Rattle.c2_session.specs.Code.Next.{act-at};
 ghost use Rattle.c2_session.specs.Code.Step.{alone, task-frame, task-sends, task-byte, task-step, point-step, session-step, point-step-by, step-by};
 use crate::At;
 use crate::Point;

@@ -22,13 +22,13 @@ unfoldable pub stored : (address byte : ℕ) → List ℕ → List ℕ
 stored a b f = set f a (bitAnd (getD f a 0) b)
 
 -- What a byte put makes of the command, of the output and of the flash.
-pub record Taken : Type 0 where
+pub record Put-taken : Type 0 where
   pub command : Command
   pub output : Output
   pub flash : List ℕ
 
-abbrev pub taken : Command → Output → List ℕ → Taken
-taken c o f = record { command = c; output = o; flash = f }
+abbrev pub put-taken : Command → Output → List ℕ → Put-taken
+put-taken c o f = record { command = c; output = o; flash = f }
 
 -- the status 0x0D, as output
 abbrev pub passed : Output
@@ -43,31 +43,31 @@ unfoldable pub in-flash : (address count : ℕ) → List ℕ → Bool
 in-flash a n f = leb (a + n) (length f)
 
 -- what the first byte of a command does: three commands are known; any other byte gives status 0x00
-unfoldable pub opens : (byte : ℕ) → List ℕ → Taken
+unfoldable pub opens : (byte : ℕ) → List ℕ → Put-taken
 opens b f =
-    cond (eqb b 0x08) (taken ErasePage passed f)
-    (cond (eqb b 0x07) (taken (High true) passed f)
-    (cond (eqb b 0x06) (taken (High false) passed f)
-    (taken Ready failed f)))
+    cond (eqb b 0x08) (put-taken ErasePage passed f)
+    (cond (eqb b 0x07) (put-taken (High true) passed f)
+    (cond (eqb b 0x06) (put-taken (High false) passed f)
+    (put-taken Ready failed f)))
 
 -- A byte put is the command's next byte. Output comes where the maker's note has a status; where the status
 -- is 0x00 the command ends.
-unfoldable pub takes : Settings → Command → (byte : ℕ) → List ℕ → Taken
-takes s Ready b f = opens b f
+unfoldable pub takes-put : Settings → Command → (byte : ℕ) → List ℕ → Put-taken
+takes-put s Ready b f = opens b f
 -- a page past the end
-takes s ErasePage b f = cond (ltb b (s .count)) (taken (EraseConfirm b) passed f) (taken Ready failed f)
+takes-put s ErasePage b f = cond (ltb b (s .count)) (put-taken (EraseConfirm b) passed f) (put-taken Ready failed f)
 -- the page is erased at the put of 0x00
-takes s (EraseConfirm p) b f = cond (eqb b 0x00) (taken Ready passed (erased (s .size) p f)) (taken Ready failed f)
-takes s (High w) b f = taken (Low w b) Empty f
-takes s (Low w h) b f = taken (LengthCode w (h * 256 + b)) Empty f
+takes-put s (EraseConfirm p) b f = cond (eqb b 0x00) (put-taken Ready passed (erased (s .size) p f)) (put-taken Ready failed f)
+takes-put s (High w) b f = put-taken (Low w b) Empty f
+takes-put s (Low w h) b f = put-taken (LengthCode w (h * 256 + b)) Empty f
 -- a block past the end: the bytes of a block write are first taken
-takes s (LengthCode true a) b f =
-    taken (cond (in-flash a (coded-length b) f) (Byte a (coded-length b)) (PastEnd (coded-length b))) Empty f
-takes s (LengthCode false a) b f =
-    taken Ready (cond (in-flash a (coded-length b) f) (StatusBlock a (coded-length b)) failed) f
+takes-put s (LengthCode true a) b f =
+    put-taken (cond (in-flash a (coded-length b) f) (Byte a (coded-length b)) (PastEnd (coded-length b))) Empty f
+takes-put s (LengthCode false a) b f =
+    put-taken Ready (cond (in-flash a (coded-length b) f) (StatusBlock a (coded-length b)) failed) f
 -- each byte of a block write is written at its put, and the status follows the last
-takes s (Byte a n) b f = taken (cond (ltb 1 n) (Byte (a + 1) (n - 1)) Ready) (cond (ltb 1 n) Empty passed) (stored a b f)
-takes s (PastEnd n) b f = taken (cond (ltb 1 n) (PastEnd (n - 1)) Ready) (cond (ltb 1 n) Empty failed) f
+takes-put s (Byte a n) b f = put-taken (cond (ltb 1 n) (Byte (a + 1) (n - 1)) Ready) (cond (ltb 1 n) Empty passed) (stored a b f)
+takes-put s (PastEnd n) b f = put-taken (cond (ltb 1 n) (PastEnd (n - 1)) Ready) (cond (ltb 1 n) Empty failed) f
 
 -- whether there is output to be read
 unfoldable pub some-output : Output → Bool

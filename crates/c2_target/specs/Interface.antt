@@ -13,7 +13,7 @@ use Rattle.c2_target.specs.declared.Effect.the-variants.{Nothing, SetAdd
 use Rattle.c2_target.specs.declared.Link.{Link}
 use Rattle.c2_target.specs.declared.Device.{Device}
 use Rattle.c2_target.specs.Delays.{Setup, delay, next-place}
-use Rattle.c2_target.specs.Commands.{takes, some-output, first-byte, other-bytes}
+use Rattle.c2_target.specs.Commands.{takes-put, some-output, first-byte, other-bytes}
 
 abbrev pub link : Command → Output → (busy late : ℕ) → Link
 link c o d e = record { command = c; output = o; busy = d; late = e }
@@ -67,7 +67,7 @@ place-after ds o p = cond (some-output o) (next-place ds p) p
 -- A byte put takes a delay d, then e. Output not yet read and what was left of d and e are dropped.
 unfoldable pub put-byte : Setup → Link → (byte place : ℕ) → List ℕ → Served
 put-byte u l b p f =
-    let r = takes (u .settings) (l .command) b f in
+    let r = takes-put (u .settings) (l .command) b f in
     let q = next-place (u .delays) p in
     served (link (r .command) (r .output) (delay (u .delays) p) (late-of (u .delays) (r .output) q)) (place-after (u .delays) (r .output) q) (r .flash)
 
@@ -106,12 +106,12 @@ abbrev pub with-served : Device → (keys : ℕ) → Served → Acted
 with-served d n r = acted (device (d .address) (d .on) n (r .link)) (r .place) (r .flash)
 
 -- what a frame with this effect does at its STOP
-unfoldable pub does : Setup → Effect → Device → (place : ℕ) → List ℕ → Acted
-does u Nothing d p f = acted d p f
+unfoldable pub frame-does : Setup → Effect → Device → (place : ℕ) → List ℕ → Acted
+frame-does u Nothing d p f = acted d p f
 -- an Address Write changes only the address
-does u (SetAddress a) d p f = acted (device a (d .on) (d .keys) (d .link)) p f
+frame-does u (SetAddress a) d p f = acted (device a (d .on) (d .keys) (d .link)) p f
 -- a Data Write at FPDAT is a put; elsewhere it writes nothing
-does u (Write b) d p f =
+frame-does u (Write b) d p f =
     with-served d (next-keys (d .address) (d .keys) b) (cond (linked (u .settings) d) (put-byte u (d .link) b p f) (served (d .link) p f))
-does u CountDown d p f = with-served d (d .keys) (served (cond (linked (u .settings) d) (counted (d .link)) (d .link)) p f)
-does u Read d p f = with-served d (d .keys) (cond (linked (u .settings) d) (get-byte u (d .link) p f) (served (d .link) p f))
+frame-does u CountDown d p f = with-served d (d .keys) (served (cond (linked (u .settings) d) (counted (d .link)) (d .link)) p f)
+frame-does u Read d p f = with-served d (d .keys) (cond (linked (u .settings) d) (get-byte u (d .link) p f) (served (d .link) p f))

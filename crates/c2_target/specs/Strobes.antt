@@ -16,7 +16,7 @@ use Rattle.c2_target.specs.declared.Point.the-variants.{Start, Ins, Writ
 use Rattle.c2_target.specs.declared.Device.{Device}
 use Rattle.c2_target.specs.declared.Target.{Target}
 use Rattle.c2_target.specs.Delays.{Setup, delay, next-place}
-use Rattle.c2_target.specs.Interface.{shown, given, begun, does}
+use Rattle.c2_target.specs.Interface.{shown, given, begun, frame-does}
 
 abbrev pub target : Point → (place : ℕ) → (collision : Bool) → Device → Target
 target x p c d = record { point = x; place = p; collision = c; device = d }
@@ -98,8 +98,8 @@ unfoldable pub after-wait : Setup → (zeros left : ℕ) → Effect → Device �
 after-wait u z n e d f = cond (eqb z 0) (sending n (value-sent u e d f) e) (Waiting (z - 1) n e)
 
 -- A strobe of the master's: the reply is the bit on the line, and only the point moves on.
-abbrev pub hears : Target → List ℕ → Step → Point → Turn
-hears t f x p = turn (line x) (target p (t .place) (t .collision) (t .device)) f
+abbrev pub hears-bit : Target → List ℕ → Step → Point → Turn
+hears-bit t f x p = turn (line x) (target p (t .place) (t .collision) (t .device)) f
 
 -- A strobe of the target's that shows this bit. A drive sets the mark and has no other effect.
 abbrev pub shows : Bool → Target → List ℕ → Step → Point → (place : ℕ) → Device → Turn
@@ -108,12 +108,12 @@ shows b t f x p q d = turn b (target p q (marked x (t .collision)) d) f
 -- what a strobe gives, by the point
 unfoldable pub strobed-at : Setup → Point → Target → List ℕ → Step → Turn
 strobed-at u Start t f x = shows true t f x (Ins 0 0) (t .place) (begun (t .device))
-strobed-at u (Ins n v) t f x = hears t f x (after-ins (u .settings) (t .device) (n + 1) (with-bit n v x))
-strobed-at u (WriteLength n v) t f x = hears t f x (after-write-length (n + 1) (with-bit n v x))
-strobed-at u (ReadLength n v) t f x = hears t f x (after-read-length (n + 1) (with-bit n v x))
-strobed-at u (Address n v) t f x = hears t f x (after-address (n + 1) (with-bit n v x))
-strobed-at u (Data n v) t f x = hears t f x (after-data (n + 1) (with-bit n v x))
-strobed-at u (LongData n) t f x = hears t f x (after-long-data n)
+strobed-at u (Ins n v) t f x = hears-bit t f x (after-ins (u .settings) (t .device) (n + 1) (with-bit n v x))
+strobed-at u (WriteLength n v) t f x = hears-bit t f x (after-write-length (n + 1) (with-bit n v x))
+strobed-at u (ReadLength n v) t f x = hears-bit t f x (after-read-length (n + 1) (with-bit n v x))
+strobed-at u (Address n v) t f x = hears-bit t f x (after-address (n + 1) (with-bit n v x))
+strobed-at u (Data n v) t f x = hears-bit t f x (after-data (n + 1) (with-bit n v x))
+strobed-at u (LongData n) t f x = hears-bit t f x (after-long-data n)
 -- a WAIT takes a delay when it begins, and sends that many zeros modulo the limit
 strobed-at u (Wait n e) t f x =
     let z = delay (u .delays) (t .place) % u .wait in
@@ -122,7 +122,7 @@ strobed-at u (Waiting z n e) t f x = shows (eqb z 0) t f x (after-wait u z n e (
 strobed-at u (Send n v e) t f x = shows (odd v) t f x (sending (n - 1) (v / 2) e) (t .place) (t .device)
 -- a frame acts at its STOP
 strobed-at u (Stop e) t f x =
-    let r = does u e (t .device) (t .place) f in
+    let r = frame-does u e (t .device) (t .place) f in
     turn true (target Start (r .place) (marked x (t .collision)) (r .device)) (r .flash)
 
 abbrev pub strobed : Setup → Target → List ℕ → Step → Turn

@@ -79,8 +79,8 @@ step-coded x =
     (cond (eqb x 5) pause off))))
 
 -- The number by which a step is refused, or 0: settings by 1 to 3, then 17, then 16.
-unfoldable pub refusal : Setup → Target → List ℕ → (step : ℕ) → ℕ
-refusal u t f x =
+unfoldable pub step-refusal : Setup → Target → List ℕ → (step : ℕ) → ℕ
+step-refusal u t f x =
     cond (eqb (settings-refusal (u .settings)) 0)
     (cond (known u t f) (cond (is-step x) 0 no-step) no-point)
     (settings-refusal (u .settings))
@@ -97,8 +97,8 @@ flash-left n u t f x = cond (eqb n 0) (stepped u t f (step-coded x) .flash) f
 
 -- what a step gives back
 unfoldable pub answer : Setup → Target → List ℕ → (step : ℕ) → Replied
-answer u t f x = answered (refusal u t f x) u t f x
+answer u t f x = answered (step-refusal u t f x) u t f x
 
 -- the flash after a step
 unfoldable pub flash-after : Setup → Target → List ℕ → (step : ℕ) → List ℕ
-flash-after u t f x = flash-left (refusal u t f x) u t f x
+flash-after u t f x = flash-left (step-refusal u t f x) u t f x

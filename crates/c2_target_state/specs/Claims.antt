@@ -17,8 +17,9 @@ use Rattle.c2_target_state.specs.State.{state-of, target-of}
 use Rattle.c2_target_state.specs.Model.{gives, model-answer, model-flash}
 
 -- The state of a target that exists is read back as that target.
-abbrev pub Read-back : Type 0
-Read-back = (s : Settings) (t : Target) (f ds : List ℕ) → settings-refusal s ≡ 0 → known (setup s ds) t f ≡ true → target-of (state-of t) ≡ Held t
+abbrev pub State-reads : Type 0
+State-reads = (s : Settings) (t : Target) (f ds : List ℕ) → settings-refusal s ≡ 0 → known (setup s ds) t f ≡ true
+    → target-of (state-of t) ≡ Held t
 
 -- What is read from a state has that state.
 abbrev pub Has-state : Type 0
@@ -36,4 +37,5 @@ state-answer r = gives (r .number) (r .reply) (state-of (r .target))
 -- flash.
 abbrev pub Steps-alike : Type 0
 Steps-alike = (s : Settings) (t : Target) (f ds : List ℕ) (x : ℕ) → settings-refusal s ≡ 0 → known (setup s ds) t f ≡ true
-    → (model-answer s (state-of t) f ds x ≡ state-answer (answer (setup s ds) t f x)) × (model-flash s (state-of t) f ds x ≡ flash-after (setup s ds) t f x)
+    → (model-answer s (state-of t) f ds x ≡ state-answer (answer (setup s ds) t f x))
+    × (model-flash s (state-of t) f ds x ≡ flash-after (setup s ds) t f x)

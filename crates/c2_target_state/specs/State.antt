@@ -3,6 +3,7 @@
 use mathlib.Core.Bool.{Bool, false, cond, _&&_}
 use Prim.Native.Nat.{ℕ, _%_}
 use lib.Dec.{eqb}
+use Rattle.laws.specs.Bytes.{low}
 use Rattle.c2_wire.specs.Bits.{bit}
 use Rattle.c2_target.specs.declared.Command.{Command}
 use Rattle.c2_target.specs.declared.Command.the-variants.{Ready, ErasePage, EraseConfirm, High, Low, LengthCode, Byte, PastEnd}
@@ -22,10 +23,7 @@ use Rattle.c2_target_state.specs.declared.OutputFields.{OutputFields}
 use Rattle.c2_target_state.specs.declared.Seen.{Seen}
 use Rattle.c2_target_state.specs.declared.Seen.the-variants as seen
 
--- a number kept to one byte (`low`), and to two (`word`)
-abbrev pub low : ℕ → ℕ
-low x = x % 256
-
+-- a number kept to two bytes
 abbrev pub word : ℕ → ℕ
 word x = x % 65536
 

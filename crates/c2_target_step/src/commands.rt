@@ -5,9 +5,9 @@ ghost use mathlib.Core.List.{List, []};
 ghost use Prim.Native.Nat.{ℕ, _+_, _<_, _≤_};
 ghost use lib.ListN.{length};
 ghost use Rattle.c2_order.specs.Acts.{coded-length};
-ghost use Rattle.c2_target.specs.Commands.{opens, takes, some-output, first-byte, other-bytes};
+ghost use Rattle.c2_target.specs.Commands.{opens, takes-put, some-output, first-byte, other-bytes};
 ghost use Rattle.c2_target.specs.Known.{known-command, known-output};
-ghost use Rattle.c2_target_step.specs.Code.Parts.{taking};
+ghost use Rattle.c2_target_step.specs.Code.Parts.{put-taking};
 use crate::BLOCK_READ;
 use crate::BLOCK_WRITE;
 use crate::CONFIRM;
@@ -92,7 +92,7 @@ pub(crate) fn other_bytes(output: Output, flash: &[u8]) -> Output
 
 // A new command: the three that are known, and any other byte.
 fn opens(byte: usize) -> Taking
-    ensures { λ r. ⌜ ((f : List ℕ) → r ≡ taking (opens byte f)) ⌝ }
+    ensures { λ r. ⌜ ((f : List ℕ) → r ≡ put-taking (opens byte f)) ⌝ }
 {
     if byte == PAGE_ERASE {
         return Taking {
@@ -120,7 +120,7 @@ fn opens(byte: usize) -> Taking
 
 // What the page of an erase does.
 fn page_taken(t: Settings, page: usize) -> Taking
-    ensures { λ r. ⌜ ((f : List ℕ) → r ≡ taking (takes t Command.ErasePage page f)) ⌝ }
+    ensures { λ r. ⌜ ((f : List ℕ) → r ≡ put-taking (takes-put t Command.ErasePage page f)) ⌝ }
 {
     if page < (t.count as usize) {
         return Taking {
@@ -136,7 +136,7 @@ fn page_taken(t: Settings, page: usize) -> Taking
 
 // What the byte after the page of an erase does: only 0x00 erases.
 fn confirm_taken(byte: usize) -> Taking
-    ensures { λ r. ⌜ ((t : Settings) (page : ℕ) (f : List ℕ) → r ≡ taking (takes t (Command.EraseConfirm page) byte f)) ⌝ }
+    ensures { λ r. ⌜ ((t : Settings) (page : ℕ) (f : List ℕ) → r ≡ put-taking (takes-put t (Command.EraseConfirm page) byte f)) ⌝ }
 {
     if byte == CONFIRM {
         return Taking {
@@ -153,7 +153,7 @@ fn confirm_taken(byte: usize) -> Taking
 fn low_taken(write: bool, high: usize, low: usize) -> Taking
     requires { ⌜ high < 256 ⌝ }
     requires { ⌜ low < 256 ⌝ }
-    ensures { λ r. ⌜ ((t : Settings) → r ≡ taking (takes t (Command.Low write high) low [])) ⌝ }
+    ensures { λ r. ⌜ ((t : Settings) → r ≡ put-taking (takes-put t (Command.Low write high) low [])) ⌝ }
 {
     Taking {
         command: Command::LengthCode {
@@ -175,7 +175,7 @@ fn coded_length(code: usize) -> usize
 
 // What the length code of a block does. The bytes of a block write past the end are first taken.
 fn length_taken(write: bool, address: usize, code: usize, flash: &[u8]) -> Taking
-    ensures { λ r. ⌜ ((t : Settings) → r ≡ taking (takes t (Command.LengthCode write address) code (now (flash .entry)))) ⌝ }
+    ensures { λ r. ⌜ ((t : Settings) → r ≡ put-taking (takes-put t (Command.LengthCode write address) code (now (flash .entry)))) ⌝ }
 {
     let count = coded_length(code);
     if write {
@@ -211,7 +211,7 @@ fn length_taken(write: bool, address: usize, code: usize, flash: &[u8]) -> Takin
 // What a byte of a block write does: the status follows the last.
 fn byte_taken(address: usize, left: usize, flash: &[u8]) -> Taking
     requires { ⌜ address + left ≤ length (now flash) ⌝ }
-    ensures { λ r. ⌜ ((t : Settings) (byte : ℕ) → r ≡ taking (takes t (Command.Byte address left) byte [])) ⌝ }
+    ensures { λ r. ⌜ ((t : Settings) (byte : ℕ) → r ≡ put-taking (takes-put t (Command.Byte address left) byte [])) ⌝ }
 {
     if 1 < left {
         return Taking {
@@ -229,7 +229,7 @@ fn byte_taken(address: usize, left: usize, flash: &[u8]) -> Taking
 }
 
 fn past_end_taken(left: usize) -> Taking
-    ensures { λ r. ⌜ ((t : Settings) (byte : ℕ) → r ≡ taking (takes t (Command.PastEnd left) byte [])) ⌝ }
+    ensures { λ r. ⌜ ((t : Settings) (byte : ℕ) → r ≡ put-taking (takes-put t (Command.PastEnd left) byte [])) ⌝ }
 {
     if 1 < left {
         return Taking {
@@ -247,7 +247,7 @@ fn past_end_taken(left: usize) -> Taking
 pub(crate) fn takes(t: Settings, command: Command, byte: usize, flash: &[u8]) -> Taking
     requires { ⌜ known-command (t .count) (length (now flash)) command ≡ true ⌝ }
     requires { ⌜ byte < 256 ⌝ }
-    ensures { λ r. ⌜ r ≡ taking (takes t command byte (now (flash .entry))) ⌝ }
+    ensures { λ r. ⌜ r ≡ put-taking (takes-put t command byte (now (flash .entry))) ⌝ }
 {
     match command {
         Command::Ready => opens(byte),

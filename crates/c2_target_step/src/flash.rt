@@ -3,7 +3,7 @@ ghost use mathlib.Core.Path.{_≡_};
 ghost use mathlib.Core.Bool.{true};
 ghost use Prim.Native.Nat.{_+_, _*_, _<_, _≤_};
 ghost use lib.ListN.{length, getD, replicate};
-ghost use Rattle.c2_target.specs.Commands.{erased, stored, in-flash, takes};
+ghost use Rattle.c2_target.specs.Commands.{erased, stored, in-flash, takes-put};
 ghost use Rattle.c2_target.specs.Known.{known-command};
 use crate::CONFIRM;
 use crate::delays::wide;
@@ -59,7 +59,7 @@ fn store(flash: &mut [u8], address: usize, byte: usize)
 // What the last byte of an erase makes of the flash: the page is erased at the put of 0x00.
 fn confirm_writes(t: Settings, page: usize, byte: usize, flash: &mut [u8])
     requires { ⌜ page * t .size + t .size ≤ length (now flash) ⌝ }
-    ensures { λ r. ⌜ now (flash .exit) ≡ takes t (Command.EraseConfirm page) byte (now (flash .entry)) .flash ⌝ }
+    ensures { λ r. ⌜ now (flash .exit) ≡ takes-put t (Command.EraseConfirm page) byte (now (flash .entry)) .flash ⌝ }
 {
     if byte == CONFIRM {
         erase(flash, t.size as usize, page);
@@ -71,7 +71,7 @@ pub(crate) fn put_writes(t: Settings, command: Command, byte: usize, flash: &mut
     requires { ⌜ known-command (t .count) (length (now flash)) command ≡ true ⌝ }
     requires { ⌜ length (now flash) ≡ t .size * t .count ⌝ }
     requires { ⌜ byte < 256 ⌝ }
-    ensures { λ r. ⌜ now (flash .exit) ≡ takes t command byte (now (flash .entry)) .flash ⌝ }
+    ensures { λ r. ⌜ now (flash .exit) ≡ takes-put t command byte (now (flash .entry)) .flash ⌝ }
 {
     match command {
         Command::EraseConfirm { page } => return confirm_writes(t, page, byte, flash),

@@ -8,9 +8,9 @@ ghost use lib.ListN.{length};
 ghost use Rattle.c2_wire.specs.Bits.{bit};
 ghost use Rattle.c2_target.specs.Delays.{setup};
 ghost use Rattle.c2_target.specs.Commands.{first-byte};
-ghost use Rattle.c2_target.specs.Interface.{link, device, in-busy, out-ready, status-bits, linked, shown, given, late-of, place-after, put-byte, get-byte, counted, next-keys, begun, acted, served, with-served, does};
+ghost use Rattle.c2_target.specs.Interface.{link, device, in-busy, out-ready, status-bits, linked, shown, given, late-of, place-after, put-byte, get-byte, counted, next-keys, begun, acted, served, with-served, frame-does};
 ghost use Rattle.c2_target.specs.Known.{known-effect, known-command, known-output, known-link};
-ghost use Rattle.c2_target_step.specs.Code.Parts.{stopped, taking, effect-flash};
+ghost use Rattle.c2_target_step.specs.Code.Parts.{stopped, put-taking, effect-flash};
 use crate::FPCTL;
 use crate::KEY_1;
 use crate::KEY_2;
@@ -299,7 +299,7 @@ fn gets(y: Target, flash: &[u8], delays: &[u8]) -> Target
 }
 
 fn addressed(y: Target, address: usize) -> Target
-    ensures { λ r. ⌜ ((t : Settings) → r ≡ stopped y (does (setup t []) (Effect.SetAddress address) (y .device) (y .place) [])) ⌝ }
+    ensures { λ r. ⌜ ((t : Settings) → r ≡ stopped y (frame-does (setup t []) (Effect.SetAddress address) (y .device) (y .place) [])) ⌝ }
 {
     let device = y.device;
     let link = device.link;
@@ -319,7 +319,7 @@ fn addressed(y: Target, address: usize) -> Target
 fn writes(y: Target, t: Settings, byte: usize, flash: &[u8], delays: &[u8]) -> Target
     requires { ⌜ known-command (t .count) (length (now flash)) (y .device .link .command) ≡ true ⌝ }
     requires { ⌜ byte < 256 ⌝ }
-    ensures { λ r. ⌜ r ≡ stopped y (does (setup t (now (delays .entry))) (Effect.Write byte) (y .device) (y .place) (now (flash .entry))) ⌝ }
+    ensures { λ r. ⌜ r ≡ stopped y (frame-does (setup t (now (delays .entry))) (Effect.Write byte) (y .device) (y .place) (now (flash .entry))) ⌝ }
 {
     let device = y.device;
     let link = device.link;
@@ -331,7 +331,7 @@ fn writes(y: Target, t: Settings, byte: usize, flash: &[u8], delays: &[u8]) -> T
 }
 
 fn counts_down(y: Target, t: Settings) -> Target
-    ensures { λ r. ⌜ r ≡ stopped y (does (setup t []) Effect.CountDown (y .device) (y .place) []) ⌝ }
+    ensures { λ r. ⌜ r ≡ stopped y (frame-does (setup t []) Effect.CountDown (y .device) (y .place) []) ⌝ }
 {
     let device = y.device;
     let link = device.link;
@@ -343,7 +343,7 @@ fn counts_down(y: Target, t: Settings) -> Target
 
 fn reads(y: Target, t: Settings, flash: &[u8], delays: &[u8]) -> Target
     requires { ⌜ known-output (length (now flash)) (y .device .link .output) ≡ true ⌝ }
-    ensures { λ r. ⌜ r ≡ stopped y (does (setup t (now (delays .entry))) Effect.Read (y .device) (y .place) (now (flash .entry))) ⌝ }
+    ensures { λ r. ⌜ r ≡ stopped y (frame-does (setup t (now (delays .entry))) Effect.Read (y .device) (y .place) (now (flash .entry))) ⌝ }
 {
     let device = y.device;
     let link = device.link;
@@ -357,7 +357,7 @@ fn reads(y: Target, t: Settings, flash: &[u8], delays: &[u8]) -> Target
 pub(crate) fn does(y: Target, t: Settings, effect: Effect, flash: &[u8], delays: &[u8]) -> Target
     requires { ⌜ known-link (t .count) (length (now flash)) (y .device .link) ≡ true ⌝ }
     requires { ⌜ known-effect effect ≡ true ⌝ }
-    ensures { λ r. ⌜ r ≡ stopped y (does (setup t (now (delays .entry))) effect (y .device) (y .place) (now (flash .entry))) ⌝ }
+    ensures { λ r. ⌜ r ≡ stopped y (frame-does (setup t (now (delays .entry))) effect (y .device) (y .place) (now (flash .entry))) ⌝ }
 {
     let device = y.device;
     match effect {

@@ -6,7 +6,7 @@ ghost use Prim.Native.Nat.{ℕ};
 ghost use lib.Dec.{eqb};
 ghost use Rattle.c2_target.specs.Delays.{setup};
 ghost use Rattle.c2_target.specs.Strobes.{target};
-ghost use Rattle.c2_target.specs.Target.{cleared, after-reset, between-frames, after-pause, is-step, refusal, answer, flash-after};
+ghost use Rattle.c2_target.specs.Target.{cleared, after-reset, between-frames, after-pause, is-step, step-refusal, answer, flash-after};
 ghost use Rattle.c2_target_step.specs.Code.StepOn.{refusal-on, answer-on, flash-on};
 ghost use Rattle.c2_target_step.specs.Code.Parts.{replying, still};
 use crate::interface::idle;
@@ -122,7 +122,7 @@ fn is_step(x: u8) -> bool
 
 // The number by which a step is refused, or 0: settings, then the state, then the step.
 fn refusal(t: Settings, target: Target, flash: &[u8], x: u8) -> u32
-    ensures { λ r. ⌜ ((ds : List ℕ) → r ≡ refusal (setup t ds) target (now (flash .entry)) x) ⌝ }
+    ensures { λ r. ⌜ ((ds : List ℕ) → r ≡ step-refusal (setup t ds) target (now (flash .entry)) x) ⌝ }
 {
     let number = settings::refusal(t);
     if number != 0 {

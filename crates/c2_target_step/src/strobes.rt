@@ -9,7 +9,7 @@ ghost use Rattle.c2_wire.specs.Bits.{bit};
 ghost use Rattle.c2_target.specs.declared.Point.the-variants.{Start, Wait, Waiting, Send};
 ghost use Rattle.c2_target.specs.Delays.{setup};
 ghost use Rattle.c2_target.specs.Interface.{link, device};
-ghost use Rattle.c2_target.specs.Strobes.{target, line, marked, with-bit, sending, frame-begins, after-ins, after-write-length, after-read-length, after-address, after-data, after-long-data, value-sent, after-wait, hears, strobed-at, strobed};
+ghost use Rattle.c2_target.specs.Strobes.{target, line, marked, with-bit, sending, frame-begins, after-ins, after-write-length, after-read-length, after-address, after-data, after-long-data, value-sent, after-wait, hears-bit, strobed-at, strobed};
 ghost use Rattle.c2_target.specs.Known.{known-effect, known-link};
 ghost use Rattle.c2_target.specs.Target.{step-coded};
 ghost use Rattle.c2_target_step.specs.Code.StepOn.{known-on};
@@ -240,7 +240,7 @@ fn ends(zeros: usize) -> u32
 
 // A strobe of the master's: the reply is the bit on the line, and only the point moves on.
 fn hears(y: Target, x: u8, point: Point) -> Replied
-    ensures { λ r. ⌜ r ≡ turn-replied (hears y [] (step-coded x) point) ⌝ }
+    ensures { λ r. ⌜ r ≡ turn-replied (hears-bit y [] (step-coded x) point) ⌝ }
 {
     let device = y.device;
     Replied {

@@ -1,7 +1,7 @@
 -- Bits and numbers. All fields of a frame go lowest bit first.
 use mathlib.Core.Bool.{Bool, true, false}
 use mathlib.Core.List.{List, [], _∷_}
-use Prim.Native.Nat.{ℕ, zero, suc, _+_, _*_, _/_, _%_, _<_}
+use Prim.Native.Nat.{ℕ, zero, suc, _+_, _*_, _/_, _%_}
 use lib.Dec.{eqb}
 
 unfoldable pub odd : ℕ → Bool
@@ -21,8 +21,3 @@ bit true = 1
 unfoldable pub number : List Bool → ℕ
 number [] = 0
 number (b ∷ bs) = bit b + 2 * number bs
-
--- every number of a list is a byte
-abbrev pub Bytes : List ℕ → Type 0
-Bytes [] = Unit {0}
-Bytes (b ∷ bs) = (b < 256) × Bytes bs

@@ -45,20 +45,20 @@ unfolding Shared.fed after
 fed e rs = Shared.fed read e rs
 
 -- the byte of what is said: a step, or 6 at the end
-abbrev pub byte : Said Ask Outcome → ℕ
-byte (Shared.asks (at f s)) = code s
-byte (Shared.ends o) = code off
+abbrev pub said-byte : Said Ask Outcome → ℕ
+said-byte (Shared.asks (at f s)) = code s
+said-byte (Shared.ends o) = code off
 
 -- the step that an exchange asks for
 unfoldable pub asks : Exchange → ℕ
 unfolding said
-asks e = byte (said e)
+asks e = said-byte (said e)
 
 -- the steps that replies in a row bring, one for each reply taken: the reply that ends the exchange brings 6,
 -- and none is taken after it
 unfoldable pub steps : Exchange → (replies : List ℕ) → List ℕ
 unfolding brought asks after
-steps e rs = map byte (brought read e rs)
+steps e rs = map said-byte (brought read e rs)
 
 -- how many of the replies in a row are taken
 unfoldable pub taken : Exchange → (replies : List ℕ) → ℕ

@@ -134,7 +134,7 @@ Ends-by e r = r .start + r .length ≤ e
 -- Where the ranges up to r were held, and those behind it were not: the rest of both dumps from a place on
 -- has, moved to their places in the dumps, some ranges that end by the end of r, and then exactly those that
 -- were not held, which start behind that end.
-pub record Goes-on (a b : List ℕ) (place : ℕ) (r : Range) (not-held : List Range) : Type 0 where
+pub record Rest-goes-on (a b : List ℕ) (place : ℕ) (r : Range) (not-held : List Range) : Type 0 where
   pub again : List Range
   pub all : moved place (ranges (drop place a) (drop place b)) ≡ again ++ not-held
   pub ended : Each (Ends-by (r .start + r .length)) again
@@ -143,7 +143,7 @@ pub record Goes-on (a b : List ℕ) (place : ℕ) (r : Range) (not-held : List R
 -- A comparison goes on from every place that is not behind the end of the last range held.
 abbrev pub Pieces-go-on : Type 0
 Pieces-go-on = (a b : List ℕ) → length a ≡ length b → (rs : List Range) (r : Range) (qs : List Range) → ranges a b ≡ rs ++ r ∷ qs
-    → (place : ℕ) → place ≤ r .start + r .length → Goes-on a b place r qs
+    → (place : ℕ) → place ≤ r .start + r .length → Rest-goes-on a b place r qs
 
 -- Behind n ranges the next one starts at place 2 n or later: with room for one more than half a page's bytes,
 -- a full list buffer reaches the next page.

@@ -26,36 +26,36 @@ zeros n = replicate n 0
 abbrev pub dump : (length place : ℕ) → List ℕ → List ℕ
 dump n p bytes = sets (zeros n) p bytes
 
-pub record Row : Type 0 where
+pub record Dump-row : Type 0 where
   pub given : List ℕ
   pub paper : List ℕ
 
-abbrev pub row : List ℕ → List ℕ → Row
-row g p = record { given = g; paper = p }
+abbrev pub dump-row : List ℕ → List ℕ → Dump-row
+dump-row g p = record { given = g; paper = p }
 
-unfoldable pub table : List Row
-table =
+unfoldable pub dump-table : List Dump-row
+dump-table =
     -- equal dumps, and empty ones: nothing is held, there is no more, the list buffer stays
-    row (ranges-told 512 (zeros 512) (zeros 512) (7 ∷ 8 ∷ [])) (0 ∷ 0 ∷ 0 ∷ 7 ∷ 8 ∷ []) ∷
-    row (ranges-told 1024 [] [] (7 ∷ 8 ∷ [])) (0 ∷ 0 ∷ 0 ∷ 7 ∷ 8 ∷ []) ∷
-    row (first-told 512 (zeros 512) (zeros 512)) (0 ∷ 0 ∷ 0 ∷ 0 ∷ []) ∷
+    dump-row (ranges-told 512 (zeros 512) (zeros 512) (7 ∷ 8 ∷ [])) (0 ∷ 0 ∷ 0 ∷ 7 ∷ 8 ∷ []) ∷
+    dump-row (ranges-told 1024 [] [] (7 ∷ 8 ∷ [])) (0 ∷ 0 ∷ 0 ∷ 7 ∷ 8 ∷ []) ∷
+    dump-row (first-told 512 (zeros 512) (zeros 512)) (0 ∷ 0 ∷ 0 ∷ 0 ∷ []) ∷
     -- a range over the border of two pages is one; the quick form tells its first byte
-    row (ranges-told 512 (zeros 1024) (dump 1024 510 (1 ∷ 2 ∷ 3 ∷ 4 ∷ [])) (7 ∷ 8 ∷ 9 ∷ [])) (0 ∷ 0 ∷ 1 ∷ 510 ∷ 4 ∷ 9 ∷ []) ∷
-    row (first-told 512 (zeros 1024) (dump 1024 512 (1 ∷ []))) (0 ∷ 1 ∷ 1 ∷ 0 ∷ []) ∷
-    row (first-told 1024 (zeros 1024) (dump 1024 1023 (1 ∷ []))) (0 ∷ 1 ∷ 0 ∷ 1023 ∷ []) ∷
+    dump-row (ranges-told 512 (zeros 1024) (dump 1024 510 (1 ∷ 2 ∷ 3 ∷ 4 ∷ [])) (7 ∷ 8 ∷ 9 ∷ [])) (0 ∷ 0 ∷ 1 ∷ 510 ∷ 4 ∷ 9 ∷ []) ∷
+    dump-row (first-told 512 (zeros 1024) (dump 1024 512 (1 ∷ []))) (0 ∷ 1 ∷ 1 ∷ 0 ∷ []) ∷
+    dump-row (first-told 1024 (zeros 1024) (dump 1024 1023 (1 ∷ []))) (0 ∷ 1 ∷ 0 ∷ 1023 ∷ []) ∷
     -- three ranges, and room for two whole: the first two are held, more exist, the odd number stays
-    row (ranges-told 512 (zeros 512) (dump 512 0 (1 ∷ 0 ∷ 1 ∷ 1 ∷ 0 ∷ 1 ∷ [])) (7 ∷ 7 ∷ 7 ∷ 7 ∷ 9 ∷ []))
+    dump-row (ranges-told 512 (zeros 512) (dump 512 0 (1 ∷ 0 ∷ 1 ∷ 1 ∷ 0 ∷ 1 ∷ [])) (7 ∷ 7 ∷ 7 ∷ 7 ∷ 9 ∷ []))
     (0 ∷ 1 ∷ 2 ∷ 0 ∷ 1 ∷ 2 ∷ 2 ∷ 9 ∷ []) ∷
     -- room for one number takes no range
-    row (ranges-told 512 (zeros 512) (dump 512 511 (1 ∷ [])) (7 ∷ [])) (0 ∷ 1 ∷ 0 ∷ 7 ∷ []) ∷
+    dump-row (ranges-told 512 (zeros 512) (dump 512 511 (1 ∷ [])) (7 ∷ [])) (0 ∷ 1 ∷ 0 ∷ 7 ∷ []) ∷
     -- 2 comes first; 31 for unlike lengths, and for a length that is not whole pages
-    row (ranges-told 513 (zeros 2) (zeros 3) (7 ∷ 8 ∷ [])) (2 ∷ 0 ∷ 0 ∷ 7 ∷ 8 ∷ []) ∷
-    row (ranges-told 512 (zeros 512) (zeros 1024) (7 ∷ 8 ∷ [])) (31 ∷ 0 ∷ 0 ∷ 7 ∷ 8 ∷ []) ∷
-    row (first-told 1024 (zeros 512) (zeros 512)) (31 ∷ 0 ∷ 0 ∷ 0 ∷ []) ∷ []
+    dump-row (ranges-told 513 (zeros 2) (zeros 3) (7 ∷ 8 ∷ [])) (2 ∷ 0 ∷ 0 ∷ 7 ∷ 8 ∷ []) ∷
+    dump-row (ranges-told 512 (zeros 512) (zeros 1024) (7 ∷ 8 ∷ [])) (31 ∷ 0 ∷ 0 ∷ 7 ∷ 8 ∷ []) ∷
+    dump-row (first-told 1024 (zeros 512) (zeros 512)) (31 ∷ 0 ∷ 0 ∷ 0 ∷ []) ∷ []
 
-abbrev pub Agree : List Row → Type 0
-Agree [] = Unit {0}
-Agree (r ∷ rows) = (r .given ≡ r .paper) × Agree rows
+abbrev pub All-agree : List Dump-row → Type 0
+All-agree [] = Unit {0}
+All-agree (r ∷ rows) = (r .given ≡ r .paper) × All-agree rows
 
 abbrev pub Examples-agree : Type 0
-Examples-agree = Agree table
+Examples-agree = All-agree dump-table

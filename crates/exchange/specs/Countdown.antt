@@ -21,9 +21,9 @@ countdown (suc n) = ask (suc n) (λ _. countdown n)
 abbrev pub read : ℕ → ℕ → Heard ℕ ℕ
 read a r = heard r
 
-abbrev pub byte : Said ℕ ℕ → ℕ
-byte (asks a) = a
-byte (ends o) = 0
+abbrev pub said-byte : Said ℕ ℕ → ℕ
+said-byte (asks a) = a
+said-byte (ends o) = 0
 
 unfoldable pub unpacked : List ℕ → Option ℕ
 unpacked [] = none
@@ -51,7 +51,7 @@ pub record Room : Type 0 where
   pub buffer : List ℕ
   pub place : ℕ
 
-pub record Answer : Type 0 where
+pub record Count-answer : Type 0 where
   pub number : ℕ
   pub taken : ℕ
   pub buffer : List ℕ
@@ -61,7 +61,7 @@ pub record Known : Type 0 where
   pub taken : ℕ
 
 unfoldable pub steps : Exchange ℕ ℕ ℕ → List ℕ → List ℕ
-steps e rs = map byte (Shared.brought read e rs)
+steps e rs = map said-byte (Shared.brought read e rs)
 
 -- the counter's refusals: 6 for a record that is none, 8 where there is no room
 abbrev pub refusal : Option ℕ → (replies : List ℕ) → Room → ℕ
@@ -72,7 +72,7 @@ abbrev pub face : Face counter
 face =
     record {
       Room = Room;
-      Answer = Answer;
+      Answer = Count-answer;
       Known = Known;
       refusal = λ u l rs m. refusal u rs m;
       answer = λ e rs m. record {

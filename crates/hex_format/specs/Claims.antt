@@ -10,26 +10,27 @@ use Rattle.numbers.specs.Numbers.{bad-line, bad-checksum, bad-hex-record, set-t
 use Rattle.settings.specs.declared.Settings.{Settings}
 use Rattle.settings.specs.Accepted.{settings-refusal}
 use Rattle.hex_format.specs.declared.Line.the-variants.{Bad, Data, Last}
-use Rattle.hex_format.specs.Digits.{Bytes}
-use Rattle.hex_format.specs.Lines.{is-line, adds-up, kind, count, address, data-of, kinded, judged}
+use Rattle.laws.specs.Bytes.{Bytes}
+use Rattle.hex_format.specs.Lines.{is-line, adds-up, kind, count, address, data-of, kinded, judged-line}
 use Rattle.hex_format.specs.Reading.{lines, Answer, hex-read}
 use Rattle.hex_format.specs.Writing.{write-refusal, hex-write}
 
 -- 1. Reading what was written gives the same first page and image, for every accepted opening of the writer,
 -- whatever the bytes.
-abbrev pub Read-back : Type 0
-Read-back =
-    (s : Settings) (first space room : ℕ) (image : List ℕ) → Bytes image → write-refusal s first (length image) space ≡ 0 → length image ≤ room
+abbrev pub Written-reads : Type 0
+Written-reads =
+    (s : Settings) (first space room : ℕ) (image : List ℕ) → Bytes image → write-refusal s first (length image) space ≡ 0
+    → length image ≤ room
     → hex-read s room (hex-write s first space image) ≡ record { number = 0; line = 0; first = first; image = image }
 
 -- 2. In an accepted file each byte of the image is the byte of the one record that covers its address, or
 -- 0xFF where none does; first and last page are touched; nothing is set twice.
 
 -- the record of a line, in a flash of so many bytes, covers an address, and sets its byte
-pub record Covers (flash : ℕ) (l : List ℕ) (k b : ℕ) : Type 0 where
+pub record Sets-byte (flash : ℕ) (l : List ℕ) (k b : ℕ) : Type 0 where
   pub a : ℕ
   pub n : ℕ
-  pub line : judged flash l ≡ Data a n
+  pub line : judged-line flash l ≡ Data a n
   pub from : a ≤ k
   pub below : k < a + n
   pub byte : getD (data-of l) (k - a) 0xff ≡ b
@@ -41,14 +42,15 @@ line-at file i = getD (lines file) i []
 -- some line covers the address, and sets this byte
 pub record Set (flash : ℕ) (file : List ℕ) (k b : ℕ) : Type 0 where
   pub i : ℕ
-  pub covers : Covers flash (line-at file i) k b
+  pub covers : Sets-byte flash (line-at file i) k b
 
 pub record Shows (s : Settings) (file : List ℕ) (a : Answer) : Type 0 where
   pub byte : (k : ℕ) → k < length (a .image)
       → Set (s .size * s .count) file (a .first * s .size + k) (getD (a .image) k 0xff)
       ⊎ ((getD (a .image) k 0xff ≡ 0xff) × ((b : ℕ) → Set (s .size * s .count) file (a .first * s .size + k) b → ⊥))
   pub all : (k b : ℕ) → Set (s .size * s .count) file k b → (a .first * s .size ≤ k) × (k < a .first * s .size + length (a .image))
-  pub once : (i j k b c : ℕ) → Covers (s .size * s .count) (line-at file i) k b → Covers (s .size * s .count) (line-at file j) k c → i ≡ j
+  pub once : (i j k b c : ℕ) → Sets-byte (s .size * s .count) (line-at file i) k b → Sets-byte (s .size * s .count) (line-at file j) k c
+      → i ≡ j
   pub pages : length (a .image) % s .size ≡ 0
   pub first-page : ℕ
   pub first-byte : ℕ
@@ -66,7 +68,7 @@ Accepted-shows = (s : Settings) (room : ℕ) (file : List ℕ) → hex-read s ro
 -- an earlier line is the end record
 pub record Ended (flash : ℕ) (before : List (List ℕ)) : Type 0 where
   pub i : ℕ
-  pub line : judged flash (getD before i []) ≡ Last
+  pub line : judged-line flash (getD before i []) ≡ Last
 
 -- the line is a record of data that covers an address which an earlier line covers
 pub record Twice (flash : ℕ) (before : List (List ℕ)) (l : List ℕ) : Type 0 where
@@ -77,7 +79,7 @@ pub record Twice (flash : ℕ) (before : List (List ℕ)) (l : List ℕ) : Type 
   pub below : k < address l + count l
   pub i : ℕ
   pub b : ℕ
-  pub earlier : Covers flash (getD before i []) k b
+  pub earlier : Sets-byte flash (getD before i []) k b
 
 -- a number is a fault of a line, with the lines before it
 abbrev pub Fault : (flash : ℕ) (before : List (List ℕ)) (l : List ℕ) (number : ℕ) → Type 0

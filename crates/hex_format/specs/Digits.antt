@@ -2,7 +2,7 @@
 -- 'a' 97.
 use mathlib.Core.Bool.{Bool, true, cond, _&&_}
 use mathlib.Core.List.{List, [], _∷_}
-use Prim.Native.Nat.{ℕ, _+_, _-_, _*_, _/_, _%_, _<_}
+use Prim.Native.Nat.{ℕ, _+_, _-_, _*_, _/_, _%_}
 use lib.Dec.{ltb}
 
 -- the value of a digit of either case; 16 for a character that is none
@@ -33,8 +33,3 @@ upper n = cond (ltb n 10) (n + 48) (n + 55)
 unfoldable pub text : List ℕ → List ℕ
 text [] = []
 text (b ∷ s) = upper (b / 16) ∷ upper (b % 16) ∷ text s
-
--- all are bytes
-abbrev pub Bytes : List ℕ → Type 0
-Bytes [] = Unit {0}
-Bytes (b ∷ s) = (b < 256) × Bytes s

@@ -64,8 +64,8 @@ kinded flash kind count address =
     (cond (eqb kind 1 && (eqb count 0 && eqb address 0)) Last (Bad bad-hex-record))
 
 -- what a line is by itself, for a flash of so many bytes; the lowest number comes first
-unfoldable pub judged : (flash : ℕ) → List ℕ → Line
-judged flash l =
+unfoldable pub judged-line : (flash : ℕ) → List ℕ → Line
+judged-line flash l =
     cond (is-line l)
     (cond (adds-up l) (kinded flash (kind l) (count l) (address l)) (Bad bad-checksum))
     (Bad bad-line)

@@ -11,16 +11,16 @@ use Rattle.settings.specs.Accepted.{settings-refusal}
 use Rattle.settings.specs.declared.Settings.{Settings}
 use Rattle.hex_format.specs.declared.Line.{Line}
 use Rattle.hex_format.specs.declared.Line.the-variants.{Bad, Data, Last}
-use Rattle.hex_format.specs.Lines.{lf, judged, data-of}
+use Rattle.hex_format.specs.Lines.{lf, judged-line, data-of}
 
 -- A file's lines, each with its LF. What follows the last LF is a line without one.
-unfoldable pub joined : ℕ → List (List ℕ) → List (List ℕ)
-joined b [] = (b ∷ []) ∷ []
-joined b (l ∷ ls) = (b ∷ l) ∷ ls
+unfoldable pub joined-line : ℕ → List (List ℕ) → List (List ℕ)
+joined-line b [] = (b ∷ []) ∷ []
+joined-line b (l ∷ ls) = (b ∷ l) ∷ ls
 
 unfoldable pub lines : List ℕ → List (List ℕ)
 lines [] = []
-lines (b ∷ s) = cond (eqb b lf) ((b ∷ []) ∷ lines s) (joined b (lines s))
+lines (b ∷ s) = cond (eqb b lf) ((b ∷ []) ∷ lines s) (joined-line b (lines s))
 
 -- What is set so far: a cell for each byte of the flash, which holds the byte, or `unset`.
 abbrev pub unset : ℕ
@@ -31,46 +31,46 @@ all-unset [] = true
 all-unset (a ∷ cells) = eqb a unset && all-unset cells
 
 -- after a line: its number or 0, whether the end record has been, what is set
-pub record Taken : Type 0 where
+pub record Line-taken : Type 0 where
   pub number : ℕ
   pub ended : Bool
   pub cells : List ℕ
 
-abbrev pub took : ℕ → Bool → List ℕ → Taken
+abbrev pub took : ℕ → Bool → List ℕ → Line-taken
 took number ended cells = record { number = number; ended = ended; cells = cells }
 
 -- data: no byte of it was set before, and no end record has been
-unfoldable pub placed : (ended : Bool) (cells : List ℕ) (address count : ℕ) → List ℕ → Taken
+unfoldable pub placed : (ended : Bool) (cells : List ℕ) (address count : ℕ) → List ℕ → Line-taken
 placed ended cells a n bytes =
     cond (all-unset (take n (drop a cells)))
     (cond ended (took no-end-record ended cells) (took 0 ended (sets cells a bytes)))
     (took set-twice ended cells)
 
-unfoldable pub taken-as : (ended : Bool) (cells line : List ℕ) → Line → Taken
+unfoldable pub taken-as : (ended : Bool) (cells line : List ℕ) → Line → Line-taken
 taken-as ended cells l (Bad n) = took n ended cells
 taken-as ended cells l (Data a n) = placed ended cells a n (data-of l)
 taken-as ended cells l Last = took (cond ended no-end-record 0) true cells
 
-unfoldable pub taken : (ended : Bool) (cells line : List ℕ) → Taken
-taken ended cells l = taken-as ended cells l (judged (length cells) l)
+unfoldable pub line-taken : (ended : Bool) (cells line : List ℕ) → Line-taken
+line-taken ended cells l = taken-as ended cells l (judged-line (length cells) l)
 
 -- after all lines: the first faulty line's number and which line it is, or the number of a missing end, or 0;
 -- what is set
-pub record Walked : Type 0 where
+pub record Lines-taken : Type 0 where
   pub number : ℕ
   pub line : ℕ
   pub cells : List ℕ
 
-abbrev pub ended-with : ℕ → ℕ → List ℕ → Walked
+abbrev pub ended-with : ℕ → ℕ → List ℕ → Lines-taken
 ended-with number line cells = record { number = number; line = line; cells = cells }
 
 -- the fold over the lines, `before` of which have been
-unfoldable pub walked : (before : ℕ) (ended : Bool) (cells : List ℕ) → List (List ℕ) → Walked
-walked before ended cells [] = ended-with (cond ended 0 no-end-record) 0 cells
-walked before ended cells (l ∷ ls) =
-    let t = taken ended cells l in
+unfoldable pub lines-taken : (before : ℕ) (ended : Bool) (cells : List ℕ) → List (List ℕ) → Lines-taken
+lines-taken before ended cells [] = ended-with (cond ended 0 no-end-record) 0 cells
+lines-taken before ended cells (l ∷ ls) =
+    let t = line-taken ended cells l in
     elim (eqb (t .number) 0) [
-      | true ↦ walked (before + 1) (t .ended) (t .cells) ls
+      | true ↦ lines-taken (before + 1) (t .ended) (t .cells) ls
       | false ↦ ended-with (t .number) (before + 1) (t .cells)
     ]
 
@@ -84,12 +84,12 @@ past-set [] = 0
 past-set (a ∷ cells) = cond (all-unset (a ∷ cells)) 0 (suc (past-set cells))
 
 -- the image's byte of a cell: 0xFF where nothing is set
-unfoldable pub byte : ℕ → ℕ
-byte a = cond (ltb a unset) a 0xff
+unfoldable pub cell-byte : ℕ → ℕ
+cell-byte a = cond (ltb a unset) a 0xff
 
 unfoldable pub bytes : List ℕ → List ℕ
 bytes [] = []
-bytes (a ∷ cells) = byte a ∷ bytes cells
+bytes (a ∷ cells) = cell-byte a ∷ bytes cells
 
 -- the answer: number, faulty line, first page and image
 pub record Answer : Type 0 where
@@ -114,27 +114,27 @@ cut-out size room cells =
     let last = (past-set cells - 1) / size in
     cond (all-unset cells) (refused no-data 0) (copied page (page * size) (last * size + size) room cells)
 
-unfoldable pub answered : (size room : ℕ) → Walked → Answer
-answered size room w = cond (eqb (w .number) 0) (cut-out size room (w .cells)) (refused (w .number) (w .line))
+unfoldable pub read-answer : (size room : ℕ) → Lines-taken → Answer
+read-answer size room w = cond (eqb (w .number) 0) (cut-out size room (w .cells)) (refused (w .number) (w .line))
 
 -- the settings are tested first
 unfoldable pub hex-read : Settings → (room : ℕ) (file : List ℕ) → Answer
 hex-read s room file =
     cond (eqb (settings-refusal s) 0)
-    (answered (s .size) room (walked 0 false (replicate (s .size * s .count) unset) (lines file)))
+    (read-answer (s .size) room (lines-taken 0 false (replicate (s .size * s .count) unset) (lines file)))
     (refused (settings-refusal s) 0)
 
 -- What the caller gets: the answer in numbers, and the buffer, with the image at its front and every other
 -- byte as it was.
-pub record Shown : Type 0 where
+pub record Reading-done : Type 0 where
   pub number : ℕ
   pub line : ℕ
   pub first : ℕ
   pub bytes : ℕ
   pub buffer : List ℕ
 
-abbrev pub shown : (number line first bytes : ℕ) → List ℕ → Shown
-shown number line first bytes buffer = record { number = number; line = line; first = first; bytes = bytes; buffer = buffer }
+abbrev pub reading-done : (number line first bytes : ℕ) → List ℕ → Reading-done
+reading-done number line first bytes buffer = record { number = number; line = line; first = first; bytes = bytes; buffer = buffer }
 
-unfoldable pub shows : Answer → List ℕ → Shown
-shows a old = shown (a .number) (a .line) (a .first) (length (a .image)) (a .image ++ drop (length (a .image)) old)
+unfoldable pub image-in-buffer : Answer → List ℕ → Reading-done
+image-in-buffer a old = reading-done (a .number) (a .line) (a .first) (length (a .image)) (a .image ++ drop (length (a .image)) old)

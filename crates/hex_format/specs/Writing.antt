@@ -48,15 +48,15 @@ hex-write s first room image =
 
 -- What the caller gets: number and length, and the buffer, with the file at its front and every other byte as
 -- it was.
-pub record Put : Type 0 where
+pub record Writing-done : Type 0 where
   pub number : ℕ
   pub bytes : ℕ
   pub buffer : List ℕ
 
-abbrev pub put : (number bytes : ℕ) → List ℕ → Put
-put number bytes buffer = record { number = number; bytes = bytes; buffer = buffer }
+abbrev pub writing-done : (number bytes : ℕ) → List ℕ → Writing-done
+writing-done number bytes buffer = record { number = number; bytes = bytes; buffer = buffer }
 
-unfoldable pub puts : Settings → (first : ℕ) (image old : List ℕ) → Put
-puts s first image old =
+unfoldable pub file-in-buffer : Settings → (first : ℕ) (image old : List ℕ) → Writing-done
+file-in-buffer s first image old =
     let file = hex-write s first (length old) image in
-    put (write-refusal s first (length image) (length old)) (length file) (file ++ drop (length file) old)
+    writing-done (write-refusal s first (length image) (length old)) (length file) (file ++ drop (length file) old)

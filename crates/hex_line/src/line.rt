@@ -5,7 +5,7 @@ ghost use Prim.Native.Nat.{_+_, _*_, _%_, _<_};
 ghost use lib.ListN.{length};
 ghost use Rattle.hex_format.specs.Digits.{octet, octets};
 ghost use Rattle.hex_format.specs.Lines.{sum, count, digits, kinded};
-ghost use Rattle.hex_line.specs.Code.Shape.{weighed, line-end, shaped, judgement, line-at};
+ghost use Rattle.hex_line.specs.Code.Shape.{weighed, line-end, shaped, judgement, judgement-at};
 use super::digit::digit;
 use super::digit::octet;
 use hex_format::Line;
@@ -143,7 +143,7 @@ fn judge_kind(flash: usize, kind: u8, count: usize, address: usize) -> Line
 
 // The first line of what is left of a file, by itself, for a flash of so many bytes.
 pub fn judge(s: &[u8], flash: usize) -> Judged
-    ensures { λ r. ⌜ judgement (r .line) (r .bytes) ≡ line-at flash (now (s .entry)) ⌝ }
+    ensures { λ r. ⌜ judgement (r .line) (r .bytes) ≡ judgement-at flash (now (s .entry)) ⌝ }
 {
     let m = measure(s);
     if m.bytes == 0 {

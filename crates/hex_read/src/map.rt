@@ -3,19 +3,19 @@ ghost use mathlib.Core.Path.{_≡_};
 ghost use mathlib.Core.Bool.{true, false};
 ghost use Prim.Native.Nat.{_+_, _*_, _/_, _%_, _^_, _≤_, _<_};
 ghost use lib.ListN.{length};
-ghost use Rattle.hex_read.specs.Code.Map.{bit, Run, Clash};
+ghost use Rattle.hex_read.specs.Code.Map.{map-bit, Run, Clash};
 
 // A bit of a byte.
 fn bit(b: u8, k: usize) -> u8
     requires { ⌜ k < 8 ⌝ }
-    ensures { λ r. ⌜ r ≡ bit b k ⌝ }
+    ensures { λ r. ⌜ r ≡ map-bit b k ⌝ }
 {
     (b >> k) % 2
 }
 
 // A byte with one bit more.
 fn with_bit(b: u8, k: usize) -> u8
-    requires { ⌜ (k < 8) × (bit b k ≡ 0) ⌝ }
+    requires { ⌜ (k < 8) × (map-bit b k ≡ 0) ⌝ }
     ensures { λ r. ⌜ r ≡ b + 2 ^ k ⌝ }
 {
     b + (1 << k)

@@ -3,7 +3,7 @@ ghost use mathlib.Core.Path.{_≡_};
 ghost use mathlib.Core.Bool.{false};
 ghost use Prim.Native.Nat.{_*_, _≤_, _<_};
 ghost use lib.ListN.{length, replicate};
-ghost use Rattle.hex_format.specs.Reading.{unset, lines, walked, shown, shows, answered, hex-read};
+ghost use Rattle.hex_format.specs.Reading.{unset, lines, lines-taken, reading-done, image-in-buffer, read-answer, hex-read};
 use super::buffer::set_all;
 use super::fill::fill;
 use super::walk::walk;
@@ -35,8 +35,8 @@ fn refused(number: u32, line: u64) -> HexImage
 // The image by way of a map that covers the flash.
 fn read_map(map: &mut [u8], size: usize, count: usize, file: &[u8], image: &mut [u8]) -> HexImage
     requires { ⌜ (0 < size) × (size * count ≤ 65536) × (length (now map) ≡ 8192) ⌝ }
-    ensures { λ r. ⌜ shown (r .number) (r .line) (r .first) (r .bytes) (now (image .exit))
-        ≡ shows (answered size (length (now (image .entry))) (walked 0 false (replicate (size * count) unset) (lines (now (file .entry))))) (now (image .entry)) ⌝ }
+    ensures { λ r. ⌜ reading-done (r .number) (r .line) (r .first) (r .bytes) (now (image .exit))
+        ≡ image-in-buffer (read-answer size (length (now (image .entry))) (lines-taken 0 false (replicate (size * count) unset) (lines (now (file .entry))))) (now (image .entry)) ⌝ }
 {
     set_all(map, 0);
     let w = walk(map, size * count, file);
@@ -64,8 +64,8 @@ fn read_map(map: &mut [u8], size: usize, count: usize, file: &[u8], image: &mut 
 // The image, for accepted settings. The map has a bit for each of 65,536 bytes.
 fn read_accepted(size: usize, count: usize, file: &[u8], image: &mut [u8]) -> HexImage
     requires { ⌜ (0 < size) × (size * count ≤ 65536) ⌝ }
-    ensures { λ r. ⌜ shown (r .number) (r .line) (r .first) (r .bytes) (now (image .exit))
-        ≡ shows (answered size (length (now (image .entry))) (walked 0 false (replicate (size * count) unset) (lines (now (file .entry))))) (now (image .entry)) ⌝ }
+    ensures { λ r. ⌜ reading-done (r .number) (r .line) (r .first) (r .bytes) (now (image .exit))
+        ≡ image-in-buffer (read-answer size (length (now (image .entry))) (lines-taken 0 false (replicate (size * count) unset) (lines (now (file .entry))))) (now (image .entry)) ⌝ }
 {
     let mut map = [0u8; 8192];
     read_map(&mut map, size, count, file, image)
@@ -73,8 +73,8 @@ fn read_accepted(size: usize, count: usize, file: &[u8], image: &mut [u8]) -> He
 
 // The file's image into the lent buffer; a refusal leaves that untouched.
 pub fn read(s: Settings, file: &[u8], image: &mut [u8]) -> HexImage
-    ensures { λ r. ⌜ shown (r .number) (r .line) (r .first) (r .bytes) (now (image .exit))
-        ≡ shows (hex-read s (length (now (image .entry))) (now (file .entry))) (now (image .entry)) ⌝ }
+    ensures { λ r. ⌜ reading-done (r .number) (r .line) (r .first) (r .bytes) (now (image .exit))
+        ≡ image-in-buffer (hex-read s (length (now (image .entry))) (now (file .entry))) (now (image .entry)) ⌝ }
 {
     let k = settings::refusal(s);
     if k != 0 {

@@ -4,7 +4,7 @@ ghost use mathlib.Core.Bool.{false, cond};
 ghost use Prim.Native.Nat.{_+_, _*_, _≤_};
 ghost use lib.Dec.{leb};
 ghost use lib.ListN.{length, replicate};
-ghost use Rattle.hex_format.specs.Reading.{unset, lines, walked};
+ghost use Rattle.hex_format.specs.Reading.{unset, lines, lines-taken};
 ghost use Rattle.hex_read.specs.Code.Walk.{Within, Takes-data, Takes-line, Walks};
 use super::map::mark;
 use hex_format::Line;
@@ -116,7 +116,7 @@ fn take_line(map: &mut [u8], line: Line, ended: bool, low: usize, high: usize) -
 // All lines, with a map that is clear.
 pub(crate) fn walk(map: &mut [u8], flash: usize, file: &[u8]) -> Outcome
     requires { ⌜ (flash ≤ 8 * length (now map)) × (length (now map) ≤ 8192) × (now map ≡ replicate (length (now map)) 0) ⌝ }
-    ensures { λ r. ⌜ Walks (r .number) (r .line) (r .low) (r .high) (walked 0 false (replicate flash unset) (lines (now (file .entry)))) ⌝ }
+    ensures { λ r. ⌜ Walks (r .number) (r .line) (r .low) (r .high) (lines-taken 0 false (replicate flash unset) (lines (now (file .entry)))) ⌝ }
 {
     let mut at: usize = 0;
     let mut line: u64 = 0;

@@ -6,7 +6,7 @@ ghost use Prim.Native.Nat.{_+_, _*_, _≤_};
 ghost use lib.Dec.{leb};
 ghost use lib.ListN.{length, drop};
 ghost use Rattle.numbers.specs.Numbers.{buffer-too-small};
-ghost use Rattle.hex_format.specs.Writing.{data-lines, file-bytes, write-refusal, put, puts};
+ghost use Rattle.hex_format.specs.Writing.{data-lines, file-bytes, write-refusal, writing-done, file-in-buffer};
 ghost use Rattle.hex_write.specs.Code.Firsts.{firsts};
 use super::line::put_end;
 use super::line::put_line;
@@ -76,7 +76,7 @@ fn refusal(s: Settings, first: u32, bytes: usize, room: usize) -> u32
 
 // The file of an image from its first page on into the lent buffer; a refusal leaves that untouched.
 pub fn write(s: Settings, first: u32, image: &[u8], file: &mut [u8]) -> Written
-    ensures { λ r. ⌜ put (r .number) (r .bytes) (now (file .exit)) ≡ puts s first (now (image .entry)) (now (file .entry)) ⌝ }
+    ensures { λ r. ⌜ writing-done (r .number) (r .bytes) (now (file .exit)) ≡ file-in-buffer s first (now (image .entry)) (now (file .entry)) ⌝ }
 {
     let number = refusal(s, first, image.len(), file.len());
     if number != 0 {

@@ -13,7 +13,7 @@ use Rattle.c2_session.specs.declared.Session.{Session}
 use Rattle.c2_record.specs.declared.Unpacked.the-variants.{Held, Refused}
 use Rattle.c2_record.specs.Record.{packed, unpacked}
 use Rattle.c2_record.proofs.Laws.Claims.{packed-whole, unpack-pack}
-use Rattle.exchange.specs.Calls.{done}
+use Rattle.exchange.specs.Calls.{call-done}
 use Rattle.c2_calls.specs.declared.Advanced.{Advanced}
 use Rattle.c2_opening.specs.Opened.{image-length, exchange-at, session-fed}
 use Rattle.c2_calls.specs.Calls.{taking, refusal, untouched, refused-answer, taken-answer, steps-written, does}
@@ -27,21 +27,21 @@ use Rattle.c2_wire.specs.Exchange
 -- answer, step buffer and record after a call that takes replies
 abbrev pub Leaves : (record₀ image replies buffer : List ℕ) → (place : ℕ) → Advanced → (buffer₁ record₁ : List ℕ) → Type 0
 Leaves r image rs buffer place a b r₁ =
-    (a ≡ done C2 (taking r image rs buffer place) .answer)
-    × ((b ≡ done C2 (taking r image rs buffer place) .steps) × (r₁ ≡ done C2 (taking r image rs buffer place) .held))
+    (a ≡ call-done C2 (taking r image rs buffer place) .answer)
+    × ((b ≡ call-done C2 (taking r image rs buffer place) .steps) × (r₁ ≡ call-done C2 (taking r image rs buffer place) .held))
 
 module _ (r image rs buffer : List ℕ) (place : ℕ) (a : Advanced) where
   pub refuses-record : unpacked 20 256 r ≡ Refused → a ≡ refused-answer bad-record → Leaves r image rs buffer place a buffer r
-  unfolding done refusal untouched
+  unfolding call-done refusal untouched
   refuses-record e f = rw e (f, (refl, refl))
 
   module _ (s : Session) (e : unpacked 20 256 r ≡ Held s) where
     pub refuses-image : (length image ≡ image-length s → ⊥) → a ≡ refused-answer other-image → Leaves r image rs buffer place a buffer r
-    unfolding done refusal untouched
+    unfolding call-done refusal untouched
     refuses-image g f = rw (e, ne-eqb (length image) (image-length s) g) (f, (refl, refl))
 
     pub refuses-room : length image ≡ image-length s → length buffer < place + length rs → a ≡ refused-answer no-room → Leaves r image rs buffer place a buffer r
-    unfolding done refusal untouched
+    unfolding call-done refusal untouched
     refuses-room g h f = rw (e, eq-eqb (length image) (image-length s) g, lt-leb (place + length rs) (length buffer) h) (f, (refl, refl))
 
     -- an accepted call: what the loop ran and wrote is what the exchange says
@@ -50,7 +50,7 @@ module _ (r image rs buffer : List ℕ) (place : ℕ) (a : Advanced) where
         → (a .number ≡ number-of (x .point)) × (a .offset ≡ offset-of (x .point)) × (a .taken ≡ n)
         → b ≡ take place buffer ++ (wrote image s rs ++ drop (length (wrote image s rs)) (drop place buffer))
         → r₁ ≡ packed x → Leaves r image rs buffer place a b r₁
-    unfolding done refusal does taken-answer steps-written Exchange.taken
+    unfolding call-done refusal does taken-answer steps-written Exchange.taken
     accepts l h x n b r₁ p q f g k =
         let w : wrote image s rs ≡ steps (exchange-at s image) rs = wrote-is s image rs l in
         let y : x ≡ session-fed s image rs = p ∙ ran-is image s rs in

@@ -11,7 +11,7 @@ use Rattle.c2_figure.proofs.Laws.Left.{counts}
 use Rattle.c2_record.specs.declared.Unpacked.{Unpacked}
 use Rattle.c2_record.specs.declared.Unpacked.the-variants.{Held, Refused}
 use Rattle.c2_record.specs.Record.{unpacked}
-use Rattle.exchange.specs.Calls.{done}
+use Rattle.exchange.specs.Calls.{call-done}
 use Rattle.c2_calls.specs.declared.Remaining.{Remaining}
 use Rattle.c2_opening.specs.Opened.{image-length}
 use Rattle.c2_calls.specs.Calls.{asking, refusal, untouched, blank, does}
@@ -20,13 +20,13 @@ use Rattle.c2_outcome.specs.Outcome.{number-of}
 use Rattle.c2_opening.proofs.Laws.Follows.{Lent, outcome-now}
 use Rattle.c2_calls.proofs.Laws.Claims.{lent-held, blank-bytes}
 
-pub asks-refused : (r : List ℕ) (a : Remaining) → unpacked 20 256 r ≡ Refused → a ≡ record { number = bad-record; steps = 0 } → a ≡ done C2 (asking r)
-unfolding done refusal untouched
+pub asks-refused : (r : List ℕ) (a : Remaining) → unpacked 20 256 r ≡ Refused → a ≡ record { number = bad-record; steps = 0 } → a ≡ call-done C2 (asking r)
+unfolding call-done refusal untouched
 asks-refused r a e f = rw e f
 
 pub asks-held : (r : List ℕ) (u : Unpacked) (s : Session) (a : Remaining) → u ≡ unpacked 20 256 r → u ≡ Held s → a .number ≡ number-of (s .point)
-    → a .steps ≡ steps-left 20 256 s → a ≡ done C2 (asking r)
-unfolding done refusal does
+    → a .steps ≡ steps-left 20 256 s → a ≡ call-done C2 (asking r)
+unfolding call-done refusal does
 asks-held r u s a d e f g =
     let held : unpacked 20 256 r ≡ Held s = sym d ∙ e in
     let l : Lent s (blank s) = lent-held r (blank s) s held (blank-bytes (image-length s)) (length-replicate (image-length s) 0) in

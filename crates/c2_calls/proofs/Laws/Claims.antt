@@ -8,9 +8,9 @@ use borrow.Author.Tests.{eqb-true, eq-eqb, ne-eqb}
 use lib.Dec.{eqb}
 use lib.ListN.{length, replicate, length-replicate}
 use Rattle.laws.proofs.Tests.{both}
-use Rattle.exchange.specs.Calls.{done}
+use Rattle.exchange.specs.Calls.{call-done}
 use Rattle.numbers.specs.Numbers.{running}
-use Rattle.c2_wire.specs.Bits.{Bytes}
+use Rattle.laws.specs.Bytes.{Bytes}
 use Rattle.c2_wire.specs.Step.{reset, code}
 use Rattle.c2_wire.specs.Exchange.{Exchange, Outcome, asks, fed}
 use Rattle.c2_wire.specs.Frames.{strobes}
@@ -167,7 +167,7 @@ blank-bytes zero = tt
 blank-bytes (suc n) = (omega arith, blank-bytes n)
 
 pub refused-keeps : Refused-keeps
-unfolding done untouched refused-answer
+unfolding call-done untouched refused-answer
 refused-keeps (opening r image t first) n = rw (ne-eqb (refusal (opening r image t first)) 0 n) (refl, refl, refl)
 refused-keeps (taking r image rs buffer place) n = rw (ne-eqb (refusal (taking r image rs buffer place)) 0 n) (refl, refl, refl, refl, refl)
 refused-keeps (asking r) n = rw (ne-eqb (refusal (asking r)) 0 n) (refl, refl)
@@ -178,7 +178,7 @@ unfolding asks conversation session-order order lead strobes
 first-is-reset t first image = refl
 
 pub opening-answers : Opening-answers
-unfolding done does
+unfolding call-done does
 opening-answers held image t first e =
     rw (eq-eqb (refusal (opening held image t first)) 0 e) (record { number = refl; step = sym (first-is-reset t first image) })
 

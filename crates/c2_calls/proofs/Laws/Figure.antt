@@ -9,9 +9,9 @@ use borrow.Author.Tests.{eqb-true}
 use lib.Dec.{eqb}
 use lib.ListN.{length, length-replicate}
 use Rattle.laws.proofs.Tests.{passes, by-test}
-use Rattle.exchange.specs.Calls.{done}
+use Rattle.exchange.specs.Calls.{call-done}
 use Rattle.numbers.specs.Numbers.{running, other-image}
-use Rattle.c2_wire.specs.Bits.{Bytes}
+use Rattle.laws.specs.Bytes.{Bytes}
 use Rattle.c2_wire.specs.Exchange.{Outcome, taken, outcome-of}
 use Rattle.c2_wire.specs.declared.Place.{Place}
 use Rattle.c2_order.specs.Acts.{Act}
@@ -74,7 +74,7 @@ module _ (r : List ℕ) (s : Session) (e : unpacked 20 256 r ≡ Held s) where
       rw n (number-zero (s .point) (within-ranges 20 256 s (lent .range) .point) (in-order 20 256 s (blank s) (lent .range) (lent .whole)))
 
 pub left-as-asked : Left-as-asked
-unfolding done refusal does untouched
+unfolding call-done refusal does untouched
 left-as-asked r = go (unpacked 20 256 r) refl
   where
     go : (u : Unpacked) → unpacked 20 256 r ≡ u → told-left r ≡ figure-told r
@@ -82,10 +82,10 @@ left-as-asked r = go (unpacked 20 256 r) refl
     go Refused e = rw (e, told-left, figure-told)
 
 pub told-zero : Told-zero
-unfolding done refusal does untouched
+unfolding call-done refusal does untouched
 told-zero r = go (unpacked 20 256 r) refl
   where
-    go : (u : Unpacked) → unpacked 20 256 r ≡ u → figure-told r ≡ 0 ↔ (done C2 (asking r) .number ≡ running → ⊥)
+    go : (u : Unpacked) → unpacked 20 256 r ≡ u → figure-told r ≡ 0 ↔ (call-done C2 (asking r) .number ≡ running → ⊥)
     go (Held s) e = rw (e, figure-told) (told-zero-held r s e)
     go Refused e = rw (e, figure-told) ((λ f g. omega arith), (λ f. refl))
 
@@ -104,26 +104,26 @@ falls-held r image rs s e b w =
     omega (arith, f, told, figure-of-any s image (h .range) (h .whole))
 
 left-falls : (r image rs buffer : List ℕ) (place : ℕ) → Bytes image
-    → told-left (done C2 (taking r image rs buffer place) .held) + done C2 (taking r image rs buffer place) .answer .taken ≤ told-left r
-unfolding done refusal does untouched refused-answer taken-answer
+    → told-left (call-done C2 (taking r image rs buffer place) .held) + call-done C2 (taking r image rs buffer place) .answer .taken ≤ told-left r
+unfolding call-done refusal does untouched refused-answer taken-answer
 left-falls r image rs buffer place b = go (unpacked 20 256 r) refl
   where
     go : (u : Unpacked) → unpacked 20 256 r ≡ u
-        → told-left (done C2 (taking r image rs buffer place) .held) + done C2 (taking r image rs buffer place) .answer .taken ≤ told-left r
+        → told-left (call-done C2 (taking r image rs buffer place) .held) + call-done C2 (taking r image rs buffer place) .answer .taken ≤ told-left r
     go (Held s) e = by-test (eqb (held-number (Held s) (length image) (length rs) (length buffer) place) 0) accepted refused
       where
         accepted : eqb (held-number (Held s) (length image) (length rs) (length buffer) place) 0 ≡ true
-            → told-left (done C2 (taking r image rs buffer place) .held) + done C2 (taking r image rs buffer place) .answer .taken ≤ told-left r
+            → told-left (call-done C2 (taking r image rs buffer place) .held) + call-done C2 (taking r image rs buffer place) .answer .taken ≤ told-left r
         accepted t =
             let a = passes (eqb (length image) (image-length s)) _ other-image (omega arith) (eqb-true _ 0 t) in
             let q : told-left r ≡ remaining-answer (Held s) .steps = ap (λ (u : Unpacked). remaining-answer u .steps) e in
             rw (q, e, t) (falls-held r image rs s e b (eqb-true (length image) (image-length s) (a .0)))
 
         refused : eqb (held-number (Held s) (length image) (length rs) (length buffer) place) 0 ≡ false
-            → told-left (done C2 (taking r image rs buffer place) .held) + done C2 (taking r image rs buffer place) .answer .taken ≤ told-left r
+            → told-left (call-done C2 (taking r image rs buffer place) .held) + call-done C2 (taking r image rs buffer place) .answer .taken ≤ told-left r
         refused t = rw (e, t) (omega arith)
     go Refused e = rw e (omega arith)
 
 pub told-falls : Told-falls
 told-falls r image rs buffer place b =
-    rw (← left-as-asked r, ← left-as-asked (done C2 (taking r image rs buffer place) .held)) (left-falls r image rs buffer place b)
+    rw (← left-as-asked r, ← left-as-asked (call-done C2 (taking r image rs buffer place) .held)) (left-falls r image rs buffer place b)

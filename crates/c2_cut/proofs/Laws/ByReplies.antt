@@ -19,8 +19,8 @@ use Rattle.c2_order.specs.Conversation.{conversation}
 use Rattle.c2_target.specs.declared.Target.{Target}
 use Rattle.c2_target.specs.Delays.{Setup}
 use Rattle.c2_target.specs.Strobes.{Turn}
-use Rattle.c2_target.specs.Target.{stepped, step-coded, refusal, answer, flash-after}
-use Rattle.c2_play.specs.Playing.{run-replies, whole-step, answered, Own-replies}
+use Rattle.c2_target.specs.Target.{stepped, step-coded, step-refusal, answer, flash-after}
+use Rattle.c2_play.specs.Playing.{run-replies, whole-step, answered-steps, Own-replies}
 use Rattle.c2_target.specs.Steps.{State, own-replies, left-by}
 use Rattle.c2_play.proofs.Laws.Interface.{Fit}
 use Rattle.c2_target.proofs.Laws.Known.{Lent, Exists, known-says}
@@ -50,7 +50,7 @@ reply-again (suc (suc n)) h = absurd (omega arith)
 
 off-keeps : (u : Setup) (t : Target) (f : List ℕ) → left-by u t f (6 ∷ []) ≡ record { target = t; flash = f }
 unfolding left-by answer flash-after stepped step-coded
-off-keeps u t f = by-test (eqb (refusal u t f 6) 0) (λ e. rw e) (λ e. rw e)
+off-keeps u t f = by-test (eqb (step-refusal u t f 6) 0) (λ e. rw e) (λ e. rw e)
 
 none-taken : (o : Outcome) (rs : List ℕ) → taken (ended o) rs ≡ 0
 unfolding taken steps
@@ -68,7 +68,7 @@ there w = record { target = w .target; flash = w .flash }
 -- the steps that the replies bring are those of the run
 pub given-walk : (u : Setup) (n : ℕ) (e : Exchange) (t : Target) (f rs : List ℕ) → Own-replies u t f e rs → n ≤ suc (taken e rs)
     → left-by u t f (take n (sent e rs)) ≡ there (walked (whole-step u) n e t f)
-unfolding walked left-by taken steps asks answered own-replies whole-step after code
+unfolding walked left-by taken steps asks answered-steps own-replies whole-step after code
 given-walk u zero e t f rs h hn = refl
 given-walk u (suc n) (ended o) t f rs h hn =
     ap (λ (xs : List ℕ). left-by u t f (6 ∷ take n xs)) (none-brought o rs) ∙ ap (λ (xs : List ℕ). left-by u t f (6 ∷ xs)) (take-nil n) ∙ off-keeps u t f
@@ -84,7 +84,7 @@ given-walk u (suc n) (ask (at g s) k) t f (r ∷ rs) h hn =
 -- replies that are the target's own are those of the run
 pub own-take : (u : Setup) (m : ℕ) (e : Exchange) (t : Target) (f rs : List ℕ) → Own-replies u t f e rs → m ≤ taken e rs
     → take m rs ≡ take m (run-replies (whole-step u) e t f)
-unfolding taken steps asks answered own-replies whole-step after run-replies
+unfolding taken steps asks answered-steps own-replies whole-step after run-replies
 own-take u zero e t f rs h hm = refl
 own-take u (suc m) (ended o) t f [] h hm = absurd (omega arith)
 own-take u (suc m) (ended o) t f (r ∷ rs) h hm = absurd (omega arith)

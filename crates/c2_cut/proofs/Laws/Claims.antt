@@ -3,7 +3,8 @@ use mathlib.Core.Path.{_≡_, refl, ap, subst⁻¹}
 use mathlib.Core.List.{List, _∷_}
 use Prim.Native.Nat.{ℕ, zero, suc}
 use native.Mathlib.Omega.{arith}
-use Rattle.c2_wire.specs.Bits.{bit, Bytes}
+use Rattle.laws.specs.Bytes.{Bytes}
+use Rattle.c2_wire.specs.Bits.{bit}
 use Rattle.c2_wire.specs.Exchange.{Exchange, ended, ask, at}
 use Rattle.settings.specs.Accepted.{settings-refusal}
 use Rattle.settings.proofs.Laws.Accepted.{Facts, facts}

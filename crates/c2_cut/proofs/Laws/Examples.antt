@@ -13,8 +13,8 @@ use Rattle.c2_order.specs.Acts.{coded-length, length-code, input-taken, output-
 use Rattle.c2_order.specs.Order.{Page, pages, rising, blocks, joined, lead, page-acts, order, session-order}
 use Rattle.c2_order.specs.Conversation.{session-limits, polling, conversation}
 use Rattle.c2_target.specs.Delays.{Setup, list-place, delay, next-place}
-use Rattle.c2_target.specs.Commands.{erased, stored, in-flash, opens, takes, some-output, first-byte, other-bytes}
-use Rattle.c2_target.specs.Interface.{in-busy, out-ready, status-bits, linked, shown, given, late-of, place-after, put-byte, get-byte, counted, next-keys, begun, does}
+use Rattle.c2_target.specs.Commands.{erased, stored, in-flash, opens, takes-put, some-output, first-byte, other-bytes}
+use Rattle.c2_target.specs.Interface.{in-busy, out-ready, status-bits, linked, shown, given, late-of, place-after, put-byte, get-byte, counted, next-keys, begun, frame-does}
 use Rattle.c2_target.specs.Strobes.{line, marked, sending, frame-begins, after-ins, after-write-length, after-read-length, after-address, after-data, after-long-data, value-sent, after-wait, strobed-at}
 use Rattle.c2_target.specs.Target.{cleared, fresh, after-reset, between-frames, keyed, after-pause, stepped}
 use Rattle.c2_play.specs.Playing.{run-replies}
@@ -47,5 +47,5 @@ flash-at n = walked (stepped setup) n whole fresh blank .flash
 -- the 28,593rd.
 pub one-page : ((number-after [] 74 ≡ running) × (number-after [] 75 ≡ done) × (flash-at 209 ≡ blank) × (flash-at 210 ≡ replicate 512 0xff)
     × (number-after (page ∷ []) 28592 ≡ running) × (number-after (page ∷ []) 28593 ≡ done))
-unfolding bits bit odd drives sends ins-code frame waiting strobes coded-length length-code input-taken output-ready put get status puts compares erase block-command block-write block-read pages rising blocks joined lead page-acts order session-order polling conversation list-place delay next-place erased stored in-flash opens takes some-output first-byte other-bytes in-busy out-ready status-bits linked shown given late-of place-after put-byte get-byte counted next-keys begun does line marked sending frame-begins after-ins after-write-length after-read-length after-address after-data after-long-data value-sent after-wait strobed-at cleared fresh after-reset between-frames keyed after-pause stepped run-replies walked fed after outcome-of
+unfolding bits bit odd drives sends ins-code frame waiting strobes coded-length length-code input-taken output-ready put get status puts compares erase block-command block-write block-read pages rising blocks joined lead page-acts order session-order polling conversation list-place delay next-place erased stored in-flash opens takes-put some-output first-byte other-bytes in-busy out-ready status-bits linked shown given late-of place-after put-byte get-byte counted next-keys begun frame-does line marked sending frame-begins after-ins after-write-length after-read-length after-address after-data after-long-data value-sent after-wait strobed-at cleared fresh after-reset between-frames keyed after-pause stepped run-replies walked fed after outcome-of
 one-page = (refl, refl, refl, refl, refl, refl)

@@ -25,7 +25,7 @@ use Rattle.c2_session.specs.declared.Point.the-variants.{Running, Ended}
 use Rattle.c2_session.specs.declared.Session.{Session}
 use Rattle.c2_acts.specs.Code.Acts.{task-of}
 use Rattle.c2_session.specs.Code.Bytes.{compared-offset}
-use Rattle.c2_session.specs.Code.Next.{at}
+use Rattle.c2_session.specs.Code.Next.{act-at}
 use Rattle.c2_range.specs.Range.{place-in-range, point-in-range, in-range}
 use Rattle.c2_range.specs.Code.Bounds.{strobes-in}
 use Rattle.c2_position.specs.Position.{stage-acts, after-stage, point-position, position}
@@ -106,7 +106,7 @@ counts w r s image e l = go (s .point) (point-of w r s e)
         rw (acts-here s image h g i j k (n .page) (n .block) (n .act))
         (omega (
           arith,
-          act-counts w c v r (task-of g k) (act-byte s image h g (at g i j k)) (s .settings .id) (compared-offset s (at g i j k)) q
+          act-counts w c v r (task-of g k) (act-byte s image h g (act-at g i j k)) (s .settings .id) (compared-offset s (act-at g i j k)) q
               (strobe-there w r (task-of g k) _ q c v (n .place)),
           costs-append (limits w r) (drop (suc k) (stage-acts g s image i j)) (after-stage g s image i j),
           stage-costs w r s image h g i j k (n .page) (n .block) (n .act),

@@ -6,7 +6,7 @@ use mathlib.Core.List.{List, [], _∷_}
 use Prim.Native.Nat.{ℕ, suc, _<_}
 use native.Mathlib.Omega.{arith}
 use lib.ListN.{length, getD}
-use Rattle.c2_wire.specs.Bits.{Bytes}
+use Rattle.laws.specs.Bytes.{Bytes}
 use Rattle.c2_wire.specs.Step.{Step}
 use Rattle.c2_wire.specs.Field.{Field}
 use Rattle.c2_wire.specs.Exchange.{Exchange, strobe, ask, at, outcome, fed, outcome-of}

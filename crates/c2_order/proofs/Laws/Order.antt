@@ -6,7 +6,8 @@ use Prim.Native.Nat.{ℕ, zero, suc, _+_, _*_, _/_, _<_}
 use native.Mathlib.Omega.{arith}
 use lib.ListN.{length, take, drop}
 use Rattle.numbers.specs.Numbers.{bad-status, compare-differs, other-device}
-use Rattle.c2_wire.specs.Bits.{bits, Bytes}
+use Rattle.laws.specs.Bytes.{Bytes}
+use Rattle.c2_wire.specs.Bits.{bits}
 use Rattle.c2_wire.specs.Exchange.{Outcome, outcome}
 use Rattle.c2_wire.specs.Step.{reset, pause, drives}
 use Rattle.c2_wire.specs.Field.{RESET, PAUSE, master}

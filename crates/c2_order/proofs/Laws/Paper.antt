@@ -4,7 +4,8 @@ use mathlib.Core.List.{List, [], _∷_}
 use Prim.Native.Nat.{ℕ}
 use native.Mathlib.Omega.{arith}
 use lib.ListN.{length}
-use Rattle.c2_wire.specs.Bits.{odd, bits, bit, Bytes}
+use Rattle.laws.specs.Bytes.{Bytes}
+use Rattle.c2_wire.specs.Bits.{odd, bits, bit}
 use Rattle.c2_wire.specs.Step.{code}
 use Rattle.c2_wire.specs.Exchange.{after, fed, asks, steps, outcome-of}
 use Rattle.c2_wire.specs.Frames.{sends, ins-code, frame, waiting, strobes}

@@ -22,7 +22,7 @@ use Rattle.c2_session.specs.declared.Point.{Point}
 use Rattle.c2_session.specs.declared.Point.the-variants.{Running, Ended}
 use Rattle.c2_session.specs.declared.Session.{Session}
 use Rattle.c2_session.specs.Code.Bytes.{image-byte, compared-offset}
-use Rattle.c2_session.specs.Code.Next.{at, next-write, next-page, next-read, next-stage, next-act}
+use Rattle.c2_session.specs.Code.Next.{act-at, next-write, next-page, next-read, next-stage, next-act}
 use Rattle.c2_session.specs.Code.Judge.{read-again, differs, compared, frame-judged, frame-answered}
 use Rattle.c2_session.specs.Code.Step.{alone, task-frame, point-step, session-step, point-step-by, step-by}
 use Rattle.c2_session.specs.Code.Advance.{point-replied, point-advanced, advanced, point-advanced-by, advanced-by}
@@ -114,7 +114,7 @@ known-next w r s t image x e = go (s .point) e
     told a (Ended n o) e z = tt
 
     go : (y : Point) → Knows t y → Knows (task-next (point-advanced w r y s x image) t) (point-advanced w r y s x image)
-    go (Running g i j k q c v) e = told (at g i j k) (point-replied w r s (at g i j k) (place q c v) x image) e (replied-after w r s image (at g i j k) (place q c v) x)
+    go (Running g i j k q c v) e = told (act-at g i j k) (point-replied w r s (act-at g i j k) (place q c v) x image) e (replied-after w r s image (act-at g i j k) (place q c v) x)
     go (Ended n o) e = tt
 
 -- what `task-at` says of a point is what the act there does

@@ -12,7 +12,7 @@ use lib.Dec.{eqb}
 use lib.ListN.{length, take, drop, replicate, length-append}
 use lib.Seq.{set-at, getD-at, append-snoc}
 use Rattle.numbers.specs.Numbers.{bad-status}
-use Rattle.c2_wire.specs.Bits.{Bytes}
+use Rattle.laws.specs.Bytes.{Bytes}
 use Rattle.c2_wire.specs.Exchange.{outcome}
 use Rattle.c2_order.specs.Acts.{Act, put, get, status, puts, compares, length-code, coded-length, Block, erase, block-command, block-write, block-read}
 use Rattle.c2_target.specs.declared.Command.{Command}
@@ -21,7 +21,7 @@ use Rattle.c2_target.specs.declared.Output.{Output}
 use Rattle.c2_target.specs.declared.Output.the-variants.{Empty, Status, StatusBlock}
 use Rattle.c2_target.specs.declared.Target.{Target}
 use Rattle.c2_target.specs.Delays.{Setup}
-use Rattle.c2_target.specs.Commands.{erased, stored, in-flash, opens, takes, some-output, first-byte, other-bytes}
+use Rattle.c2_target.specs.Commands.{erased, stored, in-flash, opens, takes-put, some-output, first-byte, other-bytes}
 use Rattle.c2_play.proofs.Laws.Interface.{Fit, Kept, Good, good-now, put-good, get-good, status-good, address-good}
 use Rattle.c2_play.specs.Covers.{Covers}
 use Rattle.c2_target.specs.declared.Output.the-variants as outputs
@@ -68,7 +68,7 @@ module _ (u : Setup) (l r : ℕ) (fit : Fit u l r) (J : List ℕ → Type 0) (Z 
 
   pub erase-good : (page : ℕ) (acts : List Act) (f : List ℕ) → page < 256 → page < u .settings .count → J f
       → good acts Ready Empty (erased (u .settings .size) page f) → good (erase (u .settings .fpdat) page ++ acts) Ready Empty f
-  unfolding erase put status get takes opens
+  unfolding erase put status get takes-put opens
   erase-good page acts f h hc j g =
       address-good u l r fit J Z kept _ _ _ _
       (put-good u l r fit J Z kept 0x08 _ _ _ _ (omega arith) j
@@ -84,7 +84,7 @@ module _ (u : Setup) (l r : ℕ) (fit : Fit u l r) (J : List ℕ → Type 0) (Z 
       → bitAnd o b ≡ b → Covers os bs → ((k : ℕ) → J (A ++ (take k (b ∷ bs) ++ (drop k (o ∷ os) ++ W))))
       → good acts Ready (Status true) (A ++ (b ∷ bs ++ W))
       → good (puts (b ∷ bs) ++ acts) (Byte a (suc (length bs))) Empty (A ++ (o ∷ os ++ W))
-  unfolding puts put takes Covers
+  unfolding puts put takes-put Covers
   puts-good A b [] o [] W a acts ea hb h hc cs j g = put-good u l r fit J Z kept b _ _ _ _ hb (j 0) (rw (stored-covers A W o b a ea hc) g)
   puts-good A b [] o (y ∷ os) W a acts ea hb h hc cs j g = absurd cs
   puts-good A b (x ∷ bs) o [] W a acts ea hb h hc cs j g = absurd cs
@@ -117,7 +117,7 @@ module _ (u : Setup) (l r : ℕ) (fit : Fit u l r) (J : List ℕ → Type 0) (Z 
       → Covers os bs → ((k : ℕ) → J (A ++ (take k bs ++ (drop k os ++ W))))
       → good acts Ready Empty (A ++ (bs ++ W))
       → good (block-write (u .settings .fpdat) (record { address = a; offset = o; bytes = bs }) ++ acts) Ready Empty (A ++ (os ++ W))
-  unfolding block-write block-command put status get takes opens in-flash Covers
+  unfolding block-write block-command put status get takes-put opens in-flash Covers
   block-write-good A [] os W a o acts ea ha h1 hn h cs j g = absurd (omega arith)
   block-write-good A (b ∷ bs) [] W a o acts ea ha h1 hn h cs j g = absurd cs
   block-write-good A (b ∷ bs) (y ∷ os) W a o acts ea ha h1 hn h cs j g =
@@ -138,7 +138,7 @@ module _ (u : Setup) (l r : ℕ) (fit : Fit u l r) (J : List ℕ → Type 0) (Z 
   pub block-read-good : (A bs W : List ℕ) (a o : ℕ) (acts : List Act) → length A ≡ a → a < 65536 → 1 ≤ length bs → length bs ≤ 256 → Bytes bs
       → good acts Ready Empty (A ++ (bs ++ W))
       → good (block-read (u .settings .fpdat) (record { address = a; offset = o; bytes = bs }) ++ acts) Ready Empty (A ++ (bs ++ W))
-  unfolding block-read block-command put status get takes opens in-flash some-output first-byte other-bytes
+  unfolding block-read block-command put status get takes-put opens in-flash some-output first-byte other-bytes
   block-read-good A [] W a o acts ea ha h1 hn h g = absurd (omega arith)
   block-read-good A (b ∷ bs) W a o acts ea ha h1 hn h g =
       let f : List ℕ = A ++ (b ∷ bs ++ W) in

@@ -21,7 +21,7 @@ use Rattle.c2_target.specs.declared.Point.the-variants.{Start, Wait}
 use Rattle.c2_target.specs.declared.Device.{Device}
 use Rattle.c2_target.specs.declared.Target.{Target}
 use Rattle.c2_target.specs.Delays.{Setup, delay, next-place}
-use Rattle.c2_target.specs.Interface.{Acted, device, shown, given, begun, does}
+use Rattle.c2_target.specs.Interface.{Acted, device, shown, given, begun, frame-does}
 use Rattle.c2_target.specs.Strobes.{target, line, marked, sending, frame-begins, after-ins, after-write-length, after-read-length, after-address, after-data, value-sent, after-wait, strobed-at}
 use Rattle.c2_target.specs.Target.{stepped}
 use Rattle.c2_play.proofs.Laws.Leads.{Leads}
@@ -52,23 +52,23 @@ module _ (u : Setup) (J : List ℕ → Type 0) (Z : Target → List ℕ → Type
   leads-after e c r = leads e (idle (r .place) c (r .device)) (r .flash)
 
   pub address-write-leads : (l a : ℕ) (k : ℕ → Exchange) (p : ℕ) (c : Bool) (d : Device) (f : List ℕ) → a < 256 → J f
-      → leads-after (k 0) c (does u (SetAddress a) (begun d) p f) → leads (framed l (frame AddressWrite a) k) (idle p c d) f
-  unfolding Leads frame sends ins-code bits bit odd drives strobes stepped strobed-at line marked frame-begins after-ins after-address does
+      → leads-after (k 0) c (frame-does u (SetAddress a) (begun d) p f) → leads (framed l (frame AddressWrite a) k) (idle p c d) f
+  unfolding Leads frame sends ins-code bits bit odd drives strobes stepped strobed-at line marked frame-begins after-ins after-address frame-does
   address-write-leads l a k p c d f h j g =
-      (j, (j, (j, (j, (j, (j, (j, (j, (j, (j, (j, (j, subst⁻¹ (λ (x : ℕ). leads-after (k 0) c (does u (SetAddress x) (begun d) p f)) (heard-byte a h) g))))))))))))
+      (j, (j, (j, (j, (j, (j, (j, (j, (j, (j, (j, (j, subst⁻¹ (λ (x : ℕ). leads-after (k 0) c (frame-does u (SetAddress x) (begun d) p f)) (heard-byte a h) g))))))))))))
 
   -- where an Address Write runs well, so does what follows it
   pub address-write-says : (l a : ℕ) (k : ℕ → Exchange) (p : ℕ) (c : Bool) (d : Device) (f : List ℕ) → a < 256
-      → leads (framed l (frame AddressWrite a) k) (idle p c d) f → leads-after (k 0) c (does u (SetAddress a) (begun d) p f)
-  unfolding Leads frame sends ins-code bits bit odd drives strobes stepped strobed-at line marked frame-begins after-ins after-address does
+      → leads (framed l (frame AddressWrite a) k) (idle p c d) f → leads-after (k 0) c (frame-does u (SetAddress a) (begun d) p f)
+  unfolding Leads frame sends ins-code bits bit odd drives strobes stepped strobed-at line marked frame-begins after-ins after-address frame-does
   address-write-says l a k p c d f h g =
-      subst (λ (x : ℕ). leads-after (k 0) c (does u (SetAddress x) (begun d) p f)) (heard-byte a h) (g .1 .1 .1 .1 .1 .1 .1 .1 .1 .1 .1 .1)
+      subst (λ (x : ℕ). leads-after (k 0) c (frame-does u (SetAddress x) (begun d) p f)) (heard-byte a h) (g .1 .1 .1 .1 .1 .1 .1 .1 .1 .1 .1 .1)
 
   pub address-read-leads : (l : ℕ) (k : ℕ → Exchange) (p : ℕ) (c : Bool) (d : Device) (f : List ℕ) → shown (u .settings) (begun d) < 256 → J f
-      → leads-after (k (shown (u .settings) (begun d))) c (does u CountDown (begun d) p f) → leads (framed l (frame AddressRead 0) k) (idle p c d) f
+      → leads-after (k (shown (u .settings) (begun d))) c (frame-does u CountDown (begun d) p f) → leads (framed l (frame AddressRead 0) k) (idle p c d) f
   unfolding Leads frame sends ins-code bits bit odd drives strobes stepped strobed-at line marked frame-begins after-ins sending
   address-read-leads l k p c d f h j g =
-      (j, (j, (j, (j, (j, (j, (j, (j, (j, (j, (j, (j, subst⁻¹ (λ (x : ℕ). leads-after (k x) c (does u CountDown (begun d) p f)) (heard-byte (shown (u .settings) (begun d)) h) g))))))))))))
+      (j, (j, (j, (j, (j, (j, (j, (j, (j, (j, (j, (j, subst⁻¹ (λ (x : ℕ). leads-after (k x) c (frame-does u CountDown (begun d) p f)) (heard-byte (shown (u .settings) (begun d)) h) g))))))))))))
 
   -- a WAIT of which n strobes are left after this one passes, if its zeros are no more
   waits-on : (z n m : ℕ) (e : Effect) (k : Exchange) (p : ℕ) (c : Bool) (d : Device) (f : List ℕ) → z ≤ n → J f
@@ -91,15 +91,15 @@ module _ (u : Setup) (J : List ℕ → Type 0) (Z : Target → List ℕ → Type
       (j, waits-on (delay (u .delays) p % u .wait) l m e k (next-place (u .delays) p) c d f (omega (arith, mod-lt (delay (u .delays) p) h1)) j g)
 
   pub data-write-leads : (l a : ℕ) (k : ℕ → Exchange) (p : ℕ) (c : Bool) (d : Device) (f : List ℕ) → 1 ≤ u .wait → u .wait ≤ l → a < 256 → J f
-      → leads-after (k 0) c (does u (Write a) (begun d) (next-place (u .delays) p) f) → leads (framed l (frame DataWrite a) k) (idle p c d) f
+      → leads-after (k 0) c (frame-does u (Write a) (begun d) (next-place (u .delays) p) f) → leads (framed l (frame DataWrite a) k) (idle p c d) f
   unfolding Leads frame sends ins-code bits bit odd drives strobes stepped strobed-at line marked frame-begins after-ins after-write-length after-data sending
   data-write-leads l a k p c d f h1 hl h j g =
-      (j, (j, (j, (j, (j, (j, (j, (j, (j, (j, (j, (j, (j, wait-leads l 0 (Write (heard a)) (strobe STOP released (λ _. k 0)) p c (begun d) f h1 hl j (j, subst⁻¹ (λ (x : ℕ). leads-after (k 0) c (does u (Write x) (begun d) (next-place (u .delays) p) f)) (heard-byte a h) g))))))))))))))
+      (j, (j, (j, (j, (j, (j, (j, (j, (j, (j, (j, (j, (j, wait-leads l 0 (Write (heard a)) (strobe STOP released (λ _. k 0)) p c (begun d) f h1 hl j (j, subst⁻¹ (λ (x : ℕ). leads-after (k 0) c (frame-does u (Write x) (begun d) (next-place (u .delays) p) f)) (heard-byte a h) g))))))))))))))
 
   pub data-read-leads : (l : ℕ) (k : ℕ → Exchange) (p : ℕ) (c : Bool) (d : Device) (f : List ℕ) → 1 ≤ u .wait → u .wait ≤ l
       → given (u .settings) (begun d) f < 256 → J f
-      → leads-after (k (given (u .settings) (begun d) f)) c (does u Read (begun d) (next-place (u .delays) p) f)
+      → leads-after (k (given (u .settings) (begun d) f)) c (frame-does u Read (begun d) (next-place (u .delays) p) f)
       → leads (framed l (frame DataRead 0) k) (idle p c d) f
   unfolding Leads frame sends ins-code bits bit odd drives strobes stepped strobed-at line marked frame-begins after-ins after-read-length sending value-sent
   data-read-leads l k p c d f h1 hl h j g =
-      (j, (j, (j, (j, (j, wait-leads l 8 Read (strobes l (replicate 8 (sampled read-DATA) ++ stop) 0 0 k) p c (begun d) f h1 hl j (j, (j, (j, (j, (j, (j, (j, (j, (j, subst⁻¹ (λ (x : ℕ). leads-after (k x) c (does u Read (begun d) (next-place (u .delays) p) f)) (heard-byte (given (u .settings) (begun d) f) h) g))))))))))))))
+      (j, (j, (j, (j, (j, wait-leads l 8 Read (strobes l (replicate 8 (sampled read-DATA) ++ stop) 0 0 k) p c (begun d) f h1 hl j (j, (j, (j, (j, (j, (j, (j, (j, (j, subst⁻¹ (λ (x : ℕ). leads-after (k x) c (frame-does u Read (begun d) (next-place (u .delays) p) f)) (heard-byte (given (u .settings) (begun d) f) h) g))))))))))))))

@@ -5,7 +5,7 @@ use Prim.Native.Nat.{ℕ, _*_}
 use native.Mathlib.Omega.{arith}
 use borrow.Author.Tests.{eq-eqb}
 use lib.ListN.{length}
-use Rattle.c2_wire.specs.Bits.{Bytes}
+use Rattle.laws.specs.Bytes.{Bytes}
 use Rattle.settings.specs.declared.Settings.{Settings}
 use Rattle.c2_order.specs.Conversation.{session-limits}
 use Rattle.c2_target.specs.Delays.{setup}

@@ -10,7 +10,8 @@ use borrow.Author.Tests.{lt-ltb, eq-eqb, ne-eqb}
 use lib.Dec.{eqb, eqb·suc-zero}
 use lib.ListN.{getD}
 use Rattle.numbers.specs.Numbers.{bad-status}
-use Rattle.c2_wire.specs.Bits.{bit, odd, Bytes}
+use Rattle.laws.specs.Bytes.{Bytes}
+use Rattle.c2_wire.specs.Bits.{bit, odd}
 use Rattle.c2_wire.specs.Exchange.{Exchange, Outcome, outcome}
 use Rattle.c2_wire.specs.Frames.{frame, framed}
 use Rattle.c2_wire.specs.declared.Frame.the-variants.{AddressWrite, AddressRead, DataWrite, DataRead}
@@ -23,8 +24,8 @@ use Rattle.c2_target.specs.declared.Link.{Link}
 use Rattle.c2_target.specs.declared.Device.{Device}
 use Rattle.c2_target.specs.declared.Target.{Target}
 use Rattle.c2_target.specs.Delays.{Setup, list-place, delay, next-place}
-use Rattle.c2_target.specs.Commands.{takes, some-output, first-byte, other-bytes}
-use Rattle.c2_target.specs.Interface.{link, device, in-busy, out-ready, status-bits, linked, shown, given, late-of, place-after, put-byte, get-byte, counted, next-keys, begun, does}
+use Rattle.c2_target.specs.Commands.{takes-put, some-output, first-byte, other-bytes}
+use Rattle.c2_target.specs.Interface.{link, device, in-busy, out-ready, status-bits, linked, shown, given, late-of, place-after, put-byte, get-byte, counted, next-keys, begun, frame-does}
 use Rattle.c2_target.specs.Target.{stepped}
 use Rattle.c2_target.proofs.Laws.Interface.{delay-byte, late-byte, status-small}
 use Rattle.c2_play.proofs.Laws.Frames.{idle, leads, address-write-leads, address-read-leads, data-write-leads, data-read-leads}
@@ -97,21 +98,21 @@ module _ (u : Setup) (l r : ℕ) (fit : Fit u l r) (J : List ℕ → Type 0) (Z 
   -- each of the four frames at FPDAT runs well, if what follows does
   pub fpdat-address : (x : Link) (k : ℕ → Exchange) (p : ℕ) (f : List ℕ) → leads u J Z (k 0) (idle p false (at-fpdat u x)) f
       → leads u J Z (framed l (frame AddressWrite (u .settings .fpdat)) k) (idle p false (at-fpdat u x)) f
-  unfolding does begun
+  unfolding frame-does begun
   fpdat-address x k p f g = address-write-leads u J Z l (u .settings .fpdat) k p false (at-fpdat u x) f (fit .high) (now _ _ _ g) g
 
   pub fpdat-write : (x : Link) (b : ℕ) (k : ℕ → Exchange) (p : ℕ) (f : List ℕ) → b < 256 → J f
       → leads u J Z (k 0) (idle (put-byte u x b (next-place (u .delays) p) f .place) false (at-fpdat u (put-byte u x b (next-place (u .delays) p) f .link)))
       (put-byte u x b (next-place (u .delays) p) f .flash)
       → leads u J Z (framed l (frame DataWrite b) k) (idle p false (at-fpdat u x)) f
-  unfolding does begun next-keys
+  unfolding frame-does begun next-keys
   fpdat-write x b k p f h j g =
       data-write-leads u J Z l b k p false (at-fpdat u x) f (fit .some) (fit .wait) h j
       (rw (linked-at-fpdat u x, ne-eqb (u .settings .fpdat) 2 (λ e. omega (arith, fit .low))) g)
 
   pub fpdat-status : (x : Link) (k : ℕ → Exchange) (p : ℕ) (f : List ℕ) → leads u J Z (k (status-bits x)) (idle p false (at-fpdat u (counted x))) f
       → leads u J Z (framed l (frame AddressRead 0) k) (idle p false (at-fpdat u x)) f
-  unfolding does begun shown
+  unfolding frame-does begun shown
   fpdat-status x k p f g =
       address-read-leads u J Z l k p false (at-fpdat u x) f (rw (linked-at-fpdat u x) (status-small x)) (now _ _ _ g) (rw (linked-at-fpdat u x) g)
 
@@ -119,7 +120,7 @@ module _ (u : Setup) (l r : ℕ) (fit : Fit u l r) (J : List ℕ → Type 0) (Z 
       → leads u J Z (k (first-byte (x .output) f)) (idle (get-byte u x (next-place (u .delays) p) f .place) false (at-fpdat u (get-byte u x (next-place (u .delays) p) f .link)))
       (get-byte u x (next-place (u .delays) p) f .flash)
       → leads u J Z (framed l (frame DataRead 0) k) (idle p false (at-fpdat u x)) f
-  unfolding does begun given
+  unfolding frame-does begun given
   fpdat-read x k p f o h j g =
       data-read-leads u J Z l k p false (at-fpdat u x) f (fit .some) (fit .wait) (rw (linked-at-fpdat u x, o) h) j (rw (linked-at-fpdat u x, o) g)
 
@@ -154,12 +155,12 @@ module _ (u : Setup) (l r : ℕ) (fit : Fit u l r) (J : List ℕ → Type 0) (Z 
 
   -- a byte put runs well: the command takes it
   pub put-good : (b : ℕ) (acts : List Act) (c : Command) (o : Output) (f : List ℕ) → b < 256 → J f
-      → Good acts (takes (u .settings) c b f .command) (takes (u .settings) c b f .output) (takes (u .settings) c b f .flash)
+      → Good acts (takes-put (u .settings) c b f .command) (takes-put (u .settings) c b f .output) (takes-put (u .settings) c b f .flash)
       → Good (put b ++ acts) c o f
   unfolding Good put put-byte conversation
   put-good b acts c o f h j g t p ht =
       let q = next-place (u .delays) p in
-      let x = takes (u .settings) c b f in
+      let x = takes-put (u .settings) c b f in
       fpdat-write _ b _ p f h j
       (polls-busy r (delay (u .delays) q) (conversation (limits l r) acts) (x .command) (x .output)
       (late-of (u .delays) (x .output) (next-place (u .delays) q)) (place-after (u .delays) (x .output) (next-place (u .delays) q)) (x .flash)

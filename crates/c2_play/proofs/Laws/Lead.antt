@@ -14,7 +14,7 @@ use Rattle.c2_order.specs.Order.{lead}
 use Rattle.c2_order.specs.Conversation.{limits, conversation}
 use Rattle.c2_target.specs.declared.Target.{Target}
 use Rattle.c2_target.specs.Delays.{Setup}
-use Rattle.c2_target.specs.Interface.{linked, given, next-keys, begun, does}
+use Rattle.c2_target.specs.Interface.{linked, given, next-keys, begun, frame-does}
 use Rattle.c2_target.specs.Target.{cleared, after-reset, between-frames, keyed, after-pause, stepped}
 use Rattle.c2_play.proofs.Laws.Interface.{Fit}
 use Rattle.c2_play.proofs.Laws.Leads.{Leads}
@@ -31,7 +31,7 @@ module _ (u : Setup) (l r : ℕ) (fit : Fit u l r) where
   conv acts = conversation (limits l r) acts
 
   pub lead-leads : (t : Target) (f : List ℕ) → t .collision ≡ false → leads u (λ F. F ≡ f) (Led f) (conv (lead (u .settings))) t f
-  unfolding Leads lead conversation strobes stepped after-reset after-pause keyed between-frames cleared does begun linked given next-keys
+  unfolding Leads lead conversation strobes stepped after-reset after-pause keyed between-frames cleared frame-does begun linked given next-keys
   lead-leads t f hm =
       let J : List ℕ → Type 0 = λ F. F ≡ f in
       let Z = Led f in

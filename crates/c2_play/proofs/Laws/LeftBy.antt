@@ -8,7 +8,7 @@ use Prim.Native.Nat.{ℕ}
 use native.Mathlib.Omega.{arith}
 use lib.Dec.{eqb}
 use Rattle.laws.proofs.Tests.{by-test}
-use Rattle.c2_wire.specs.Bits.{Bytes}
+use Rattle.laws.specs.Bytes.{Bytes}
 use Rattle.c2_wire.specs.Exchange.{Exchange, fed}
 use Rattle.c2_order.specs.Order.{session-order}
 use Rattle.c2_order.specs.Conversation.{Positive}
@@ -19,8 +19,8 @@ use Rattle.c2_order.proofs.Laws.Claims.{start-bounds}
 use Rattle.c2_target.specs.declared.Target.{Target}
 use Rattle.c2_target.specs.Delays.{Setup}
 use Rattle.c2_target.specs.Known.{known}
-use Rattle.c2_target.specs.Target.{step-coded, refusal, answer, flash-after}
-use Rattle.c2_play.specs.Playing.{Played, play, answered}
+use Rattle.c2_target.specs.Target.{step-coded, step-refusal, answer, flash-after}
+use Rattle.c2_play.specs.Playing.{Played, play, answered-steps}
 use Rattle.c2_target.specs.Steps.{left-by}
 use Rattle.c2_play.specs.Programmed.{Own-replies-program, Own-replies-leave}
 use Rattle.c2_target.proofs.Laws.Known.{Lent, known-says, known-is, stepped-known}
@@ -37,7 +37,7 @@ pub answer-lasts : (u : Setup) → Lent u → (t : Target) (f : List ℕ) (x : �
 unfolding answer flash-after
 answer-lasts u lent t f x k =
     let y = stepped-known u lent t f (step-coded x) (k .bytes) (known-says u t f (k .exists)) in
-    by-test (eqb (refusal u t f x) 0) (λ e. rw e (record { bytes = y .bytes; exists = known-is u _ _ (y .exists) })) (λ e. rw e k)
+    by-test (eqb (step-refusal u t f x) 0) (λ e. rw e (record { bytes = y .bytes; exists = known-is u _ _ (y .exists) })) (λ e. rw e k)
 
 -- a state that exists is left so by any bytes for steps
 pub left-lasts : (u : Setup) → Lent u → (xs : List ℕ) (t : Target) (f : List ℕ) → Lasts u t f → Lasts u (left-by u t f xs .target) (left-by u t f xs .flash)
@@ -48,8 +48,8 @@ left-lasts u lent (x ∷ xs) t f k = left-lasts u lent xs (answer u t f x .targe
 pub own-replies-leave : Own-replies-leave
 own-replies-leave l u first image t f rs o m h =
     let e = exchange-of l (u .settings) first image in
-    let x = left-lasts u (record { id = o .id; delays = m .delays; wait = m .some }) (answered e rs) t f (record { bytes = m .flash; exists = m .state }) in
-    let clean : play u (fed e rs) (left-by u t f (answered e rs) .target) (left-by u t f (answered e rs) .flash) .target .collision ≡ false =
+    let x = left-lasts u (record { id = o .id; delays = m .delays; wait = m .some }) (answered-steps e rs) t f (record { bytes = m .flash; exists = m .state }) in
+    let clean : play u (fed e rs) (left-by u t f (answered-steps e rs) .target) (left-by u t f (answered-steps e rs) .flash) .target .collision ≡ false =
     ap (λ (p : Played). p .target .collision) (own-play u e t f rs h) ∙ programmed l u first image t f o m .clean in
     record {
       state = x .exists;

@@ -16,15 +16,15 @@ use Rattle.c2_wire.proofs.Laws.Bits.{bit-small}
 use Rattle.c2_wire.proofs.Laws.Exchange.{fed-ended, taken-append, after-bit}
 use Rattle.c2_target.specs.declared.Target.{Target}
 use Rattle.c2_target.specs.Delays.{Setup}
-use Rattle.c2_target.specs.Target.{stepped, step-coded, refusal, answer, flash-after}
-use Rattle.c2_play.specs.Playing.{against, run-replies, whole-step, play, answered, Own-replies, played-after}
+use Rattle.c2_target.specs.Target.{stepped, step-coded, step-refusal, answer, flash-after}
+use Rattle.c2_play.specs.Playing.{against, run-replies, whole-step, play, answered-steps, Own-replies, played-after}
 use Rattle.c2_target.specs.Steps.{own-replies, left-by}
 
 -- a reply is 0 or 1, also that of a refused step
 pub reply-small : (u : Setup) (t : Target) (f : List ℕ) (x : ℕ) → answer u t f x .reply ≤ 1
 unfolding answer
 reply-small u t f x =
-    by-test (eqb (refusal u t f x) 0) (λ e. rw e (bit-small (stepped u t f (step-coded x) .reply))) (λ e. rw e (omega arith))
+    by-test (eqb (step-refusal u t f x) 0) (λ e. rw e (bit-small (stepped u t f (step-coded x) .reply))) (λ e. rw e (omega arith))
 
 pub after-small : (g : Field) (s : Step) (k : Bool → Exchange) (n : ℕ) → n ≤ 1 → after (strobe g s k) n ≡ k (eqb n 1)
 unfolding after
@@ -39,8 +39,8 @@ tail-is : (x y : ℕ) (xs ys : List ℕ) → x ∷ xs ≡ y ∷ ys → xs ≡ ys
 tail-is x y xs ys p = cc
 
 pub own-play : (u : Setup) (e : Exchange) (t : Target) (f : List ℕ) (rs : List ℕ) → Own-replies u t f e rs
-    → play u (fed e rs) (left-by u t f (answered e rs) .target) (left-by u t f (answered e rs) .flash) ≡ play u e t f
-unfolding fed steps taken answered own-replies left-by against whole-step asks after
+    → play u (fed e rs) (left-by u t f (answered-steps e rs) .target) (left-by u t f (answered-steps e rs) .flash) ≡ play u e t f
+unfolding fed steps taken answered-steps own-replies left-by against whole-step asks after
 own-play u e t f [] h = refl
 own-play u (ended o) t f (r ∷ rs) h = rw (fed-ended o rs)
 own-play u (ask (at g s) k) t f (r ∷ rs) h =
@@ -57,8 +57,8 @@ pub own-ends : (u : Setup) (e : Exchange) (t : Target) (f : List ℕ) (rs : List
 unfolding against outcome-of
 own-ends u e t f rs o h q =
     sym (own-play u e t f rs h)
-    ∙ ap (λ (y : Exchange). play u y (left-by u t f (answered e rs) .target) (left-by u t f (answered e rs) .flash)) q
-    ∙ ap (λ (y : Exchange). record { outcome = outcome-of y; target = left-by u t f (answered e rs) .target; flash = left-by u t f (answered e rs) .flash }) (sym q)
+    ∙ ap (λ (y : Exchange). play u y (left-by u t f (answered-steps e rs) .target) (left-by u t f (answered-steps e rs) .flash)) q
+    ∙ ap (λ (y : Exchange). record { outcome = outcome-of y; target = left-by u t f (answered-steps e rs) .target; flash = left-by u t f (answered-steps e rs) .flash }) (sym q)
 
 -- While an exchange has not ended, all replies are taken; so replies as many as any can be taken end it.
 running-takes : (e : Exchange) (rs : List ℕ) (g : Field) (s : Step) (k : Bool → Exchange) → fed e rs ≡ strobe g s k → taken e rs ≡ length rs
@@ -100,28 +100,28 @@ unfolding whole-step own-replies
 own-head u t f s xs ys h = rw (reply-again (answer u t f (code s) .reply) (reply-small u t f (code s)), h)
 
 pub played-replies : (u : Setup) (e : Exchange) (t : Target) (f : List ℕ) → Given u e t f (run-replies (whole-step u) e t f)
-unfolding run-replies taken steps answered own-replies fed against asks
+unfolding run-replies taken steps answered-steps own-replies fed against asks
 played-replies u (ended o) t f = record { all-taken = refl; own = refl; ends = refl }
 played-replies u (ask (at g s) k) t f =
     let w = whole-step u t f s in
     let x = played-replies u (k (w .reply)) (w .target) (w .flash) in
     record {
       all-taken = rw (given-after u g s k t f) (ap suc (x .all-taken));
-      own = rw (given-after u g s k t f) (own-head u t f s _ (answered (k (w .reply)) (run-replies (whole-step u) (k (w .reply)) (w .target) (w .flash))) (x .own));
+      own = rw (given-after u g s k t f) (own-head u t f s _ (answered-steps (k (w .reply)) (run-replies (whole-step u) (k (w .reply)) (w .target) (w .flash))) (x .own));
       ends = ap (λ (y : Exchange). fed y (run-replies (whole-step u) (k (w .reply)) (w .target) (w .flash))) (given-after u g s k t f) ∙ x .ends;
     }
 
 -- The target gets the first step and every step written. The last is 6 where the exchange has ended, and
 -- changes nothing.
-pub all-steps : (e : Exchange) (rs : List ℕ) → asks e ∷ steps e rs ≡ answered e rs ++ asks (fed e rs) ∷ []
-unfolding answered taken steps fed after
+pub all-steps : (e : Exchange) (rs : List ℕ) → asks e ∷ steps e rs ≡ answered-steps e rs ++ asks (fed e rs) ∷ []
+unfolding answered-steps taken steps fed after
 all-steps e [] = refl
 all-steps (ended o) (r ∷ rs) = rw (fed-ended o rs)
 all-steps (ask (at g s) k) (r ∷ rs) = ap (λ (xs : List ℕ). asks (strobe g s k) ∷ xs) (all-steps (after (strobe g s k) r) rs)
 
 off-keeps : (u : Setup) (t : Target) (f : List ℕ) → left-by u t f (6 ∷ []) ≡ record { target = t; flash = f }
 unfolding left-by answer flash-after stepped step-coded
-off-keeps u t f = by-test (eqb (refusal u t f 6) 0) (λ e. rw e) (λ e. rw e)
+off-keeps u t f = by-test (eqb (step-refusal u t f 6) 0) (λ e. rw e) (λ e. rw e)
 
 pub left-append : (u : Setup) (xs ys : List ℕ) (t : Target) (f : List ℕ)
     → left-by u t f (xs ++ ys) ≡ left-by u (left-by u t f xs .target) (left-by u t f xs .flash) ys
@@ -130,9 +130,9 @@ left-append u [] ys t f = refl
 left-append u (x ∷ xs) ys t f = left-append u xs ys (answer u t f x .target) (flash-after u t f x)
 
 pub left-by-all : (u : Setup) (e : Exchange) (t : Target) (f rs : List ℕ) (o : Outcome) → fed e rs ≡ ended o
-    → left-by u t f (asks e ∷ steps e rs) ≡ left-by u t f (answered e rs)
+    → left-by u t f (asks e ∷ steps e rs) ≡ left-by u t f (answered-steps e rs)
 unfolding asks code
 left-by-all u e t f rs o q =
-    ap (left-by u t f) (all-steps e rs ∙ ap (λ (y : Exchange). answered e rs ++ asks y ∷ []) q)
-    ∙ left-append u (answered e rs) (6 ∷ []) t f
-    ∙ off-keeps u (left-by u t f (answered e rs) .target) (left-by u t f (answered e rs) .flash)
+    ap (left-by u t f) (all-steps e rs ∙ ap (λ (y : Exchange). answered-steps e rs ++ asks y ∷ []) q)
+    ∙ left-append u (answered-steps e rs) (6 ∷ []) t f
+    ∙ off-keeps u (left-by u t f (answered-steps e rs) .target) (left-by u t f (answered-steps e rs) .flash)

@@ -16,7 +16,7 @@ use Rattle.c2_target.specs.declared.Command.the-variants.{Ready}
 use Rattle.c2_target.specs.declared.Output.the-variants.{Empty}
 use Rattle.c2_target.specs.declared.Target.{Target}
 use Rattle.c2_target.specs.Delays.{Setup}
-use Rattle.c2_target.specs.Interface.{link, device, begun, does}
+use Rattle.c2_target.specs.Interface.{link, device, begun, frame-does}
 use Rattle.c2_play.proofs.Laws.Frames.{idle, leads, address-write-leads, address-write-says}
 use Rattle.c2_play.proofs.Laws.Interface.{Fit, at-fpdat, Kept, Good, now}
 use Rattle.c2_play.specs.Pages.{with-page, Fits}
@@ -61,7 +61,7 @@ module _ (u : Setup) (l r : ℕ) (fit : Fit u l r) where
   pub begin-leads : (J : List ℕ → Type 0) (Z : Target → List ℕ → Type 0) (kept : Kept J Z) (acts : List Act) (t : Target) (f : List ℕ) → Between t
       → Good u l r fit J Z kept (address-write (u .settings .fpdat) ∷ acts) Ready Empty f
       → leads u J Z (conversation (limits l r) (address-write (u .settings .fpdat) ∷ acts)) t f
-  unfolding Good conversation does begun
+  unfolding Good conversation frame-does begun
   begin-leads J Z kept acts t f b g =
       let lk = link Ready Empty 0 (b .late) in
       let h : leads u J Z (conversation (limits l r) acts) (idle (b .place) false (at-fpdat u lk)) f =

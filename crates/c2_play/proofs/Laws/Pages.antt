@@ -9,7 +9,7 @@ use lib.Seq.{take-at, drop-at, take-add, take-all, take-take, drop-drop, drop-ap
 use lib.Dec.{leb}
 use borrow.Author.Tests.{leb-true, leb-false}
 use Rattle.laws.proofs.Tests.{by-test}
-use Rattle.c2_wire.specs.Bits.{Bytes}
+use Rattle.laws.specs.Bytes.{Bytes}
 use Rattle.c2_wire.proofs.Laws.Bits.{bytes-take, bytes-drop}
 use Rattle.c2_order.specs.Acts.{Act, erase, block-write, block-read}
 use Rattle.c2_order.specs.Order.{Page, blocks, joined, page-blocks, page-acts}

@@ -31,7 +31,7 @@ use Rattle.c2_target.specs.declared.Link.{Link}
 use Rattle.c2_target.specs.declared.Target.{Target}
 use Rattle.c2_target.specs.Delays.{Setup, setup, delay, next-place}
 use Rattle.c2_target.specs.Commands.{some-output}
-use Rattle.c2_target.specs.Interface.{Acted, link, device, in-busy, out-ready, linked, shown, given, late-of, put-byte, get-byte, counted, begun, does}
+use Rattle.c2_target.specs.Interface.{Acted, link, device, in-busy, out-ready, linked, shown, given, late-of, put-byte, get-byte, counted, begun, frame-does}
 use Rattle.c2_target.specs.Strobes.{line, marked, sending, frame-begins, after-ins, after-write-length, after-read-length, after-address, after-data, value-sent, after-wait, strobed-at}
 use Rattle.c2_target.proofs.Laws.KnownPoint.{not-both}
 use Rattle.c2_target.proofs.Laws.Known.{Lent, known-says}
@@ -116,26 +116,26 @@ module _ (s : Settings) where
       record { target = quiet p c a _ n x o; flash = f; between = is-quiet _ _ _ _ _ _ _; counts = refl; same-end = refl }
 
   addresses : (b : ℕ) → Prompt (address-write b)
-  unfolding sum Prompt cost longest conversation strobes against run-replies frame sends ins-code bits bit odd drives stepped strobed-at line marked begun frame-begins after-ins after-address does
+  unfolding sum Prompt cost longest conversation strobes against run-replies frame sends ins-code bits bit odd drives stepped strobed-at line marked begun frame-begins after-ins after-address frame-does
   addresses b acts _ f (is-quiet p c a on n x o) r d =
       record { target = quiet p c (heard b) on (kept n) x o; flash = f; between = is-quiet _ _ _ _ _ _ _; counts = refl; same-end = refl }
 
   -- what is left after a Data Write (`written`) and a Data Read (`read`) at its STOP
   abbrev written : (byte place : ℕ) → (address : ℕ) → (on : Bool) → (keys : ℕ) → Command → Output → List ℕ → Acted
-  written b p a on n x o f = does u (Write b) (device a on n (link x o 0 0)) (next-place [] p) f
+  written b p a on n x o f = frame-does u (Write b) (device a on n (link x o 0 0)) (next-place [] p) f
 
   abbrev read : (place : ℕ) → (address : ℕ) → (on : Bool) → (keys : ℕ) → Command → Output → List ℕ → Acted
-  read p a on n x o f = does u Read (device a on n (link x o 0 0)) (next-place [] p) f
+  read p a on n x o f = frame-does u Read (device a on n (link x o 0 0)) (next-place [] p) f
 
   written-quiet : (b p : ℕ) (c : Bool) (a : ℕ) (on : Bool) (n : ℕ) (x : Command) (o : Output) (f : List ℕ)
       → Quiet (idle (written b p a on n x o f .place) c (written b p a on n x o f .device))
-  unfolding does put-byte delay
+  unfolding frame-does put-byte delay
   written-quiet b p c a on n x o f =
       by-test (linked s (device a on n (link x o 0 0))) (λ e. rw (e, late-none) (is-quiet _ _ _ _ _ _ _)) (λ e. rw e (is-quiet _ _ _ _ _ _ _))
 
   read-quiet : (p : ℕ) (c : Bool) (a : ℕ) (on : Bool) (n : ℕ) (x : Command) (o : Output) (f : List ℕ)
       → Quiet (idle (read p a on n x o f .place) c (read p a on n x o f .device))
-  unfolding does get-byte
+  unfolding frame-does get-byte
   read-quiet p c a on n x o f =
       by-test (linked s (device a on n (link x o 0 0)))
       (λ e.
@@ -185,7 +185,7 @@ module _ (s : Settings) where
   looks : (k : ℕ → Exchange) (p : ℕ) (c : Bool) (a : ℕ) (on : Bool) (n : ℕ) (x : Command) (o : Output) (f : List ℕ)
       → (count (framed 20 (frame AddressRead 0) k) (quiet p c a on n x o) f ≡ sum 12 (count (k (seen a on x o)) (quiet p c a on (kept n) x o) f))
       × (ends (framed 20 (frame AddressRead 0) k) (quiet p c a on n x o) f ≡ ends (k (seen a on x o)) (quiet p c a on (kept n) x o) f)
-  unfolding sum strobes against run-replies frame sends ins-code bits bit odd drives stepped strobed-at line marked begun frame-begins after-ins sending shown linked does counted in-busy
+  unfolding sum strobes against run-replies frame sends ins-code bits bit odd drives stepped strobed-at line marked begun frame-begins after-ins sending shown linked frame-does counted in-busy
   looks k p c a on n x o f =
       let e = cond-same (on && eqb a (s .fpdat)) (link x o 0 0) in (
         ap (λ (l : Link). sum 12 (count (k (seen a on x o)) (idle p c (device a on (kept n) l)) f)) e,

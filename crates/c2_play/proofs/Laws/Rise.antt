@@ -7,7 +7,7 @@ use native.Mathlib.Nat.{mul-le-mul-right}
 use native.Mathlib.Omega.{arith}
 use lib.ListN.{length, take, drop, length-append, length-drop, take-append-drop}
 use lib.Seq.{take-all, drop-drop, length-take-le, take-add, take-at, drop-at}
-use Rattle.c2_wire.specs.Bits.{Bytes}
+use Rattle.laws.specs.Bytes.{Bytes}
 use Rattle.c2_wire.proofs.Laws.Bits.{bytes-take, bytes-drop}
 use Rattle.settings.specs.declared.Settings.{Settings}
 use Rattle.c2_order.specs.Order.{Page, pages, rising}

@@ -8,7 +8,8 @@ use native.Mathlib.Omega.{arith}
 use borrow.Author.Tests.{eq-eqb}
 use lib.Dec.{eqb}
 use lib.ListN.{length}
-use Rattle.c2_wire.specs.Bits.{bit, Bytes}
+use Rattle.laws.specs.Bytes.{Bytes}
+use Rattle.c2_wire.specs.Bits.{bit}
 use Rattle.c2_wire.specs.Step.{Step, released, driven, reset, pause, off, code}
 use Rattle.c2_wire.specs.Exchange.{Exchange, ended, strobe, ask, at}
 use Rattle.settings.specs.Accepted.{settings-refusal}
@@ -18,7 +19,7 @@ use Rattle.settings.proofs.Laws.Opening.{Opened, opened, settings-pass}
 use Rattle.c2_target.specs.declared.Target.{Target}
 use Rattle.c2_target.specs.Delays.{Setup}
 use Rattle.c2_target.specs.Known.{known, known-point, known-command, known-output, known-link, is-byte}
-use Rattle.c2_target.specs.Target.{stepped, is-step, step-coded, refusal, answer, flash-after, fresh, cleared}
+use Rattle.c2_target.specs.Target.{stepped, is-step, step-coded, step-refusal, answer, flash-after, fresh, cleared}
 use Rattle.c2_play.specs.Playing.{against, run-replies, whole-step, play}
 use Rattle.c2_play.specs.Programmed.{Programmed, Programs}
 use Rattle.c2_play.proofs.Laws.Interface.{Fit}
@@ -52,8 +53,8 @@ unfolding bit
 bit-again true = refl
 bit-again false = refl
 
-not-refused : (u : Setup) (t : Target) (f : List ℕ) (s : Step) → settings-refusal (u .settings) ≡ 0 → known u t f ≡ true → refusal u t f (code s) ≡ 0
-unfolding refusal
+not-refused : (u : Setup) (t : Target) (f : List ℕ) (s : Step) → settings-refusal (u .settings) ≡ 0 → known u t f ≡ true → step-refusal u t f (code s) ≡ 0
+unfolding step-refusal
 not-refused u t f s a k = rw (a, k, is-step-code s)
 
 pub whole-is-stepped : (u : Setup) (t : Target) (f : List ℕ) (s : Step) → settings-refusal (u .settings) ≡ 0 → known u t f ≡ true

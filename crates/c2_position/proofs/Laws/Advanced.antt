@@ -35,7 +35,7 @@ use Rattle.c2_session.specs.declared.Point.the-variants.{Running, Ended}
 use Rattle.c2_session.specs.declared.Session.{Session}
 use Rattle.c2_acts.specs.Code.Acts.{task-of, acts-in}
 use Rattle.c2_session.specs.Code.Bytes.{image-byte, compared-offset}
-use Rattle.c2_session.specs.Code.Next.{at, strobe-point, next-act}
+use Rattle.c2_session.specs.Code.Next.{act-at, strobe-point, next-act}
 use Rattle.c2_session.specs.Code.Judge.{read-again, differs, compared, frame-judged, frame-answered}
 use Rattle.c2_session.specs.Code.Advance.{task-taken}
 use Rattle.c2_range.specs.Range.{pages-in, blocks-in, point-in-range, in-range}
@@ -89,7 +89,7 @@ compares-late Close k h q = none-below (task-of Close) 1 refl k h q
 -- a compare is one of a block read, so that its byte is the order's, at an offset inside the image
 pub compares-there : (s : Session) (image : List ℕ) (h : Fits s image) (g : Stage) (i j k : ℕ) → i < pages-in g (s .pages) → j < blocks-in g (s .settings .size)
     → k < acts-in g → Compares g k
-    → (image-byte image (compared-offset s (at g i j k)) ≡ act-byte s image h g (at g i j k)) × (compared-offset s (at g i j k) < length image)
+    → (image-byte image (compared-offset s (act-at g i j k)) ≡ act-byte s image h g (act-at g i j k)) × (compared-offset s (act-at g i j k) < length image)
 unfolding compared-offset
 compares-there s image h Read i j k gi gj gk c = (
   rw (le-ltb k 11 (omega arith)),
@@ -108,20 +108,20 @@ step-over w f x p b = rw (le-ltb (p .strobe + 1) 1 (omega arith))
 module _ (s : Session) (image : List ℕ) (h : Fits s image) (w r : ℕ)
     (g : Stage) (i j k : ℕ) (gi : i < pages-in g (s .pages)) (gj : j < blocks-in g (s .settings .size)) (gk : k < acts-in g) where
   abbrev a : At
-  a = at g i j k
+  a = act-at g i j k
 
   abbrev here : Act
-  here = act-here s image h g (at g i j k)
+  here = act-here s image h g (act-at g i j k)
 
   abbrev after : List Act
   after = rest-from s image h g i j k
 
   -- another strobe of the act's frame stays at the act of the order
-  stays-here : (p : Place) → point-position s image (strobe-point (at g i j k) p) ≡ Point.running here after p
+  stays-here : (p : Place) → point-position s image (strobe-point (act-at g i j k) p) ≡ Point.running here after p
   unfolding point-position
   stays-here p = ap (λ (x : List Act). at-act x p) (acts-here s image h g i j k gi gj gk)
 
-  onward-here : point-position s image (next-act s (at g i j k)) ≡ begin after
+  onward-here : point-position s image (next-act s (act-at g i j k)) ≡ begin after
   onward-here = sym (goes-on s image h g i j k gi gj gk)
 
   cond-position : (t : Bool) (x y : Rattle.c2_session.specs.declared.Point.Point) (u v : Point.Point)
@@ -129,18 +129,18 @@ module _ (s : Session) (image : List ℕ) (h : Fits s image) (w r : ℕ)
   cond-position true x y u v p q = p
   cond-position false x y u v p q = q
 
-  again-here : (n : ℕ) → point-position s image (read-again r (at g i j k) n) ≡ Point.again (limits w r) here after n
+  again-here : (n : ℕ) → point-position s image (read-again r (act-at g i j k) n) ≡ Point.again (limits w r) here after n
   unfolding read-again Point.again point-position
   again-here n = cond-position (ltb (n + 1) r) _ _ _ _ (stays-here (place 0 (n + 1) 0)) refl
 
   again-as : (t : Task) → task-of g k ≡ t → (n : ℕ)
-      → point-position s image (read-again r (at g i j k) n) ≡ Point.again (limits w r) (task-act t (act-byte s image h g a) (s .settings .id) (compared-offset s a)) after n
+      → point-position s image (read-again r (act-at g i j k) n) ≡ Point.again (limits w r) (task-act t (act-byte s image h g a) (s .settings .id) (compared-offset s a)) after n
   again-as t q n =
       again-here n ∙ ap (λ (x : Task). Point.again (limits w r) (task-act x (act-byte s image h g a) (s .settings .id) (compared-offset s a)) after n) q
 
   -- the point after a frame of the act has ended with a byte
   judged-here : (t : Task) → task-of g k ≡ t → (n x : ℕ)
-      → point-position s image (frame-judged r t s (at g i j k) n x image) ≡ Point.judged (limits w r) (task-act t (act-byte s image h g a) (s .settings .id) (compared-offset s a)) after n x
+      → point-position s image (frame-judged r t s (act-at g i j k) n x image) ≡ Point.judged (limits w r) (task-act t (act-byte s image h g a) (s .settings .id) (compared-offset s a)) after n x
   unfolding Point.judged compared differs point-position output-ready odd
   judged-here Reset q n x = onward-here
   judged-here Pause q n x = onward-here
@@ -152,11 +152,11 @@ module _ (s : Session) (image : List ℕ) (h : Fits s image) (w r : ℕ)
   judged-here Status q n x = cond-position (eqb x 13) _ _ _ _ onward-here refl
   judged-here Compare q n x =
       let c = compares-there s image h g i j k gi gj gk (compares-late g k gk q) in
-      let m : compared-offset s (at g i j k) % 4294967296 ≡ compared-offset s (at g i j k) = mod-eq-of-lt (omega (arith, c .1, image-small s image h)) in
+      let m : compared-offset s (act-at g i j k) % 4294967296 ≡ compared-offset s (act-at g i j k) = mod-eq-of-lt (omega (arith, c .1, image-small s image h)) in
       rw (c .0) (cond-position (eqb x (act-byte s image h g a)) _ _ _ _ onward-here (rw m))
 
   settled-here : (t : Task) → task-of g k ≡ t → (n : ℕ) (m : Moved)
-      → point-position s image (frame-answered r m t s (at g i j k) n image) ≡ Point.settled (limits w r) (task-act t (act-byte s image h g a) (s .settings .id) (compared-offset s a)) after n m
+      → point-position s image (frame-answered r m t s (act-at g i j k) n image) ≡ Point.settled (limits w r) (task-act t (act-byte s image h g a) (s .settings .id) (compared-offset s a)) after n m
   unfolding Point.settled point-position
   settled-here t q n (Within p) =
       stays-here p ∙ ap (λ (x : Task). Point.running (task-act x (act-byte s image h g a) (s .settings .id) (compared-offset s a)) after p) q
@@ -166,13 +166,13 @@ module _ (s : Session) (image : List ℕ) (h : Fits s image) (w r : ℕ)
   -- the point after a reply of 0 or 1
   framed-here : (t : Task) → task-of g k ≡ t → (p : Place) (b : Bool) (m : Moved)
       → followed w (strobes-of (task-act t (act-byte s image h g a) (s .settings .id) (compared-offset s a))) p b ≡ m
-      → point-position s image (frame-answered r m t s (at g i j k) (p .count) image)
+      → point-position s image (frame-answered r m t s (act-at g i j k) (p .count) image)
       ≡ Point.settled (limits w r) (task-act t (act-byte s image h g a) (s .settings .id) (compared-offset s a)) after (p .count)
       (followed w (strobes-of (task-act t (act-byte s image h g a) (s .settings .id) (compared-offset s a))) p b)
   framed-here t q p b m e = rw e (settled-here t q (p .count) m)
 
   taken-here : (t : Task) → task-of g k ≡ t → (p : Place) (b : Bool)
-      → point-position s image (task-taken w r t s (at g i j k) p b image)
+      → point-position s image (task-taken w r t s (act-at g i j k) p b image)
       ≡ Point.settled (limits w r) (task-act t (act-byte s image h g a) (s .settings .id) (compared-offset s a)) after (p .count)
       (followed w (strobes-of (task-act t (act-byte s image h g a) (s .settings .id) (compared-offset s a))) p b)
   unfolding strobes-of Point.settled Point.judged
@@ -188,7 +188,7 @@ module _ (s : Session) (image : List ℕ) (h : Fits s image) (w r : ℕ)
 
   -- the point of the order after any reply at this point of the session
   pub replied-here : (p : Place) (x : ℕ)
-      → point-position s image (Advance.point-replied w r s (at g i j k) p x image) ≡ Point.next (limits w r) (point-position s image (strobe-point (at g i j k) p)) x
+      → point-position s image (Advance.point-replied w r s (act-at g i j k) p x image) ≡ Point.next (limits w r) (point-position s image (strobe-point (act-at g i j k) p)) x
   unfolding Advance.point-replied Point.next point-position
   replied-here p zero = rw (acts-here s image h g i j k gi gj gk) (taken-here (task-of g k) refl p false)
   replied-here p (suc zero) = rw (acts-here s image h g i j k gi gj gk) (taken-here (task-of g k) refl p true)

@@ -17,7 +17,7 @@ use Rattle.c2_order.specs.Conversation.{limits}
 use Rattle.c2_session.specs.declared.Point.the-variants.{Running, Ended}
 use Rattle.c2_session.specs.declared.Session.{Session}
 use Rattle.c2_acts.specs.Code.Acts.{task-of}
-use Rattle.c2_session.specs.Code.Next.{at, strobe-point}
+use Rattle.c2_session.specs.Code.Next.{act-at, strobe-point}
 use Rattle.c2_range.specs.Range.{in-range, point-in-range}
 use Rattle.c2_range.specs.Code.Bounds.{strobes-in, reads-in}
 use Rattle.c2_position.specs.Position.{acts-from, at-act, point-position}
@@ -45,12 +45,12 @@ in-order w r s image e l = go (s .point) (point-of w r s e)
     go (Running g i j k q c v) f =
         let n = bounded w r (s .settings .size) (s .pages) g i j k q c v f in
         let x = place-exists w (reads-in r (task-of g k)) (strobes-in (task-of g k)) (place q c v) (n .place) in
-        let p = task-exists w r (task-of g k) (act-byte s image h g (at g i j k)) (s .settings .id) _ (place q c v) x in
+        let p = task-exists w r (task-of g k) (act-byte s image h g (act-at g i j k)) (s .settings .id) _ (place q c v) x in
         let a = acts-here s image h g i j k (n .page) (n .block) (n .act) in
         let b = acts-end s image h g i j k (n .page) (n .block) in
         record {
           before = b .0;
-          act = act-here s image h g (at g i j k);
+          act = act-here s image h g (act-at g i j k);
           later = rest-from s image h g i j k;
           place = place q c v;
           here = ap (λ (z : List Act). at-act z (place q c v)) a;
@@ -88,7 +88,7 @@ module _ (w r : ℕ) (s : Session) (image : List ℕ) (h : Fits s image) where
       let b = acts-here s image h g₁ i₁ j₁ k₁ (m .page) (m .block) (m .act) in
       let acts = sym (acts-there (acts-from g s image i j k) (place q c v)) ∙ ap acts-of x ∙ acts-there (acts-from g₁ s image i₁ j₁ k₁) (place q₁ c₁ v₁) in
       let left = sym (acts-length s image h g i j k (n .page) (n .block) (n .act)) ∙ ap length acts ∙ acts-length s image h g₁ i₁ j₁ k₁ (m .page) (m .block) (m .act) in
-      let d : at g i j k ≡ at g₁ i₁ j₁ k₁ = one-at (s .pages) (s .settings .size) g g₁ i j k i₁ j₁ k₁ (n .page) (n .block) (n .act) (m .page) (m .block) (m .act) left in
+      let d : act-at g i j k ≡ act-at g₁ i₁ j₁ k₁ = one-at (s .pages) (s .settings .size) g g₁ i j k i₁ j₁ k₁ (n .page) (n .block) (n .act) (m .page) (m .block) (m .act) left in
       let p : place q c v ≡ place q₁ c₁ v₁
       = sym (ap (λ (u : List Act). place-of (at-act u (place q c v))) a) ∙ ap place-of x ∙ ap (λ (u : List Act). place-of (at-act u (place q₁ c₁ v₁))) b in
       λ t. strobe-point (d t) (p t)

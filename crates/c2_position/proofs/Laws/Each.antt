@@ -21,7 +21,7 @@ use Rattle.c2_acts.specs.declared.Task.the-variants.{Reset, Pause, Address, Sen
 use Rattle.c2_session.specs.declared.Point.the-variants.{Running, Ended}
 use Rattle.c2_session.specs.declared.Session.{Session}
 use Rattle.c2_acts.specs.Code.Acts.{task-of, acts-in}
-use Rattle.c2_session.specs.Code.Next.{at, strobe-point, next-act}
+use Rattle.c2_session.specs.Code.Next.{act-at, strobe-point, next-act}
 use Rattle.c2_range.specs.Range.{pages-in, blocks-in, point-in-range}
 use Rattle.c2_range.specs.Code.Bounds.{strobes-in, reads-in}
 use Rattle.c2_position.specs.Position.{acts-from, at-act, point-position}
@@ -87,7 +87,7 @@ module _ (w r : ℕ) (hw : 0 < w) (hr : 0 < r) (s : Session) (image : List ℕ) 
 
   one-on : (c : Act) (before : List Act) (a : Act) (acts : List Act) → Found (c ∷ (before ++ a ∷ acts)) → Found (before ++ a ∷ acts)
   unfolding point-position
-  one-on c before a acts f = go (next-act s (at g i j k)) refl
+  one-on c before a acts f = go (next-act s (act-at g i j k)) refl
     where
       g : Stage
       g = f .stage
@@ -104,10 +104,10 @@ module _ (w r : ℕ) (hw : 0 < w) (hr : 0 < r) (s : Session) (image : List ℕ) 
       rest : rest-from s image h g i j k ≡ before ++ a ∷ acts
       rest = ap (λ (xs : List Act). drop 1 xs) (sym (acts-here s image h g i j k (f .page-in) (f .block-in) (f .act-in)) ∙ f .from)
 
-      next : acts-of (point-position s image (next-act s (at g i j k))) ≡ before ++ a ∷ acts
+      next : acts-of (point-position s image (next-act s (act-at g i j k))) ≡ before ++ a ∷ acts
       next = sym (ap acts-of (goes-on s image h g i j k (f .page-in) (f .block-in) (f .act-in))) ∙ acts-begun (rest-from s image h g i j k) ∙ rest
 
-      go : (y : SessionPoint) → next-act s (at g i j k) ≡ y → Found (before ++ a ∷ acts)
+      go : (y : SessionPoint) → next-act s (act-at g i j k) ≡ y → Found (before ++ a ∷ acts)
       go (Running g₁ i₁ j₁ k₁ q c v) e =
           let n = bounded w r (s .settings .size) (s .pages) g₁ i₁ j₁ k₁ q c v (rw e at (onward-in w r hw hr s image h g i j k (f .page-in) (f .block-in) (f .act-in))) in
           record {
@@ -131,7 +131,7 @@ module _ (w r : ℕ) (hw : 0 < w) (hr : 0 < r) (s : Session) (image : List ℕ) 
   pub point-there : (x : Point.Point) → Stands (limits w r) (session-order (s .settings) (s .first) image) x
       → (y : SessionPoint) × In y × (point-position s image y ≡ x)
   unfolding point-position
-  point-there x st = (strobe-point (at g i j k) p, running-in w r hw hr s image h g i j k p (f .page-in) (f .block-in) (f .act-in) there, stands-so)
+  point-there x st = (strobe-point (act-at g i j k) p, running-in w r hw hr s image h g i j k p (f .page-in) (f .block-in) (f .act-in) there, stands-so)
     where
       f : Found (st .act ∷ st .later)
       f =
@@ -153,10 +153,10 @@ module _ (w r : ℕ) (hw : 0 < w) (hr : 0 < r) (s : Session) (image : List ℕ) 
       p : Place
       p = st .place
 
-      acts : act-here s image h g (at g i j k) ∷ rest-from s image h g i j k ≡ st .act ∷ st .later
+      acts : act-here s image h g (act-at g i j k) ∷ rest-from s image h g i j k ≡ st .act ∷ st .later
       acts = sym (acts-here s image h g i j k (f .page-in) (f .block-in) (f .act-in)) ∙ f .from
 
-      act : st .act ≡ act-here s image h g (at g i j k)
+      act : st .act ≡ act-here s image h g (act-at g i j k)
       act = ap (λ (xs : List Act). first-of xs (st .act)) (sym acts)
         where
           first-of : List Act → Act → Act
@@ -166,7 +166,7 @@ module _ (w r : ℕ) (hw : 0 < w) (hr : 0 < r) (s : Session) (image : List ℕ) 
       there : Exists w (reads-in r (task-of g k)) (strobes-in (task-of g k)) p
       there =
           let e : Exists w (reads-of (limits w r) (st .act)) (strobes-of (st .act)) (st .place) = record { inside = st .strobe; counted = st .count; sampled-only = st .bits } in
-          exists-task w r (task-of g k) (act-byte s image h g (at g i j k)) (s .settings .id) _ p (rw act at e)
+          exists-task w r (task-of g k) (act-byte s image h g (act-at g i j k)) (s .settings .id) _ p (rw act at e)
 
       stands-so : at-act (acts-from g s image i j k) p ≡ x
       stands-so = ap (λ (xs : List Act). at-act xs p) (f .from) ∙ sym (st .here)

@@ -4,7 +4,7 @@ use mathlib.Core.Bool.{true}
 use mathlib.Core.List.{List, [], _∷_, map}
 use Prim.Native.Nat.{ℕ, zero, suc, _+_, _*_, _/_, _<_}
 use lib.ListN.{length, getD, drop}
-use Rattle.c2_wire.specs.Bits.{Bytes}
+use Rattle.laws.specs.Bytes.{Bytes}
 use Rattle.c2_wire.specs.Exchange.{after}
 use Rattle.c2_wire.specs.Place.{place}
 use Rattle.c2_wire.specs.declared.Frame.the-variants.{AddressWrite, DataWrite}
@@ -27,7 +27,7 @@ use Rattle.c2_acts.specs.declared.Task.the-variants.{Reset, Pause, Address, Sen
 use Rattle.c2_session.specs.declared.Point.the-variants.{Running, Ended}
 use Rattle.c2_session.specs.declared.Session.{Session}
 use Rattle.c2_acts.specs.Code.Acts.{task-of}
-use Rattle.c2_session.specs.Code.Next.{at}
+use Rattle.c2_session.specs.Code.Next.{act-at}
 use Rattle.c2_session.specs.Code.Advance.{advanced}
 use Rattle.c2_range.specs.Range.{in-range, point-in-range}
 use Rattle.c2_range.specs.Code.Bounds.{strobes-in, reads-in}
@@ -144,7 +144,7 @@ position-valid w r s image id b e l = go (s .point) (point-of w r s e)
         let x = place-exists w (reads-in r (task-of g k)) (strobes-in (task-of g k)) (place q c v) (n .place) in
         let a = acts-here s image h g i j k (n .page) (n .block) (n .act) in
         let both = first-sound (rw a at (acts-sound s image id b g i j k)) in
-        rw a (both .0, both .1, task-exists w r (task-of g k) (act-byte s image h g (at g i j k)) (s .settings .id) _ (place q c v) x)
+        rw a (both .0, both .1, task-exists w r (task-of g k) (act-byte s image h g (act-at g i j k)) (s .settings .id) _ (place q c v) x)
     go (Ended n o) f = tt
 
 -- what a session leaves to say after a reply is what the reply leaves of the exchange

@@ -13,7 +13,7 @@ use Rattle.c2_acts.specs.declared.Stage.the-variants.{Lead, Erase, Write, Read,
 use Rattle.c2_session.specs.declared.At.{At}
 use Rattle.c2_session.specs.declared.Session.{Session}
 use Rattle.c2_acts.specs.Code.Acts.{acts-in}
-use Rattle.c2_session.specs.Code.Next.{at}
+use Rattle.c2_session.specs.Code.Next.{act-at}
 use Rattle.c2_range.specs.Range.{pages-in, blocks-in}
 use Rattle.c2_position.specs.Position.{stage-acts, pages-from, writes-from, reads-from, after-stage, acts-from}
 use Rattle.c2_position.proofs.Laws.Position.{Fits}
@@ -123,8 +123,8 @@ unique p m e n f a b c d q = go (decLt m n) (decLt n m)
         let g : m ≡ n = omega arith in
         (g, omega (arith, ap (λ (x : ℕ). x * p) g))
 
-at-same : (g : Stage) {i j k x y z : ℕ} → i ≡ x → j ≡ y → k ≡ z → at g i j k ≡ at g x y z
-at-same g d e f = λ t. at g (d t) (e t) (f t)
+at-same : (g : Stage) {i j k x y z : ℕ} → i ≡ x → j ≡ y → k ≡ z → act-at g i j k ≡ act-at g x y z
+at-same g d e f = λ t. act-at g (d t) (e t) (f t)
 
 -- every stage but the last
 abbrev Early : Stage → Type 0
@@ -144,7 +144,7 @@ module _ (n size : ℕ) where
   more-bounds Close u j k gj gk = absurd u
 
   same : (g q : Stage) (i j k x y z : ℕ) → i < pages-in g n → j < blocks-in g size → k < acts-in g → x < pages-in q n → y < blocks-in q size → z < acts-in q
-      → Early g → Early q → pages-left g n i ≡ pages-left q n x → more-left g (size / 256) j k ≡ more-left q (size / 256) y z → at g i j k ≡ at q x y z
+      → Early g → Early q → pages-left g n i ≡ pages-left q n x → more-left g (size / 256) j k ≡ more-left q (size / 256) y z → act-at g i j k ≡ act-at q x y z
   same Lead Lead i j k x y z gi gj gk hx hy hz u v e f = at-same Lead (omega arith) (omega arith) (omega arith)
   same Lead Erase i j k x y z gi gj gk hx hy hz u v e f = absurd (omega arith)
   same Lead Write i j k x y z gi gj gk hx hy hz u v e f = absurd (omega arith)
@@ -182,7 +182,7 @@ module _ (n size : ℕ) where
   close-left g i j k e = rw e (omega arith)
 
   close-at : (g q : Stage) (i j k x y z : ℕ) → i < pages-in g n → j < blocks-in g size → k < acts-in g → x < pages-in q n → y < blocks-in q size → z < acts-in q
-      → g ≡ Close → q ≡ Close → at g i j k ≡ at q x y z
+      → g ≡ Close → q ≡ Close → act-at g i j k ≡ act-at q x y z
   close-at g q i j k x y z gi gj gk hx hy hz d e =
       let a = rw d at gi in
       let b = rw d at gj in
@@ -194,10 +194,10 @@ module _ (n size : ℕ) where
 
   -- points of a session with as many acts left are the same
   pub one-at : (g q : Stage) (i j k x y z : ℕ) → i < pages-in g n → j < blocks-in g size → k < acts-in g → x < pages-in q n → y < blocks-in q size → z < acts-in q
-      → left g i j k ≡ left q x y z → at g i j k ≡ at q x y z
+      → left g i j k ≡ left q x y z → act-at g i j k ≡ act-at q x y z
   one-at g q i j k x y z gi gj gk hx hy hz e = go (early-or-close g) (early-or-close q)
     where
-      go : Early g ⊎ (g ≡ Close) → Early q ⊎ (q ≡ Close) → at g i j k ≡ at q x y z
+      go : Early g ⊎ (g ≡ Close) → Early q ⊎ (q ≡ Close) → act-at g i j k ≡ act-at q x y z
       go (inl u) (inl v) =
           let a = more-bounds g u j k gj gk in
           let b = more-bounds q v y z hy hz in

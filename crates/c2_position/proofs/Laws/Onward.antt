@@ -16,7 +16,7 @@ use Rattle.c2_acts.specs.declared.Stage.{Stage}
 use Rattle.c2_acts.specs.declared.Stage.the-variants.{Lead, Erase, Write, Read, Close}
 use Rattle.c2_session.specs.declared.Session.{Session}
 use Rattle.c2_acts.specs.Code.Acts.{acts-in}
-use Rattle.c2_session.specs.Code.Next.{at, next-write, next-page, next-read, next-stage, next-act}
+use Rattle.c2_session.specs.Code.Next.{act-at, next-write, next-page, next-read, next-stage, next-act}
 use Rattle.c2_range.specs.Range.{pages-in, blocks-in}
 use Rattle.c2_position.specs.Position.{page-list, page-at, blocks-at, block-at, stage-acts, pages-from, writes-from, reads-from, after-stage, acts-from, at-act, point-position}
 use Rattle.c2_position.proofs.Laws.Pages.{length-pages, length-blocks}
@@ -99,13 +99,13 @@ module _ (s : Session) (image : List ℕ) (h : Fits s image) where
       ∙ append-assoc (stage-acts Read s image i j) (reads-from s image i (suc j)) (pages-from s image (suc i))
 
   stage-over : (g : Stage) (i j k : ℕ) → i < pages-in g (s .pages) → j < blocks-in g (s .settings .size)
-      → begin (after-stage g s image i j) ≡ point-position s image (next-stage g s (at g i j k))
+      → begin (after-stage g s image i j) ≡ point-position s image (next-stage g s (act-at g i j k))
   unfolding point-position next-write next-read next-page
   stage-over Lead i j k gi gj = begins-at Erase 0 0 0 (pages-from s image 0) (pages-on 0 (h .some))
   stage-over Erase i j k gi gj = begins-at Write i 0 0 (after-stage Erase s image i j) (writes-then i 0 blocks-some)
   stage-over Write i j k gi gj = go (decLt (j + 1) (s .settings .size / 256))
     where
-      go : Dec (j + 1 < s .settings .size / 256) → begin (after-stage Write s image i j) ≡ point-position s image (next-stage Write s (at Write i j k))
+      go : Dec (j + 1 < s .settings .size / 256) → begin (after-stage Write s image i j) ≡ point-position s image (next-stage Write s (act-at Write i j k))
       go (yes y) =
           rw (lt-ltb (j + 1) (s .settings .size / 256) y, add-one j)
           (begins-at Write i (suc j) 0 (after-stage Write s image i j) (writes-then i (suc j) (omega arith)))
@@ -115,7 +115,7 @@ module _ (s : Session) (image : List ℕ) (h : Fits s image) where
   stage-over Read i j k gi gj = go (decLt (j + 1) (s .settings .size / 256)) (decLt (i + 1) (s .pages))
     where
       go : Dec (j + 1 < s .settings .size / 256) → Dec (i + 1 < s .pages)
-          → begin (after-stage Read s image i j) ≡ point-position s image (next-stage Read s (at Read i j k))
+          → begin (after-stage Read s image i j) ≡ point-position s image (next-stage Read s (act-at Read i j k))
       go (yes y) z =
           rw (lt-ltb (j + 1) (s .settings .size / 256) y, add-one j)
           (begins-at Read i (suc j) 0 (after-stage Read s image i j) (reads-then i (suc j) (omega arith)))
@@ -132,18 +132,18 @@ module _ (s : Session) (image : List ℕ) (h : Fits s image) where
   rest-from g i j k = drop (suc k) (stage-acts g s image i j) ++ after-stage g s image i j
 
   pub acts-here : (g : Stage) (i j k : ℕ) → i < pages-in g (s .pages) → j < blocks-in g (s .settings .size) → k < acts-in g
-      → acts-from g s image i j k ≡ act-here s image h g (at g i j k) ∷ rest-from g i j k
+      → acts-from g s image i j k ≡ act-here s image h g (act-at g i j k) ∷ rest-from g i j k
   acts-here g i j k gi gj gk =
       let l : k < length (stage-acts g s image i j) = rw (stage-length g i j gi gj) gk in
       rw (drop-cons (stage-acts g s image i j) k reset-pulse l, stands s image h g i j k reset-pulse gi gj gk)
 
   -- the next point stands where the order goes on
   pub goes-on : (g : Stage) (i j k : ℕ) → i < pages-in g (s .pages) → j < blocks-in g (s .settings .size) → k < acts-in g
-      → begin (rest-from g i j k) ≡ point-position s image (next-act s (at g i j k))
+      → begin (rest-from g i j k) ≡ point-position s image (next-act s (act-at g i j k))
   unfolding next-act point-position
   goes-on g i j k gi gj gk = go (decLt (k + 1) (acts-in g))
     where
-      go : Dec (k + 1 < acts-in g) → begin (rest-from g i j k) ≡ point-position s image (next-act s (at g i j k))
+      go : Dec (k + 1 < acts-in g) → begin (rest-from g i j k) ≡ point-position s image (next-act s (act-at g i j k))
       go (yes y) = rw (lt-ltb (k + 1) (acts-in g) y, add-one k) (begin-at (rest-from g i j k))
       go (no y) =
           let e : drop (suc k) (stage-acts g s image i j) ≡ []

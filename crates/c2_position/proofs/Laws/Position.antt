@@ -20,7 +20,7 @@ use Rattle.c2_session.specs.declared.At.{At}
 use Rattle.c2_session.specs.declared.Session.{Session}
 use Rattle.c2_acts.specs.Code.Acts.{task-of, acts-in}
 use Rattle.c2_session.specs.Code.Bytes.{erase-byte, block-byte, image-byte, sent-offset, compared-offset, write-byte, stage-byte}
-use Rattle.c2_session.specs.Code.Next.{at}
+use Rattle.c2_session.specs.Code.Next.{act-at}
 use Rattle.c2_range.specs.Range.{pages-in, blocks-in}
 use Rattle.c2_position.specs.Position.{page-list, page-at, block-at, stage-acts}
 use Rattle.c2_position.proofs.Laws.Pages.{pages-at, blocks-at-number}
@@ -121,20 +121,20 @@ module _ (s : Session) (image : List ℕ) (h : Fits s image) where
   -- the bytes of a block's command are those that the code finds
   command-is : (i j k c : ℕ) → i < s .pages → j < size / 256 → (g : Stage) (bs : List ℕ) → length bs ≡ 256
       → command-byte (s .settings .fpdat) c (record { address = (s .first + i) * size + j * 256; offset = i * size + j * 256; bytes = bs }) k
-      ≡ block-byte s (at g i j k) c
+      ≡ block-byte s (act-at g i j k) c
   unfolding block-byte length-code
   command-is i j k c gi gj g bs e =
       let l : length bs % 256 ≡ 0 = rw e in
       rw (address-whole i j, address-high i j gi gj, l, cond-same {A = ℕ} (eqb k 9) 0, cond-same {A = ℕ} (eqb k 7) 0)
 
-  lead-here : (i j k : ℕ) (d : Act) → k < 8 → getD (stage-acts Lead s image i j) k d ≡ act-here Lead (at Lead i j k)
-  lead-here i j k d g = lead-at (s .settings) k d (compared-offset s (at Lead i j k)) g
+  lead-here : (i j k : ℕ) (d : Act) → k < 8 → getD (stage-acts Lead s image i j) k d ≡ act-here Lead (act-at Lead i j k)
+  lead-here i j k d g = lead-at (s .settings) k d (compared-offset s (act-at Lead i j k)) g
 
-  erase-here : (i j k : ℕ) (d : Act) → i < s .pages → k < 13 → getD (stage-acts Erase s image i j) k d ≡ act-here Erase (at Erase i j k)
+  erase-here : (i j k : ℕ) (d : Act) → i < s .pages → k < 13 → getD (stage-acts Erase s image i j) k d ≡ act-here Erase (act-at Erase i j k)
   unfolding erase-byte
   erase-here i j k d gi g =
       let m : (s .first + i) % 256 ≡ s .first + i = mod-eq-of-lt (omega (arith, h .inside, pages-few)) in
-      rw (page-number i gi, m) (erase-at (s .settings .fpdat) (s .first + i) k d (s .settings .id) (compared-offset s (at Erase i j k)) g)
+      rw (page-number i gi, m) (erase-at (s .settings .fpdat) (s .first + i) k d (s .settings .id) (compared-offset s (act-at Erase i j k)) g)
     where
       pages-few : s .settings .count ≤ 128
       pages-few =
@@ -142,12 +142,12 @@ module _ (s : Session) (image : List ℕ) (h : Fits s image) where
           let m : s .settings .count * 512 ≤ s .settings .count * size = mul-le-mul-left (s .settings .count) (omega (arith, h .settings .size, h .settings .some)) in
           omega (arith, h .settings .bytes)
 
-  write-here : (i j k : ℕ) (d : Act) → i < s .pages → j < size / 256 → k < 525 → getD (stage-acts Write s image i j) k d ≡ act-here Write (at Write i j k)
+  write-here : (i j k : ℕ) (d : Act) → i < s .pages → j < size / 256 → k < 525 → getD (stage-acts Write s image i j) k d ≡ act-here Write (act-at Write i j k)
   unfolding write-byte sent-offset
   write-here i j k d gi gj g = rw (block-is i j gi gj) (write-at (s .settings .fpdat) bb k d (s .settings .id) o (block-length i j gi gj) g ∙ go (decLt k 11) (decLt k 523))
     where
       o : ℕ
-      o = compared-offset s (at Write i j k)
+      o = compared-offset s (act-at Write i j k)
 
       bs : List ℕ
       bs = take 256 (drop (j * 256) (take size (drop (i * size) image)))
@@ -155,11 +155,11 @@ module _ (s : Session) (image : List ℕ) (h : Fits s image) where
       bb : Block
       bb = record { address = (s .first + i) * size + j * 256; offset = i * size + j * 256; bytes = bs }
 
-      last : 523 ≤ k → Dec (k < 524) → task-act (task-of Write k) (write-act-byte (s .settings .fpdat) bb k) (s .settings .id) o ≡ act-here Write (at Write i j k)
+      last : 523 ≤ k → Dec (k < 524) → task-act (task-of Write k) (write-act-byte (s .settings .fpdat) bb k) (s .settings .id) o ≡ act-here Write (act-at Write i j k)
       last x (yes y) = let q : k ≡ 523 = omega arith in rw q
       last x (no y) = let q : k ≡ 524 = omega arith in rw q
 
-      go : Dec (k < 11) → Dec (k < 523) → task-act (task-of Write k) (write-act-byte (s .settings .fpdat) bb k) (s .settings .id) o ≡ act-here Write (at Write i j k)
+      go : Dec (k < 11) → Dec (k < 523) → task-act (task-of Write k) (write-act-byte (s .settings .fpdat) bb k) (s .settings .id) o ≡ act-here Write (act-at Write i j k)
       go (yes y) z = rw (lt-ltb k 11 y, command-is i j k 7 gi gj Write bs (block-length i j gi gj))
       go (no y) (yes z) =
           let n : ℕ = (k - 11) / 2 in
@@ -169,7 +169,7 @@ module _ (s : Session) (image : List ℕ) (h : Fits s image) where
           rw (le-ltb k 11 (omega arith)) (ap (λ (x : ℕ). task-act (task-of Write k) x (s .settings .id) o) e)
       go (no y) (no z) = last (omega arith) (decLt k 524)
 
-  read-here : (i j k : ℕ) (d : Act) → i < s .pages → j < size / 256 → k < 525 → getD (stage-acts Read s image i j) k d ≡ act-here Read (at Read i j k)
+  read-here : (i j k : ℕ) (d : Act) → i < s .pages → j < size / 256 → k < 525 → getD (stage-acts Read s image i j) k d ≡ act-here Read (act-at Read i j k)
   unfolding compared-offset
   read-here i j k d gi gj g = rw (block-is i j gi gj) (read-at (s .settings .fpdat) bb k d (s .settings .id) (block-length i j gi gj) g ∙ go (decLt k 11) (decLt k 14))
     where
@@ -183,13 +183,13 @@ module _ (s : Session) (image : List ℕ) (h : Fits s image) where
       o = i * size + j * 256 + (k - 14) / 2
 
       few : 11 ≤ k → Dec (k < 12) → Dec (k < 13) → k < 14
-          → task-act (task-of Read k) (read-act-byte (s .settings .fpdat) bb k) (s .settings .id) (i * size + j * 256 + (k - 14) / 2) ≡ act-here Read (at Read i j k)
+          → task-act (task-of Read k) (read-act-byte (s .settings .fpdat) bb k) (s .settings .id) (i * size + j * 256 + (k - 14) / 2) ≡ act-here Read (act-at Read i j k)
       few x (yes y) z w = let q : k ≡ 11 = omega arith in rw q
       few x (no y) (yes z) w = let q : k ≡ 12 = omega arith in rw q
       few x (no y) (no z) w = let q : k ≡ 13 = omega arith in rw q
 
       go : Dec (k < 11) → Dec (k < 14)
-          → task-act (task-of Read k) (read-act-byte (s .settings .fpdat) bb k) (s .settings .id) (i * size + j * 256 + (k - 14) / 2) ≡ act-here Read (at Read i j k)
+          → task-act (task-of Read k) (read-act-byte (s .settings .fpdat) bb k) (s .settings .id) (i * size + j * 256 + (k - 14) / 2) ≡ act-here Read (act-at Read i j k)
       go (yes y) z = rw (lt-ltb k 11 y, command-is i j k 6 gi gj Read bs (block-length i j gi gj))
       go (no y) (yes z) = few (omega arith) (decLt k 12) (decLt k 13) z
       go (no y) (no z) =
@@ -201,7 +201,7 @@ module _ (s : Session) (image : List ℕ) (h : Fits s image) where
 
   -- at every point of a stage the session's numbers stand for the act of the order
   pub stands : (g : Stage) (i j k : ℕ) (d : Act) → i < pages-in g (s .pages) → j < blocks-in g size → k < acts-in g
-      → getD (stage-acts g s image i j) k d ≡ act-here g (at g i j k)
+      → getD (stage-acts g s image i j) k d ≡ act-here g (act-at g i j k)
   stands Lead i j k d gi gj gk = lead-here i j k d gk
   stands Erase i j k d gi gj gk = erase-here i j k d gi gk
   stands Write i j k d gi gj gk = write-here i j k d gi gj gk

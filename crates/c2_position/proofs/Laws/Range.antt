@@ -30,7 +30,7 @@ use Rattle.c2_session.specs.declared.Point.the-variants.{Running, Ended}
 use Rattle.c2_session.specs.declared.Session.{Session}
 use Rattle.c2_acts.specs.Code.Acts.{task-of, acts-in}
 use Rattle.c2_session.specs.Code.Bytes.{compared-offset}
-use Rattle.c2_session.specs.Code.Next.{at, strobe-point, first-strobe, next-write, next-page, next-read, next-stage, next-act}
+use Rattle.c2_session.specs.Code.Next.{act-at, strobe-point, first-strobe, next-write, next-page, next-read, next-stage, next-act}
 use Rattle.c2_session.specs.Code.Judge.{read-again, differs, compared, frame-judged, frame-answered}
 use Rattle.c2_session.specs.Code.Advance.{task-taken, point-replied, point-advanced, advanced}
 use Rattle.c2_range.specs.Code.Bounds.{strobes-in, reads-in}
@@ -99,7 +99,7 @@ module _ (w r : ℕ) (hw : 0 < w) (hr : 0 < r) (s : Session) (image : List ℕ) 
   cond-in false x y p q = q
 
   pub running-in : (g : Stage) (i j k : ℕ) (p : Place) → i < pages-in g (s .pages) → j < blocks-in g (s .settings .size) → k < acts-in g
-      → Exists w (reads-in r (task-of g k)) (strobes-in (task-of g k)) p → In (strobe-point (at g i j k) p)
+      → Exists w (reads-in r (task-of g k)) (strobes-in (task-of g k)) p → In (strobe-point (act-at g i j k) p)
   running-in g i j k p gi gj gk e =
       bounded-in-range w r (s .settings .size) (s .pages) g i j k (p .strobe) (p .count) (p .bits)
       (record { page = gi; block = gj; act = gk; place = exists-place w (reads-in r (task-of g k)) (strobes-in (task-of g k)) p e })
@@ -119,18 +119,18 @@ module _ (w r : ℕ) (hw : 0 < w) (hr : 0 < r) (s : Session) (image : List ℕ) 
   acts-some Read = omega arith
   acts-some Close = omega arith
 
-  stage-in : (g : Stage) (i j k : ℕ) → i < pages-in g (s .pages) → j < blocks-in g (s .settings .size) → In (next-stage g s (at g i j k))
+  stage-in : (g : Stage) (i j k : ℕ) → i < pages-in g (s .pages) → j < blocks-in g (s .settings .size) → In (next-stage g s (act-at g i j k))
   unfolding next-write next-read next-page ended-in-range ends-session offsets-of
   stage-in Lead i j k gi gj = begins-in Erase 0 0 0 (h .some) (omega arith) (omega arith)
   stage-in Erase i j k gi gj = begins-in Write i 0 0 gi blocks-some (omega arith)
   stage-in Write i j k gi gj = go (decLt (j + 1) (s .settings .size / 256))
     where
-      go : Dec (j + 1 < s .settings .size / 256) → In (next-stage Write s (at Write i j k))
+      go : Dec (j + 1 < s .settings .size / 256) → In (next-stage Write s (act-at Write i j k))
       go (yes y) = rw (lt-ltb _ _ y) (begins-in Write i (j + 1) 0 gi y (omega arith))
       go (no y) = rw (le-ltb (j + 1) (s .settings .size / 256) (omega arith)) (begins-in Read i 0 0 gi blocks-some (omega arith))
   stage-in Read i j k gi gj = go (decLt (j + 1) (s .settings .size / 256)) (decLt (i + 1) (s .pages))
     where
-      go : Dec (j + 1 < s .settings .size / 256) → Dec (i + 1 < s .pages) → In (next-stage Read s (at Read i j k))
+      go : Dec (j + 1 < s .settings .size / 256) → Dec (i + 1 < s .pages) → In (next-stage Read s (act-at Read i j k))
       go (yes y) z = rw (lt-ltb _ _ y) (begins-in Read i (j + 1) 0 gi y (omega arith))
       go (no y) (yes z) =
           rw (le-ltb (j + 1) (s .settings .size / 256) (omega arith), lt-ltb _ _ z) (begins-in Erase (i + 1) 0 0 z (omega arith) (omega arith))
@@ -138,53 +138,53 @@ module _ (w r : ℕ) (hw : 0 < w) (hr : 0 < r) (s : Session) (image : List ℕ) 
           rw (le-ltb (j + 1) (s .settings .size / 256) (omega arith), le-ltb (i + 1) (s .pages) (omega arith)) (begins-in Close 0 0 0 (omega arith) (omega arith) (omega arith))
   stage-in Close i j k gi gj = refl
 
-  pub onward-in : (g : Stage) (i j k : ℕ) → i < pages-in g (s .pages) → j < blocks-in g (s .settings .size) → k < acts-in g → In (next-act s (at g i j k))
+  pub onward-in : (g : Stage) (i j k : ℕ) → i < pages-in g (s .pages) → j < blocks-in g (s .settings .size) → k < acts-in g → In (next-act s (act-at g i j k))
   unfolding next-act
   onward-in g i j k gi gj gk = go (decLt (k + 1) (acts-in g))
     where
-      go : Dec (k + 1 < acts-in g) → In (next-act s (at g i j k))
+      go : Dec (k + 1 < acts-in g) → In (next-act s (act-at g i j k))
       go (yes y) = rw (lt-ltb _ _ y) (begins-in g i j (k + 1) gi gj y)
       go (no y) = rw (le-ltb (k + 1) (acts-in g) (omega arith)) (stage-in g i j k gi gj)
 
   module _ (g : Stage) (i j k : ℕ) (gi : i < pages-in g (s .pages)) (gj : j < blocks-in g (s .settings .size)) (gk : k < acts-in g) where
     -- a poll's next read is in range
-    again-in : (t : Task) → task-of g k ≡ t → reads-in r t ≡ r → strobes-in t ≡ frame AddressRead 0 → (n : ℕ) → In (read-again r (at g i j k) n)
+    again-in : (t : Task) → task-of g k ≡ t → reads-in r t ≡ r → strobes-in t ≡ frame AddressRead 0 → (n : ℕ) → In (read-again r (act-at g i j k) n)
     unfolding read-again ended-in-range ends-session offsets-of
     again-in t q e f n = go (decLt (n + 1) r)
       where
-        go : Dec (n + 1 < r) → In (read-again r (at g i j k) n)
+        go : Dec (n + 1 < r) → In (read-again r (act-at g i j k) n)
         go (yes y) = rw (lt-ltb _ _ y) (running-in g i j k (place 0 (n + 1) 0) gi gj gk (rw (q, e, f) (read-exists w r (n + 1) y)))
         go (no y) = rw (le-ltb (n + 1) r (omega arith)) refl
 
-    judged-in : (t : Task) → task-of g k ≡ t → (n x : ℕ) → In (frame-judged r t s (at g i j k) n x image)
+    judged-in : (t : Task) → task-of g k ≡ t → (n x : ℕ) → In (frame-judged r t s (act-at g i j k) n x image)
     unfolding ended-in-range ends-session offsets-of compared differs
     judged-in Reset q n x = onward-in g i j k gi gj gk
     judged-in Pause q n x = onward-in g i j k gi gj gk
     judged-in Address q n x = onward-in g i j k gi gj gk
     judged-in Send q n x = onward-in g i j k gi gj gk
-    judged-in Input q n x = cond-in (eqb (x / 2 % 2) 0) (next-act s (at g i j k)) (read-again r (at g i j k) n) (onward-in g i j k gi gj gk) (again-in Input q refl refl n)
-    judged-in Output q n x = cond-in (eqb (x % 2) 1) (next-act s (at g i j k)) (read-again r (at g i j k) n) (onward-in g i j k gi gj gk) (again-in Output q refl refl n)
-    judged-in Ident q n x = cond-in (eqb x (s .settings .id)) (next-act s (at g i j k)) (Ended other-device 0) (onward-in g i j k gi gj gk) refl
-    judged-in Status q n x = cond-in (eqb x 13) (next-act s (at g i j k)) (Ended bad-status 0) (onward-in g i j k gi gj gk) refl
+    judged-in Input q n x = cond-in (eqb (x / 2 % 2) 0) (next-act s (act-at g i j k)) (read-again r (act-at g i j k) n) (onward-in g i j k gi gj gk) (again-in Input q refl refl n)
+    judged-in Output q n x = cond-in (eqb (x % 2) 1) (next-act s (act-at g i j k)) (read-again r (act-at g i j k) n) (onward-in g i j k gi gj gk) (again-in Output q refl refl n)
+    judged-in Ident q n x = cond-in (eqb x (s .settings .id)) (next-act s (act-at g i j k)) (Ended other-device 0) (onward-in g i j k gi gj gk) refl
+    judged-in Status q n x = cond-in (eqb x 13) (next-act s (act-at g i j k)) (Ended bad-status 0) (onward-in g i j k gi gj gk) refl
     judged-in Compare q n x =
         let c = compares-there s image h g i j k gi gj gk (compares-late g k gk q) in
-        let m : compared-offset s (at g i j k) % 4294967296 ≡ compared-offset s (at g i j k) = mod-eq-of-lt (omega (arith, c .1, image-small s image h)) in
-        rw (c .0) (cond-in (eqb x _) (next-act s (at g i j k)) (Ended compare-differs (compared-offset s (at g i j k) % 4294967296)) (onward-in g i j k gi gj gk)
-        (rw m (lt-ltb (compared-offset s (at g i j k)) (s .settings .size * s .pages) (omega (arith, c .1, h .whole, mul-comm (s .settings .size) (s .pages))))))
+        let m : compared-offset s (act-at g i j k) % 4294967296 ≡ compared-offset s (act-at g i j k) = mod-eq-of-lt (omega (arith, c .1, image-small s image h)) in
+        rw (c .0) (cond-in (eqb x _) (next-act s (act-at g i j k)) (Ended compare-differs (compared-offset s (act-at g i j k) % 4294967296)) (onward-in g i j k gi gj gk)
+        (rw m (lt-ltb (compared-offset s (act-at g i j k)) (s .settings .size * s .pages) (omega (arith, c .1, h .whole, mul-comm (s .settings .size) (s .pages))))))
 
-    settled-in : (t : Task) → task-of g k ≡ t → (n : ℕ) (m : Moved) → exists-after w (reads-in r t) (strobes-in t) m → In (frame-answered r m t s (at g i j k) n image)
+    settled-in : (t : Task) → task-of g k ≡ t → (n : ℕ) (m : Moved) → exists-after w (reads-in r t) (strobes-in t) m → In (frame-answered r m t s (act-at g i j k) n image)
     unfolding ended-in-range ends-session offsets-of
     settled-in t q n (Within p) e = running-in g i j k p gi gj gk (rw q e)
     settled-in t q n (Stopped x) e = judged-in t q n x
     settled-in t q n WaitLimit e = refl
 
     framed-in : (t : Task) → task-of g k ≡ t → (p : Place) (b : Bool) → Exists w (reads-in r t) (strobes-in t) p
-        → In (frame-answered r (followed w (strobes-in t) p b) t s (at g i j k) (p .count) image)
+        → In (frame-answered r (followed w (strobes-in t) p b) t s (act-at g i j k) (p .count) image)
     framed-in t q p b e =
         settled-in t q (p .count) (followed w (strobes-in t) p b)
         (followed-exists w (reads-in r t) (strobes-in t) (whole-in r t) hw (reads-some r hr t) p b e)
 
-    taken-in : (t : Task) → task-of g k ≡ t → (p : Place) (b : Bool) → Exists w (reads-in r t) (strobes-in t) p → In (task-taken w r t s (at g i j k) p b image)
+    taken-in : (t : Task) → task-of g k ≡ t → (p : Place) (b : Bool) → Exists w (reads-in r t) (strobes-in t) p → In (task-taken w r t s (act-at g i j k) p b image)
     taken-in Reset q p b e = onward-in g i j k gi gj gk
     taken-in Pause q p b e = onward-in g i j k gi gj gk
     taken-in Address q p b e = framed-in Address q p b e
@@ -195,10 +195,10 @@ module _ (w r : ℕ) (hw : 0 < w) (hr : 0 < r) (s : Session) (image : List ℕ) 
     taken-in Status q p b e = framed-in Status q p b e
     taken-in Compare q p b e = framed-in Compare q p b e
 
-    replied-in : (p : Place) (x : ℕ) → Exists w (reads-in r (task-of g k)) (strobes-in (task-of g k)) p → In (point-replied w r s (at g i j k) p x image)
+    replied-in : (p : Place) (x : ℕ) → Exists w (reads-in r (task-of g k)) (strobes-in (task-of g k)) p → In (point-replied w r s (act-at g i j k) p x image)
     unfolding point-replied ended-in-range ends-session offsets-of
     replied-in p x e =
-        cond-in (ltb 1 x) (Ended bad-reply 0) (task-taken w r (task-of g k) s (at g i j k) p (eqb x 1) image) refl (taken-in (task-of g k) refl p (eqb x 1) e)
+        cond-in (ltb 1 x) (Ended bad-reply 0) (task-taken w r (task-of g k) s (act-at g i j k) p (eqb x 1) image) refl (taken-in (task-of g k) refl p (eqb x 1) e)
 
 -- every session that a reply makes of one in range is in range
 pub advanced-in-range : (w r : ℕ) → 0 < w → 0 < r → (s : Session) (image : List ℕ) → in-range w r s ≡ true → length image ≡ s .settings .size * s .pages → (x : ℕ)

@@ -28,7 +28,7 @@ use Rattle.c2_session.specs.declared.Point.the-variants.{Running, Ended}
 use Rattle.c2_session.specs.declared.Session.{Session}
 use Rattle.c2_acts.specs.Code.Acts.{task-of, read-task}
 use Rattle.c2_session.specs.Code.Bytes.{stage-byte, compared-offset}
-use Rattle.c2_session.specs.Code.Next.{at}
+use Rattle.c2_session.specs.Code.Next.{act-at}
 use Rattle.c2_session.specs.Code.Step.{task-step, point-step, session-step}
 use Rattle.c2_range.specs.Range.{in-range, point-in-range}
 use Rattle.c2_range.specs.Code.Bounds.{strobes-in, reads-in}
@@ -53,13 +53,13 @@ late-unsent k h =
     (by-test (eqb (k % 2) 1) (λ e. rw e) (λ e. by-test (eqb k 12) (λ f. rw (e, f)) (λ f. rw (e, f))))
 
 sent-byte : (s : Session) (image : List ℕ) (h : Fits s image) (g : Stage) (i j k : ℕ) → is-sent (task-of g k) ≡ true
-    → act-byte s image h g (at g i j k) ≡ stage-byte g s (at g i j k) image
+    → act-byte s image h g (act-at g i j k) ≡ stage-byte g s (act-at g i j k) image
 sent-byte s image h Lead i j k e = refl
 sent-byte s image h Erase i j k e = refl
 sent-byte s image h Write i j k e = refl
 sent-byte s image h Read i j k e = go (decLt k 11)
   where
-    go : Dec (k < 11) → act-byte s image h Read (at Read i j k) ≡ stage-byte Read s (at Read i j k) image
+    go : Dec (k < 11) → act-byte s image h Read (act-at Read i j k) ≡ stage-byte Read s (act-at Read i j k) image
     go (yes y) = rw (lt-ltb k 11 y)
     go (no y) = absurd (let z : false ≡ true = sym (late-unsent k (omega arith)) ∙ e in let n : _≡_ {A = ℕ} 0 1 = cc in omega arith)
 sent-byte s image h Close i j k e = refl
@@ -82,10 +82,10 @@ pause-code = refl
 
 module _ (s : Session) (image : List ℕ) (h : Fits s image) (w r : ℕ) (g : Stage) (i j k : ℕ) (acts : List Act) (p : Place) where
   abbrev act-of : Task → Act
-  act-of t = task-act t (act-byte s image h g (at g i j k)) (s .settings .id) (compared-offset s (at g i j k))
+  act-of t = task-act t (act-byte s image h g (act-at g i j k)) (s .settings .id) (compared-offset s (act-at g i j k))
 
   asks-task : (t : Task) → task-of g k ≡ t → Exists w (reads-in r t) (strobes-in t) p
-      → asks (left-to-say (limits w r) (Point.running (act-of t) acts p)) ≡ task-step t s (at g i j k) (p .strobe) image
+      → asks (left-to-say (limits w r) (Point.running (act-of t) acts p)) ≡ task-step t s (act-at g i j k) (p .strobe) image
   unfolding strobes-of is-sent
   asks-task Reset q e = asks-place w r (act-of Reset) acts p 1 e ∙ only e
     where
@@ -96,10 +96,10 @@ module _ (s : Session) (image : List ℕ) (h : Fits s image) (w r : ℕ) (g : St
       only : Exists w 1 (strobes-in Pause) p → step-at (strobes-in Pause) (p .strobe) ≡ 5
       only e = let z : p .strobe ≡ 0 = omega (arith, e .inside) in rw z pause-code
   asks-task Address q e =
-      asks-place w r (act-of Address) acts p 1 (exists-any-byte AddressWrite 0 (act-byte s image h g (at g i j k)) w 1 p e)
+      asks-place w r (act-of Address) acts p 1 (exists-any-byte AddressWrite 0 (act-byte s image h g (act-at g i j k)) w 1 p e)
       ∙ ap (λ (b : ℕ). step-at (frame AddressWrite b) (p .strobe)) (sent-byte s image h g i j k (ap is-sent q))
   asks-task Send q e =
-      asks-place w r (act-of Send) acts p 1 (exists-any-byte DataWrite 0 (act-byte s image h g (at g i j k)) w 1 p e)
+      asks-place w r (act-of Send) acts p 1 (exists-any-byte DataWrite 0 (act-byte s image h g (act-at g i j k)) w 1 p e)
       ∙ ap (λ (b : ℕ). step-at (frame DataWrite b) (p .strobe)) (sent-byte s image h g i j k (ap is-sent q))
   asks-task Input q e = asks-place w r (act-of Input) acts p r e
   asks-task Output q e = asks-place w r (act-of Output) acts p r e

@@ -6,7 +6,7 @@ use Prim.Native.Nat.{ℕ, _/_, _%_, _<_}
 use native.Mathlib.Nat.{mod-lt}
 use native.Mathlib.Omega.{arith}
 use lib.ListN.{getD, replicate}
-use Rattle.c2_wire.specs.Bits.{Bytes}
+use Rattle.laws.specs.Bytes.{Bytes}
 use Rattle.laws.proofs.Tests.{by-test}
 use Rattle.c2_session.specs.declared.Point.{Point}
 use Rattle.c2_session.specs.declared.Session.{Session}

@@ -22,7 +22,7 @@ use Rattle.c2_record.specs.declared.Reached.the-variants.{At}
 use Rattle.c2_record.specs.declared.Unpacked.{Unpacked}
 use Rattle.c2_record.specs.declared.Unpacked.the-variants.{Held, Refused}
 use Rattle.c2_record.specs.Record.{stage-code, fields-of, laid, packed, byte, pair, settings-read, fields-read, stage-named, running-at, point-of, session-read, same, checked, unpacked}
-use Rattle.c2_record.specs.Code.Spare.{four, zeros, unused, spare, checked-by}
+use Rattle.c2_record.specs.Code.Spare.{four, all-zero, unused, spare, checked-by}
 use Rattle.c2_record.proofs.Laws.Record.{same-is, same-not, a-point}
 use Rattle.c2_record.proofs.Laws.Fields.{one-back}
 
@@ -54,16 +54,16 @@ Zeros r i =
     (byte r i ≡ 0) × (byte r (i + 1) ≡ 0) × (byte r (i + 2) ≡ 0) × (byte r (i + 3) ≡ 0) ×
     (byte r (i + 4) ≡ 0) × (byte r (i + 5) ≡ 0) × (byte r (i + 6) ≡ 0) × (byte r (i + 7) ≡ 0)
 
-zeros-are : (r : List ℕ) (i : ℕ) → zeros r i ≡ true → Zeros r i
-unfolding zeros
+zeros-are : (r : List ℕ) (i : ℕ) → all-zero r i ≡ true → Zeros r i
+unfolding all-zero
 zeros-are r i e =
     let t = not-second (eqb (four (byte r i) (byte r (i + 1)) (byte r (i + 2)) (byte r (i + 3))) 0) _ e in
     let a = four-zero (byte r i) (byte r (i + 1)) (byte r (i + 2)) (byte r (i + 3)) (eqb-true _ 0 (t .0)) in
     let b = four-zero (byte r (i + 4)) (byte r (i + 5)) (byte r (i + 6)) (byte r (i + 7)) (eqb-true _ 0 (t .1)) in
     (a .0, a .1, a .2, a .3, b .0, b .1, b .2, b .3)
 
-zeros-pass : (r : List ℕ) (i : ℕ) → Zeros r i → zeros r i ≡ true
-unfolding zeros
+zeros-pass : (r : List ℕ) (i : ℕ) → Zeros r i → all-zero r i ≡ true
+unfolding all-zero
 zeros-pass r i z = rw (z .0, z .1, z .2, z .3, z .4, z .5, z .6, z .7)
 
 -- the point that was read: of a session that runs, or of one that has ended
@@ -90,7 +90,7 @@ by-point r C runs ended p e =
 fills : (r : List ℕ) → length r ≡ 32 → ((i : ℕ) → byte r i < 256) → spare r ≡ true → laid (settings-read r) (byte r 5) (byte r 6) (fields-read r) ≡ r
 unfolding spare laid settings-read fields-read
 fills r n b e =
-    let t = not-second (zeros r 18) (zeros r 24) e in
+    let t = not-second (all-zero r 18) (all-zero r 24) e in
     let x = zeros-are r 18 (t .0) in
     let y = zeros-are r 24 (t .1) in
     ext-getD 0 _ r (sym n)

@@ -16,18 +16,18 @@ abbrev pub four : (a b c d : ℕ) → ℕ
 four a b c d = a + b * 256 + c * 65536 + d * 16777216
 
 -- whether the eight bytes from this one on are 0
-unfoldable pub zeros : List ℕ → ℕ → Bool
-zeros r i =
+unfoldable pub all-zero : List ℕ → ℕ → Bool
+all-zero r i =
     cond (eqb (four (byte r i) (byte r (i + 1)) (byte r (i + 2)) (byte r (i + 3))) 0)
     (eqb (four (byte r (i + 4)) (byte r (i + 5)) (byte r (i + 6)) (byte r (i + 7))) 0) false
 
 -- whether the fields not in use are 0: the offset of a session that runs, or the point of one that has ended
 unfoldable pub unused : List ℕ → Bool
-unused r = cond (eqb (byte r 7) 0) (eqb (pair r 8) 0) (zeros r 10)
+unused r = cond (eqb (byte r 7) 0) (eqb (pair r 8) 0) (all-zero r 10)
 
 -- whether the spare bytes, 18 to 31, are 0
 unfoldable pub spare : List ℕ → Bool
-spare r = cond (zeros r 18) (zeros r 24) false
+spare r = cond (all-zero r 18) (all-zero r 24) false
 
 -- the session that was read, if the tests of its bytes pass and it is in range
 unfoldable pub checked-by : (wait-limit poll-limit : ℕ) → Session → List ℕ → Unpacked

@@ -4,7 +4,7 @@ use borrow.Author.Needs.{needs}
 use lib.ListN.{length}
 use Rattle.settings.specs.Opening.{opening-refusal}
 use Rattle.c2_opening.proofs.Laws.Follows.{bytes-all}
-use Rattle.c2_report.specs.Report.{device}
+use Rattle.c2_report.specs.Report.{program-device}
 use Rattle.c2_report.proofs.Laws.Report.{reports-long, reports-refused, reports-run}
 use Rattle.c2_report.proofs.report_of.Statement.{statement}
 use Rattle.c2_report.proofs.report_of.Tie as tie
@@ -48,7 +48,7 @@ returns-3 c =
     let bytes = bytes-all image (λ i. c .before .before .before .before .before .before .before .before .before .shared-slice-known .given i .fits) in
     let short = c .before .before .before .before .before .before .before .before .if1 .left in
     let tested = rw (c .before .before .before .before .before .before .before .device .ensures) at (c .before .before .before .before .before .before .opening-refusal .ensures) in
-    let accepted : opening-refusal device 0 (length image) ≡ 0 = sym tested ∙ c .before .before .before .before .before .if2 .left in
+    let accepted : opening-refusal program-device 0 (length image) ≡ 0 = sym tested ∙ c .before .before .before .before .before .if2 .left in
     let ran = rw (c .before .before .before .before .device2 .ensures) at (c .before .c2-program .ensures .0) in
     sym (reports-run image short bytes accepted _ ran)
 

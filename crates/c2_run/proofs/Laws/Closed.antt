@@ -10,7 +10,7 @@ use borrow.Author.Tests.{eq-eqb, ne-eqb}
 use lib.ListN.{length}
 use Rattle.laws.proofs.Tests.{by-test}
 use Rattle.numbers.specs.Numbers.{no-point}
-use Rattle.c2_wire.specs.Bits.{Bytes}
+use Rattle.laws.specs.Bytes.{Bytes}
 use Rattle.c2_wire.specs.Step.{Step}
 use Rattle.c2_wire.specs.Field.{Field}
 use Rattle.c2_wire.specs.Exchange.{Exchange, Outcome, strobe, asks, outcome-of}

@@ -14,7 +14,7 @@ use Rattle.c2_session.specs.declared.Point.{Point}
 use Rattle.c2_session.specs.declared.Point.the-variants.{Running, Ended}
 use Rattle.c2_session.specs.declared.Session.{Session}
 use Rattle.c2_acts.specs.Code.Acts.{task-of}
-use Rattle.c2_session.specs.Code.Next.{at, end-point, next-act}
+use Rattle.c2_session.specs.Code.Next.{act-at, end-point, next-act}
 use Rattle.c2_session.specs.Code.Judge.{frame-answered}
 use Rattle.c2_session.specs.Code.Step.{alone, task-frame}
 
@@ -33,7 +33,7 @@ point-replied w r s a p reply image = replied-by w r (task-of (a .stage) (a .act
 
 -- the point after a reply, of any session: one that has ended takes none
 abbrev pub point-advanced : (wait-limit poll-limit : ℕ) → Point → Session → (reply : ℕ) → List ℕ → Point
-point-advanced w r (Running g i j k q c v) s reply image = point-replied w r s (at g i j k) (place q c v) reply image
+point-advanced w r (Running g i j k q c v) s reply image = point-replied w r s (act-at g i j k) (place q c v) reply image
 point-advanced w r (Ended n o) s reply image = Ended n o
 
 -- the session after a reply
@@ -44,7 +44,7 @@ advanced w r s reply image =
 -- the point after a reply for a caller that knows what the act does; `advanced-known` of proofs/Laws/Task in
 -- c2_outcome is the law that it is the same
 abbrev pub point-advanced-by : (wait-limit poll-limit : ℕ) → Task → Point → Session → (reply : ℕ) → List ℕ → Point
-point-advanced-by w r t (Running g i j k q c v) s reply image = replied-by w r t s (at g i j k) (place q c v) reply image
+point-advanced-by w r t (Running g i j k q c v) s reply image = replied-by w r t s (act-at g i j k) (place q c v) reply image
 point-advanced-by w r t (Ended n o) s reply image = Ended n o
 
 -- the session after a reply for a caller that knows what the act does

@@ -14,8 +14,8 @@ use Rattle.c2_session.specs.declared.Point.the-variants.{Running, Ended}
 use Rattle.c2_session.specs.declared.Session.{Session}
 use Rattle.c2_acts.specs.Code.Acts.{acts-in}
 
-abbrev pub at : Stage → (page block act : ℕ) → At
-at stage page block act = record { stage = stage; page = page; block = block; act = act }
+abbrev pub act-at : Stage → (page block act : ℕ) → At
+act-at stage page block act = record { stage = stage; page = page; block = block; act = act }
 
 -- the point of a running session, from its act and its place
 abbrev pub strobe-point : At → Place → Point
@@ -27,11 +27,12 @@ end-point n = Ended n 0
 
 -- the first strobe of an act
 abbrev pub first-strobe : Stage → (page block act : ℕ) → Point
-first-strobe stage page block act = strobe-point (at stage page block act) (place 0 0 0)
+first-strobe stage page block act = strobe-point (act-at stage page block act) (place 0 0 0)
 
 -- the point after the last act of a block write: the page's next block write, or its first block read
 unfoldable pub next-write : Session → At → Point
-next-write s a = cond (ltb (a .block + 1) (s .settings .size / 256)) (first-strobe Write (a .page) (a .block + 1) 0) (first-strobe Read (a .page) 0 0)
+next-write s a =
+    cond (ltb (a .block + 1) (s .settings .size / 256)) (first-strobe Write (a .page) (a .block + 1) 0) (first-strobe Read (a .page) 0 0)
 
 -- the point after the last act of a page: the next page's erase, or the last reset
 unfoldable pub next-page : Session → (page : ℕ) → Point

@@ -16,7 +16,7 @@ use Rattle.c2_session.specs.declared.Point.the-variants.{Running, Ended}
 use Rattle.c2_session.specs.declared.Session.{Session}
 use Rattle.c2_acts.specs.Code.Acts.{task-of}
 use Rattle.c2_session.specs.Code.Bytes.{stage-byte}
-use Rattle.c2_session.specs.Code.Next.{at}
+use Rattle.c2_session.specs.Code.Next.{act-at}
 
 -- the step of an act that stands in no frame, 0 for any other act
 abbrev pub alone : Task → ℕ
@@ -64,7 +64,7 @@ task-step k s a q image = cond (eqb (alone k) 0) (step-at (frame (task-frame k) 
 
 -- the step at a point; 6 once the session has ended
 abbrev pub point-step : Point → Session → List ℕ → ℕ
-point-step (Running g i j k q c v) s image = task-step (task-of g k) s (at g i j k) q image
+point-step (Running g i j k q c v) s image = task-step (task-of g k) s (act-at g i j k) q image
 point-step (Ended n o) s image = 6
 
 -- the step that a session waits at
@@ -74,7 +74,7 @@ session-step s image = point-step (s .point) s image
 -- the step for a caller that knows what the act does; `step-known` of proofs/Laws/Task in c2_outcome is the
 -- law that it is the same
 abbrev pub point-step-by : Task → Point → Session → List ℕ → ℕ
-point-step-by t (Running g i j k q c v) s image = task-step t s (at g i j k) q image
+point-step-by t (Running g i j k q c v) s image = task-step t s (act-at g i j k) q image
 point-step-by t (Ended n o) s image = 6
 
 unfoldable pub step-by : Task → Session → List ℕ → ℕ

@@ -7,17 +7,17 @@ use Rattle.c2_wire.specs.Place.{strobe-step}
 use Rattle.settings.specs.Accepted.{is-fpdat, is-page-size, is-page-count, settings-refusal}
 use Rattle.c2_order.specs.Acts.{coded-length}
 use Rattle.c2_target.specs.Delays.{list-place, delay, next-place}
-use Rattle.c2_target.specs.Commands.{erased, stored, in-flash, opens, takes, some-output, first-byte, other-bytes}
-use Rattle.c2_target.specs.Interface.{in-busy, out-ready, status-bits, linked, shown, given, late-of, place-after, put-byte, get-byte, counted, next-keys, begun, does}
+use Rattle.c2_target.specs.Commands.{erased, stored, in-flash, opens, takes-put, some-output, first-byte, other-bytes}
+use Rattle.c2_target.specs.Interface.{in-busy, out-ready, status-bits, linked, shown, given, late-of, place-after, put-byte, get-byte, counted, next-keys, begun, frame-does}
 use Rattle.c2_target.specs.Strobes.{line, marked, sending, frame-begins, after-ins, after-write-length, after-read-length, after-address, after-data, after-long-data, value-sent, after-wait, strobed-at}
 use Rattle.c2_target.specs.Known.{hearing, is-byte, known-effect, after-its-wait, is-sent, known-point, is-count, known-block, known-command, known-output, known-link, known}
-use Rattle.c2_target.specs.Target.{step-coded, cleared, fresh, after-reset, between-frames, keyed, after-pause, stepped, is-step, refusal, answer, flash-after}
+use Rattle.c2_target.specs.Target.{step-coded, cleared, fresh, after-reset, between-frames, keyed, after-pause, stepped, is-step, step-refusal, answer, flash-after}
 use Rattle.c2_target.specs.Steps.{own-replies, left-by}
-use Rattle.c2_target.specs.Corners.{move-steps, steps, byte-read, bytes-read, replies, reads, after, keys}
+use Rattle.c2_target.specs.Corners.{move-steps, steps-given, byte-read, bytes-read, fresh-replies, reads, fresh-after, keys}
 use Rattle.c2_target.specs.Corners.{Strobe-corners, Length-corners, Step-corners, Interface-corners, Command-corners, Refusal-corners, Corners}
 
 strobe-corners : Strobe-corners
-unfolding bits bit odd number drives code sends ins-code frame strobe-step coded-length list-place delay next-place erased stored in-flash opens takes some-output first-byte other-bytes in-busy out-ready status-bits linked shown given late-of place-after put-byte get-byte counted next-keys begun does line marked sending frame-begins after-ins after-write-length after-read-length after-address after-data after-long-data value-sent after-wait strobed-at cleared fresh after-reset between-frames keyed after-pause stepped hearing is-byte known-effect after-its-wait is-sent known-point is-count known-block known-command known-output known-link known step-coded is-step is-fpdat is-page-size is-page-count settings-refusal refusal answer flash-after own-replies left-by move-steps steps byte-read bytes-read replies reads after keys
+unfolding bits bit odd number drives code sends ins-code frame strobe-step coded-length list-place delay next-place erased stored in-flash opens takes-put some-output first-byte other-bytes in-busy out-ready status-bits linked shown given late-of place-after put-byte get-byte counted next-keys begun frame-does line marked sending frame-begins after-ins after-write-length after-read-length after-address after-data after-long-data value-sent after-wait strobed-at cleared fresh after-reset between-frames keyed after-pause stepped hearing is-byte known-effect after-its-wait is-sent known-point is-count known-block known-command known-output known-link known step-coded is-step is-fpdat is-page-size is-page-count settings-refusal step-refusal answer flash-after own-replies left-by move-steps steps-given byte-read bytes-read fresh-replies reads fresh-after keys
 strobe-corners =
     record {
       begins = (refl, refl, refl);
@@ -42,7 +42,7 @@ strobe-corners =
     }
 
 length-corners : Length-corners
-unfolding bits bit odd number drives code sends ins-code frame strobe-step coded-length list-place delay next-place erased stored in-flash opens takes some-output first-byte other-bytes in-busy out-ready status-bits linked shown given late-of place-after put-byte get-byte counted next-keys begun does line marked sending frame-begins after-ins after-write-length after-read-length after-address after-data after-long-data value-sent after-wait strobed-at cleared fresh after-reset between-frames keyed after-pause stepped hearing is-byte known-effect after-its-wait is-sent known-point is-count known-block known-command known-output known-link known step-coded is-step is-fpdat is-page-size is-page-count settings-refusal refusal answer flash-after own-replies left-by move-steps steps byte-read bytes-read replies reads after keys
+unfolding bits bit odd number drives code sends ins-code frame strobe-step coded-length list-place delay next-place erased stored in-flash opens takes-put some-output first-byte other-bytes in-busy out-ready status-bits linked shown given late-of place-after put-byte get-byte counted next-keys begun frame-does line marked sending frame-begins after-ins after-write-length after-read-length after-address after-data after-long-data value-sent after-wait strobed-at cleared fresh after-reset between-frames keyed after-pause stepped hearing is-byte known-effect after-its-wait is-sent known-point is-count known-block known-command known-output known-link known step-coded is-step is-fpdat is-page-size is-page-count settings-refusal step-refusal answer flash-after own-replies left-by move-steps steps-given byte-read bytes-read fresh-replies reads fresh-after keys
 length-corners =
     record {
       reads-zeros-1 = refl;
@@ -62,7 +62,7 @@ length-corners =
     }
 
 step-corners : Step-corners
-unfolding bits bit odd number drives code sends ins-code frame strobe-step coded-length list-place delay next-place erased stored in-flash opens takes some-output first-byte other-bytes in-busy out-ready status-bits linked shown given late-of place-after put-byte get-byte counted next-keys begun does line marked sending frame-begins after-ins after-write-length after-read-length after-address after-data after-long-data value-sent after-wait strobed-at cleared fresh after-reset between-frames keyed after-pause stepped hearing is-byte known-effect after-its-wait is-sent known-point is-count known-block known-command known-output known-link known step-coded is-step is-fpdat is-page-size is-page-count settings-refusal refusal answer flash-after own-replies left-by move-steps steps byte-read bytes-read replies reads after keys
+unfolding bits bit odd number drives code sends ins-code frame strobe-step coded-length list-place delay next-place erased stored in-flash opens takes-put some-output first-byte other-bytes in-busy out-ready status-bits linked shown given late-of place-after put-byte get-byte counted next-keys begun frame-does line marked sending frame-begins after-ins after-write-length after-read-length after-address after-data after-long-data value-sent after-wait strobed-at cleared fresh after-reset between-frames keyed after-pause stepped hearing is-byte known-effect after-its-wait is-sent known-point is-count known-block known-command known-output known-link known step-coded is-step is-fpdat is-page-size is-page-count settings-refusal step-refusal answer flash-after own-replies left-by move-steps steps-given byte-read bytes-read fresh-replies reads fresh-after keys
 step-corners =
     record {
       reset-drops = refl;
@@ -89,7 +89,7 @@ step-corners =
     }
 
 interface-corners : Interface-corners
-unfolding bits bit odd number drives code sends ins-code frame strobe-step coded-length list-place delay next-place erased stored in-flash opens takes some-output first-byte other-bytes in-busy out-ready status-bits linked shown given late-of place-after put-byte get-byte counted next-keys begun does line marked sending frame-begins after-ins after-write-length after-read-length after-address after-data after-long-data value-sent after-wait strobed-at cleared fresh after-reset between-frames keyed after-pause stepped hearing is-byte known-effect after-its-wait is-sent known-point is-count known-block known-command known-output known-link known step-coded is-step is-fpdat is-page-size is-page-count settings-refusal refusal answer flash-after own-replies left-by move-steps steps byte-read bytes-read replies reads after keys
+unfolding bits bit odd number drives code sends ins-code frame strobe-step coded-length list-place delay next-place erased stored in-flash opens takes-put some-output first-byte other-bytes in-busy out-ready status-bits linked shown given late-of place-after put-byte get-byte counted next-keys begun frame-does line marked sending frame-begins after-ins after-write-length after-read-length after-address after-data after-long-data value-sent after-wait strobed-at cleared fresh after-reset between-frames keyed after-pause stepped hearing is-byte known-effect after-its-wait is-sent known-point is-count known-block known-command known-output known-link known step-coded is-step is-fpdat is-page-size is-page-count settings-refusal step-refusal answer flash-after own-replies left-by move-steps steps-given byte-read bytes-read fresh-replies reads fresh-after keys
 interface-corners =
     record {
       id-read = refl;
@@ -111,7 +111,7 @@ interface-corners =
     }
 
 command-corners : Command-corners
-unfolding bits bit odd number drives code sends ins-code frame strobe-step coded-length list-place delay next-place erased stored in-flash opens takes some-output first-byte other-bytes in-busy out-ready status-bits linked shown given late-of place-after put-byte get-byte counted next-keys begun does line marked sending frame-begins after-ins after-write-length after-read-length after-address after-data after-long-data value-sent after-wait strobed-at cleared fresh after-reset between-frames keyed after-pause stepped hearing is-byte known-effect after-its-wait is-sent known-point is-count known-block known-command known-output known-link known step-coded is-step is-fpdat is-page-size is-page-count settings-refusal refusal answer flash-after own-replies left-by move-steps steps byte-read bytes-read replies reads after keys
+unfolding bits bit odd number drives code sends ins-code frame strobe-step coded-length list-place delay next-place erased stored in-flash opens takes-put some-output first-byte other-bytes in-busy out-ready status-bits linked shown given late-of place-after put-byte get-byte counted next-keys begun frame-does line marked sending frame-begins after-ins after-write-length after-read-length after-address after-data after-long-data value-sent after-wait strobed-at cleared fresh after-reset between-frames keyed after-pause stepped hearing is-byte known-effect after-its-wait is-sent known-point is-count known-block known-command known-output known-link known step-coded is-step is-fpdat is-page-size is-page-count settings-refusal step-refusal answer flash-after own-replies left-by move-steps steps-given byte-read bytes-read fresh-replies reads fresh-after keys
 command-corners =
     record {
       erases = (refl, refl);
@@ -132,7 +132,7 @@ command-corners =
     }
 
 refusal-corners : Refusal-corners
-unfolding bits bit odd number drives code sends ins-code frame strobe-step coded-length list-place delay next-place erased stored in-flash opens takes some-output first-byte other-bytes in-busy out-ready status-bits linked shown given late-of place-after put-byte get-byte counted next-keys begun does line marked sending frame-begins after-ins after-write-length after-read-length after-address after-data after-long-data value-sent after-wait strobed-at cleared fresh after-reset between-frames keyed after-pause stepped hearing is-byte known-effect after-its-wait is-sent known-point is-count known-block known-command known-output known-link known step-coded is-step is-fpdat is-page-size is-page-count settings-refusal refusal answer flash-after own-replies left-by move-steps steps byte-read bytes-read replies reads after keys
+unfolding bits bit odd number drives code sends ins-code frame strobe-step coded-length list-place delay next-place erased stored in-flash opens takes-put some-output first-byte other-bytes in-busy out-ready status-bits linked shown given late-of place-after put-byte get-byte counted next-keys begun frame-does line marked sending frame-begins after-ins after-write-length after-read-length after-address after-data after-long-data value-sent after-wait strobed-at cleared fresh after-reset between-frames keyed after-pause stepped hearing is-byte known-effect after-its-wait is-sent known-point is-count known-block known-command known-output known-link known step-coded is-step is-fpdat is-page-size is-page-count settings-refusal step-refusal answer flash-after own-replies left-by move-steps steps-given byte-read bytes-read fresh-replies reads fresh-after keys
 refusal-corners =
     record {
       refused-step = (refl, refl);

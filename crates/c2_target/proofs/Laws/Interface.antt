@@ -4,7 +4,8 @@ use mathlib.Core.List.{List, [], _∷_}
 use Prim.Native.Nat.{ℕ, zero, suc, _+_, _*_, _<_}
 use native.Mathlib.Omega.{arith}
 use lib.ListN.{getD}
-use Rattle.c2_wire.specs.Bits.{bit, Bytes}
+use Rattle.laws.specs.Bytes.{Bytes}
+use Rattle.c2_wire.specs.Bits.{bit}
 use Rattle.c2_target.specs.declared.Output.{Output}
 use Rattle.c2_target.specs.declared.Link.{Link}
 use Rattle.c2_target.specs.Delays.{list-place, delay}

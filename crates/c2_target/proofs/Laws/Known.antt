@@ -12,7 +12,7 @@ use lib.Dec.{eqb, ltb, leb}
 use lib.ListN.{length, getD, take, drop, set, replicate, length-append, length-replicate, length-drop, length-set}
 use lib.Seq.{length-take-le}
 use Rattle.laws.proofs.Tests.{both, by-test}
-use Rattle.c2_wire.specs.Bits.{Bytes}
+use Rattle.laws.specs.Bytes.{Bytes}
 use Rattle.c2_wire.specs.Step.{Step, released, driven, reset, pause, off}
 use Rattle.c2_wire.proofs.Laws.Bits.{bytes-take, bytes-drop}
 use Rattle.settings.specs.declared.Settings.{Settings}
@@ -29,8 +29,8 @@ use Rattle.c2_target.specs.declared.Link.{Link}
 use Rattle.c2_target.specs.declared.Device.{Device}
 use Rattle.c2_target.specs.declared.Target.{Target}
 use Rattle.c2_target.specs.Delays.{Setup, delay}
-use Rattle.c2_target.specs.Commands.{Taken, erased, stored, in-flash, opens, takes, first-byte, other-bytes}
-use Rattle.c2_target.specs.Interface.{link, device, Served, Acted, in-busy, out-ready, linked, shown, given, put-byte, get-byte, counted, next-keys, begun, does}
+use Rattle.c2_target.specs.Commands.{Put-taken, erased, stored, in-flash, opens, takes-put, first-byte, other-bytes}
+use Rattle.c2_target.specs.Interface.{link, device, Served, Acted, in-busy, out-ready, linked, shown, given, put-byte, get-byte, counted, next-keys, begun, frame-does}
 use Rattle.c2_target.specs.Strobes.{target, Turn, line, strobed-at}
 use Rattle.c2_target.specs.Known.{hearing, is-byte, known-effect, after-its-wait, known-point, is-count, known-block, known-command, known-output, known-link, known}
 use Rattle.c2_target.specs.Target.{cleared, after-reset, after-pause, stepped}
@@ -95,15 +95,15 @@ block-less end a n k e =
     and-true (count-less n (h .0) e) (le-leb (a + 1 + (n - 1)) end (omega (arith, leb-true (a + n) end (h .1), ltb-true 1 n e)))
 
 -- what a byte put leaves exists
-pub record Took (count : ℕ) (f : List ℕ) (x : Taken) : Type 0 where
+pub record Took (count : ℕ) (f : List ℕ) (x : Put-taken) : Type 0 where
   pub size : length (x .flash) ≡ length f
   pub bytes : Bytes (x .flash)
   pub command : known-command count (length f) (x .command) ≡ true
   pub output : known-output (length f) (x .output) ≡ true
 
 takes-known : (s : Settings) (c : Command) (b : ℕ) (f : List ℕ) → b < 256 → Bytes f → length f ≡ s .size * s .count
-    → known-command (s .count) (length f) c ≡ true → Took (s .count) f (takes s c b f)
-unfolding takes opens in-flash known-command known-output known-block is-byte
+    → known-command (s .count) (length f) c ≡ true → Took (s .count) f (takes-put s c b f)
+unfolding takes-put opens in-flash known-command known-output known-block is-byte
 takes-known s Ready b f hb hf ef k =
     by-test (eqb b 0x08) (λ e. rw e (record { size = refl; bytes = hf; command = refl; output = refl }))
     (λ e. rw e (by-test (eqb b 0x07) (λ e. rw e (record { size = refl; bytes = hf; command = refl; output = refl }))
@@ -281,8 +281,8 @@ module _ (u : Setup) (lent : Lent u) where
       (by-test (in-busy l) (λ e. rw e (x .late)) (λ e. rw e (omega (arith, x .late))))
 
   does-known : (e : Effect) (d : Device) (p : ℕ) (f : List ℕ) → known-effect e ≡ true → Bytes f → length f ≡ u .settings .size * count
-      → Device-known count (length f) d → Acts count f (does u e d p f)
-  unfolding does known-effect is-byte
+      → Device-known count (length f) d → Acts count f (frame-does u e d p f)
+  unfolding frame-does known-effect is-byte
   does-known Nothing d p f ke hf ef k = record { size = refl; bytes = hf; device = k }
   does-known (SetAddress a) d p f ke hf ef k =
       record { size = refl; bytes = hf; device = record { address = ke; keys = k .keys; link = k .link } }

@@ -11,7 +11,7 @@ use Rattle.c2_target.specs.declared.Point.the-variants.{Start, Ins, Writ
 use Rattle.c2_target.specs.declared.Target.{Target}
 use Rattle.c2_target.specs.Delays.{Setup}
 use Rattle.c2_target.specs.Strobes.{marked, strobed-at}
-use Rattle.c2_target.specs.Target.{after-reset, after-pause, step-coded, stepped, refusal, answer, flash-after}
+use Rattle.c2_target.specs.Target.{after-reset, after-pause, step-coded, stepped, step-refusal, answer, flash-after}
 use Rattle.c2_target.specs.Steps.{left-by}
 use Rattle.c2_target.specs.Claims.{Mark-stays}
 use Rattle.c2_target.proofs.Laws.KnownPoint.{not-both}
@@ -44,7 +44,7 @@ step-unmarked u t f off h = h
 
 pub answer-unmarked : (u : Setup) (t : Target) (f : List ℕ) (x : ℕ) → answer u t f x .target .collision ≡ false → t .collision ≡ false
 unfolding answer
-answer-unmarked u t f x h = by-test (eqb (refusal u t f x) 0) (λ e. step-unmarked u t f (step-coded x) (rw e at h)) (λ e. rw e at h)
+answer-unmarked u t f x h = by-test (eqb (step-refusal u t f x) 0) (λ e. step-unmarked u t f (step-coded x) (rw e at h)) (λ e. rw e at h)
 
 answer-marked : (u : Setup) (t : Target) (f : List ℕ) (x : ℕ) → t .collision ≡ true → answer u t f x .target .collision ≡ true
 answer-marked u t f x h =

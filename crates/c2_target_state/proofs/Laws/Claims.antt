@@ -3,16 +3,16 @@ use mathlib.Core.Path.{refl, sym, _∙_}
 use lib.Dec.{eqb}
 use Rattle.laws.proofs.Tests.{by-test}
 use Rattle.c2_target.specs.Delays.{setup}
-use Rattle.c2_target.specs.Target.{refusal, answer}
+use Rattle.c2_target.specs.Target.{step-refusal, answer}
 use Rattle.c2_target_state.specs.State.{state-of, target-of}
 use Rattle.c2_target_state.specs.Model.{held-answer, seen-answer, seen-flash}
-use Rattle.c2_target_state.specs.Claims.{Read-back, Has-state, One-state, Steps-alike}
+use Rattle.c2_target_state.specs.Claims.{State-reads, Has-state, One-state, Steps-alike}
 use Rattle.c2_target_state.proofs.Laws.State.{same-itself, held-says}
 use Rattle.c2_target_state.proofs.Laws.State.Fits.{target-back}
 
-pub read-back : Read-back
+pub state-reads : State-reads
 unfolding target-of
-read-back s t f ds r k = rw (target-back s t f ds r k, same-itself (state-of t))
+state-reads s t f ds r k = rw (target-back s t f ds r k, same-itself (state-of t))
 
 pub has-state : Has-state
 has-state t s h = held-says t s h
@@ -23,4 +23,4 @@ one-state t a b p q = sym (held-says t a p) ∙ held-says t b q
 pub steps-alike : Steps-alike
 unfolding seen-answer seen-flash held-answer answer
 steps-alike s t f ds x r k =
-    rw (read-back s t f ds r k) (by-test (eqb (refusal (setup s ds) t f x) 0) (λ e. rw e) (λ e. rw (e, e)), refl)
+    rw (state-reads s t f ds r k) (by-test (eqb (step-refusal (setup s ds) t f x) 0) (λ e. rw e) (λ e. rw (e, e)), refl)

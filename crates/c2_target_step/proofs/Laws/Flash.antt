@@ -18,8 +18,8 @@ use Rattle.c2_target.specs.declared.Point.the-variants.{Start, Ins, WriteLength
 use Rattle.c2_target.specs.declared.Device.{Device}
 use Rattle.c2_target.specs.declared.Target.{Target}
 use Rattle.c2_target.specs.Delays.{Setup}
-use Rattle.c2_target.specs.Commands.{erased, opens, takes}
-use Rattle.c2_target.specs.Interface.{out-ready, linked, put-byte, get-byte, does}
+use Rattle.c2_target.specs.Commands.{erased, opens, takes-put}
+use Rattle.c2_target.specs.Interface.{out-ready, linked, put-byte, get-byte, frame-does}
 use Rattle.c2_target.specs.Strobes.{strobed-at}
 use Rattle.c2_target_step.specs.Code.Parts.{effect-flash, strobe-flash}
 
@@ -30,12 +30,12 @@ opens-keeps b f =
     by-test (eqb b 0x08) (λ e. rw e) (λ e. rw e (by-test (eqb b 0x07) (λ e. rw e) (λ e. rw e (by-test (eqb b 0x06) (λ e. rw e) (λ e. rw e)))))
 
 -- the page of an erase (`page-keeps`) and the length code of a block (`length-keeps`) change no flash
-pub page-keeps : (s : Settings) (b : ℕ) (f : List ℕ) → takes s ErasePage b f .flash ≡ f
-unfolding takes
+pub page-keeps : (s : Settings) (b : ℕ) (f : List ℕ) → takes-put s ErasePage b f .flash ≡ f
+unfolding takes-put
 page-keeps s b f = by-test (ltb b (s .count)) (λ e. rw e) (λ e. rw e)
 
-pub length-keeps : (s : Settings) (w : Bool) (a b : ℕ) (f : List ℕ) → takes s (LengthCode w a) b f .flash ≡ f
-unfolding takes
+pub length-keeps : (s : Settings) (w : Bool) (a b : ℕ) (f : List ℕ) → takes-put s (LengthCode w a) b f .flash ≡ f
+unfolding takes-put
 length-keeps s true a b f = refl
 length-keeps s false a b f = refl
 
@@ -55,8 +55,8 @@ get-keeps : (u : Setup) (d : Device) (p : ℕ) (f : List ℕ) → get-byte u (d 
 unfolding get-byte
 get-keeps u d p f = by-test (out-ready (d .link)) (λ e. rw e) (λ e. rw e)
 
-does-flash : (u : Setup) (e : Effect) (d : Device) (p : ℕ) (f : List ℕ) → does u e d p f .flash ≡ effect-flash (u .settings) e d f
-unfolding does put-byte
+does-flash : (u : Setup) (e : Effect) (d : Device) (p : ℕ) (f : List ℕ) → frame-does u e d p f .flash ≡ effect-flash (u .settings) e d f
+unfolding frame-does put-byte
 does-flash u Nothing d p f = refl
 does-flash u (SetAddress a) d p f = refl
 does-flash u (Write b) d p f = by-test (linked (u .settings) d) (λ e. rw e) (λ e. rw e)

@@ -16,7 +16,7 @@ use Rattle.c2_target.specs.declared.Replied.{Replied}
 use Rattle.c2_target.specs.Delays.{Setup}
 use Rattle.c2_target.specs.Strobes.{line, turn, strobed}
 use Rattle.c2_target.specs.Known.{known}
-use Rattle.c2_target.specs.Target.{after-reset, after-pause, stepped, is-step, step-coded, refusal, answered, flash-left, answer, flash-after}
+use Rattle.c2_target.specs.Target.{after-reset, after-pause, stepped, is-step, step-coded, step-refusal, answered, flash-left, answer, flash-after}
 use Rattle.c2_target_step.specs.Code.StepOn.{known-on, refusal-on, answer-on, flash-on}
 use Rattle.c2_target_step.specs.Code.Parts.{turn-replied, strobe-flash, still}
 use Rattle.c2_target_step.proofs.Laws.Known.{exists-on}
@@ -81,10 +81,10 @@ module _ (u : Setup) (t : Target) (f : List ℕ) (x n m : ℕ) (e : m ≡ n) whe
       by-test (eqb n 0) (λ z. let s = still-is (h (e ∙ eqb-true n 0 z)) in (rw (z, s) (rw z at es), rw (z, s))) (λ z. (rw z (rw z at es), rw z))
 
 -- an accepted step is one of a state that exists, and a step
-pub accepts : (u : Setup) (t : Target) (f : List ℕ) (x n : ℕ) → n ≡ refusal u t f x → n ≡ 0 → (known u t f ≡ true) × (is-step x ≡ true)
-unfolding refusal
+pub accepts : (u : Setup) (t : Target) (f : List ℕ) (x n : ℕ) → n ≡ step-refusal u t f x → n ≡ 0 → (known u t f ≡ true) × (is-step x ≡ true)
+unfolding step-refusal
 accepts u t f x n e h =
-    let w : refusal u t f x ≡ 0 = sym e ∙ h in
+    let w : step-refusal u t f x ≡ 0 = sym e ∙ h in
     by-test (eqb (settings-refusal (u .settings)) 0)
     (λ a. let p = passes (known u t f) (cond (is-step x) 0 no-step) no-point (omega arith) (rw a at w) in
     (p .0, passes (is-step x) 0 no-step (omega arith) (p .1) .0))
@@ -99,5 +99,5 @@ accepts-on u t f x n e h =
 -- from a state that exists, with settings that pass, `answer-on` and `answer` are the same step
 pub same-on : (u : Setup) (t : Target) (f : List ℕ) (x : ℕ) → settings-refusal (u .settings) ≡ 0 → known u t f ≡ true
     → (answer-on u t f x ≡ answer u t f x) × (flash-on u t f x ≡ flash-after u t f x)
-unfolding answer-on answer flash-on flash-after refusal-on refusal
+unfolding answer-on answer flash-on flash-after refusal-on step-refusal
 same-on u t f x s k = rw (s, k, exists-on u t f k) (refl, refl)

@@ -16,7 +16,7 @@ use Rattle.c2_target.specs.declared.Device.{Device}
 use Rattle.c2_target.specs.declared.Target.{Target}
 use Rattle.c2_target.specs.declared.Replied.{Replied}
 use Rattle.c2_target_step.specs.declared.Taking.{Taking}
-use Rattle.c2_target.specs.Commands.{Taken, takes}
+use Rattle.c2_target.specs.Commands.{Put-taken, takes-put}
 use Rattle.c2_target.specs.Interface.{Acted, linked}
 use Rattle.c2_target.specs.Strobes.{target, Turn}
 use Rattle.c2_target.specs.Known.{is-byte, known-link}
@@ -33,21 +33,22 @@ turn-replied r = replying (bit (r .reply)) (r .target)
 -- what a step gives that is no strobe, by the number of its refusal
 abbrev pub still : (number : ℕ) → Target → (step : ℕ) → Replied
 still n t x =
-    cond (eqb n 0) (replying 1 (cond (eqb x 4) (after-reset t) (cond (eqb x 5) (after-pause t) t))) (record { number = n; reply = 1; target = t })
+    cond (eqb n 0) (replying 1 (cond (eqb x 4) (after-reset t) (cond (eqb x 5) (after-pause t) t)))
+    (record { number = n; reply = 1; target = t })
 
 -- the target after a frame's STOP
 abbrev pub stopped : Target → Acted → Target
 stopped t a = target Start (a .place) (t .collision) (a .device)
 
 -- what a byte put makes of the command and of the output
-abbrev pub taking : Taken → Taking
-taking r = record { command = r .command; output = r .output }
+abbrev pub put-taking : Put-taken → Taking
+put-taking r = record { command = r .command; output = r .output }
 
 -- the flash after a frame's STOP, by what the frame does: only a put changes it
 abbrev pub effect-flash : Settings → Effect → Device → List ℕ → List ℕ
 effect-flash s Nothing d f = f
 effect-flash s (SetAddress a) d f = f
-effect-flash s (Write b) d f = cond (linked s d) (takes s (d .link .command) b f .flash) f
+effect-flash s (Write b) d f = cond (linked s d) (takes-put s (d .link .command) b f .flash) f
 effect-flash s CountDown d f = f
 effect-flash s Read d f = f
 

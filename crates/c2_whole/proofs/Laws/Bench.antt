@@ -16,8 +16,8 @@ use Rattle.c2_order.specs.Conversation.{session-limits}
 use Rattle.c2_order.specs.Claims.{Opening, exchange-of}
 use Rattle.c2_target.specs.declared.Target.{Target}
 use Rattle.c2_target.specs.Delays.{Setup}
-use Rattle.c2_target.specs.Target.{answer, flash-after, refusal, stepped, step-coded}
-use Rattle.c2_play.specs.Playing.{Played, play, against, whole-step, answered, Own-replies}
+use Rattle.c2_target.specs.Target.{answer, flash-after, step-refusal, stepped, step-coded}
+use Rattle.c2_play.specs.Playing.{Played, play, against, whole-step, answered-steps, Own-replies}
 use Rattle.c2_target.specs.Steps.{State, left-by}
 use Rattle.c2_play.specs.Programmed.{Met}
 use Rattle.c2_target.proofs.Laws.Mark.{answer-unmarked}
@@ -33,7 +33,7 @@ left-unmarked u (x ∷ xs) t f h = answer-unmarked u t f x (left-unmarked u xs (
 
 off-keeps : (u : Setup) (t : Target) (f : List ℕ) → left-by u t f (6 ∷ []) ≡ record { target = t; flash = f }
 unfolding left-by answer flash-after stepped step-coded
-off-keeps u t f = by-test (eqb (refusal u t f 6) 0) (λ e. rw e) (λ e. rw e)
+off-keeps u t f = by-test (eqb (step-refusal u t f 6) 0) (λ e. rw e) (λ e. rw e)
 
 -- a target after one step more of an exchange that, played on, ends unmarked, is unmarked
 one-more : (u : Setup) (z : Exchange) (t : Target) (f : List ℕ) → play u z t f .target .collision ≡ false → left-by u t f (asks z ∷ []) .target .collision ≡ false
@@ -51,14 +51,14 @@ module _ (u : Setup) (first : ℕ) (image : List ℕ) (y : Target) (f rs : List 
   all = asks e ∷ steps e rs
 
   abbrev there : State
-  there = left-by u y f (answered e rs)
+  there = left-by u y f (answered-steps e rs)
 
   clean : play u (fed e rs) (there .target) (there .flash) .target .collision ≡ false
   clean = ap (λ (p : Played). p .target .collision) (own-play u e y f rs own) ∙ programmed session-limits u first image y f o m .clean
 
   all-unmarked : left-by u y f all .target .collision ≡ false
   all-unmarked =
-      rw (all-steps e rs, left-append u (answered e rs) (asks (fed e rs) ∷ []) y f) (one-more u (fed e rs) (there .target) (there .flash) clean)
+      rw (all-steps e rs, left-append u (answered-steps e rs) (asks (fed e rs) ∷ []) y f) (one-more u (fed e rs) (there .target) (there .flash) clean)
 
   unmarked : (n : ℕ) → left-by u y f (take n all) .target .collision ≡ false
   unmarked n =
@@ -79,7 +79,7 @@ module _ (u : Setup) (first : ℕ) (image : List ℕ) (y : Target) (f rs : List 
       }
 
   pub last-keeps : (q : Outcome) → fed e rs ≡ ended q → (n : ℕ) → taken e rs ≤ n → left-by u y f (take n all) ≡ left-by u y f (take (taken e rs) all)
-  unfolding taken answered
+  unfolding taken answered-steps
   last-keeps q h n l = go (decLt (taken e rs) n)
     where
       go : Dec (taken e rs < n) → left-by u y f (take n all) ≡ left-by u y f (take (taken e rs) all)

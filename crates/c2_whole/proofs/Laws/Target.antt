@@ -16,7 +16,7 @@ use Rattle.c2_order.specs.Conversation.{session-limits}
 use Rattle.c2_target.specs.declared.Target.{Target}
 use Rattle.c2_target.specs.Delays.{setup}
 use Rattle.c2_target.specs.Known.{known}
-use Rattle.c2_target.specs.Target.{is-step, refusal, answer}
+use Rattle.c2_target.specs.Target.{is-step, step-refusal, answer}
 use Rattle.c2_target_state.specs.declared.State.{State}
 use Rattle.c2_target_state.specs.declared.ModelReplied.{ModelReplied}
 use Rattle.c2_target_state.specs.declared.Seen.{Seen}
@@ -28,11 +28,11 @@ use Rattle.c2_play.specs.Programmed.{Met}
 use Rattle.c2_target.proofs.Laws.Known.{Lent}
 use Rattle.c2_play.proofs.Laws.LeftBy.{Lasts, answer-lasts}
 use Rattle.c2_target.specs.Steps.{own-replies, left-by}
-use Rattle.c2_whole.specs.Whole.{Bench, reply, stepped, replies, given, Ready}
+use Rattle.c2_whole.specs.Whole.{Bench, reply, bench-step, replies, bench-after, Ready}
 
 -- a step that is not refused is one of a target that exists
-accepts-known : (t : Settings) (y : Target) (f ds : List ℕ) → refusal (setup t ds) y f (code off) ≡ 0 → known (setup t ds) y f ≡ true
-unfolding refusal
+accepts-known : (t : Settings) (y : Target) (f ds : List ℕ) → step-refusal (setup t ds) y f (code off) ≡ 0 → known (setup t ds) y f ≡ true
+unfolding step-refusal
 accepts-known t y f ds e =
     by-test (eqb (settings-refusal t) 0)
     (λ p. passes (known (setup t ds) y f) _ no-point (omega arith) (rw p at e) .0)
@@ -61,8 +61,8 @@ stands t b r = go (target-of (b .target)) refl (r .steps)
     go : (x : Seen) → target-of (b .target) ≡ x → seen-answer t x (b .target) (b .flash) (b .delays) (code off) .number ≡ 0 → Stands t b
     go (Held y) h e =
         let same : b .target ≡ state-of y = sym (has-state y (b .target) h) in
-        let ok : refusal (setup t (b .delays)) y (b .flash) (code off) ≡ 0 =
-        by-test (eqb (refusal (setup t (b .delays)) y (b .flash) (code off)) 0) (λ p. eqb-true _ 0 p) (λ p. absurd (eqb-false _ 0 p (rw (p, p) at e))) in
+        let ok : step-refusal (setup t (b .delays)) y (b .flash) (code off) ≡ 0 =
+        by-test (eqb (step-refusal (setup t (b .delays)) y (b .flash) (code off)) 0) (λ p. eqb-true _ 0 p) (λ p. absurd (eqb-false _ 0 p (rw (p, p) at e))) in
         record {
           target = y;
           state = same;
@@ -85,7 +85,7 @@ bench ds y f = record { target = state-of y; flash = f; delays = ds }
 
 -- a target that a session may meet is ready, by its state
 pub ready : (t : Settings) (ds f : List ℕ) (y : Target) → settings-refusal t ≡ 0 → Met session-limits (setup t ds) y f → Ready t (bench ds y f)
-unfolding answer refusal is-step code bit state-of
+unfolding answer step-refusal is-step code bit state-of
 ready t ds f y ok m =
     let a = steps-alike t y f ds (code off) ok (m .state) .0 in
     let z : bit (y .collision) ≡ 0 = rw (m .unmarked) in
@@ -103,12 +103,12 @@ module _ (t : Settings) (ds : List ℕ) (ok : settings-refusal t ≡ 0) (lent : 
   replies-alike [] y f k = refl
   replies-alike (x ∷ xs) y f k =
       let a = steps-alike t y f ds x ok (k .exists) in
-      ap (λ (n : ℕ). n ∷ replies t (stepped t (bench ds y f) x) xs) (ap (λ (z : ModelReplied). z .reply) (a .0))
+      ap (λ (n : ℕ). n ∷ replies t (bench-step t (bench ds y f) x) xs) (ap (λ (z : ModelReplied). z .reply) (a .0))
       ∙ rw (a .0, a .1) (ap (λ (rs : List ℕ). answer (setup t ds) y f x .reply ∷ rs) (replies-alike xs _ _ (answer-lasts (setup t ds) lent y f x k)))
 
   pub given-alike : (xs : List ℕ) (y : Target) (f : List ℕ) → Lasts (setup t ds) y f
-      → given t (bench ds y f) xs ≡ bench ds (left-by (setup t ds) y f xs .target) (left-by (setup t ds) y f xs .flash)
-  unfolding given left-by
+      → bench-after t (bench ds y f) xs ≡ bench ds (left-by (setup t ds) y f xs .target) (left-by (setup t ds) y f xs .flash)
+  unfolding bench-after left-by
   given-alike [] y f k = refl
   given-alike (x ∷ xs) y f k =
       let a = steps-alike t y f ds x ok (k .exists) in

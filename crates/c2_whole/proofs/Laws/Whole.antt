@@ -8,7 +8,7 @@ use borrow.Author.Tests.{eq-eqb, eqb-true}
 use lib.Dec.{eqb}
 use lib.ListN.{length, take, drop, replicate, length-replicate}
 use Rattle.laws.proofs.Tests.{passes}
-use Rattle.exchange.specs.Calls.{done, heard, told, in-a-row, May-follow}
+use Rattle.exchange.specs.Calls.{call-done, call-heard, told, in-a-row, May-follow}
 use Rattle.numbers.specs.Numbers.{running, bad-record}
 use Rattle.numbers.specs.Numbers
 use Rattle.c2_wire.specs.Exchange.{Exchange, ended, ask, at, Outcome, outcome, asks, steps, taken, fed, outcome-of}
@@ -30,7 +30,7 @@ use Rattle.c2_target.specs.Target.{fresh}
 use Rattle.c2_target.specs.Steps.{own-replies, left-by}
 use Rattle.c2_target.specs.Steps
 use Rattle.c2_target.proofs.Laws.Known.{Lent, known-says}
-use Rattle.c2_play.specs.Playing.{Own-replies, answered, played-after, run-replies, whole-step}
+use Rattle.c2_play.specs.Playing.{Own-replies, answered-steps, played-after, run-replies, whole-step}
 use Rattle.c2_play.specs.Programmed.{Met, Programmed, laid-over}
 use Rattle.c2_play.specs.Pages.{with-pages, Named, Meets}
 use Rattle.c2_play.proofs.Laws.LeftBy.{Lasts, own-replies-program}
@@ -47,7 +47,7 @@ use Rattle.c2_calls.specs.Family.{C2, Told, replies-of, by-replies}
 use Rattle.c2_calls.proofs.Laws.Claims.{refused-keeps}
 use Rattle.c2_calls.proofs.Laws.Family.{c2-lists, accepts}
 use Rattle.c2_calls.proofs.Laws.Family as Lists
-use Rattle.c2_whole.specs.Whole.{Job, first-of, opens, Begins, job-pages, programmed, anew, Bench, replies, given, Ready, sent, Own, Whole, Calls-program, Calls-alike, Like-one-call, Calls-exist, Fresh-ready}
+use Rattle.c2_whole.specs.Whole.{Job, first-of, opening-call, Begins, job-pages, programmed, anew, Bench, replies, bench-after, Ready, steps-sent, Own, Whole, Calls-program, Calls-alike, Like-one-call, Calls-exist, Fresh-ready}
 use Rattle.c2_whole.proofs.Laws.Target.{stands, bench, ready, replies-alike, given-alike}
 use Rattle.c2_whole.proofs.Laws.Bench.{met-along, last-keeps}
 
@@ -63,13 +63,13 @@ module _ (j : Job) (held : List ℕ) (g : Begins held j) where
   opening-of = record { id = g .id; fpdat = g .fpdat; bytes = g .bytes; accepted = halves .1 }
 
   -- the opening tells what no replies do
-  starts : (before : Told) → heard C2 before (opens held j) ≡ by-replies (j .settings) first (j .image) []
-  unfolding heard done
-  starts before = rw (eq-eqb (refusal (opens held j)) 0 (g .accepted)) (Lists.opens (j .settings) first (j .image) opening-of before held)
+  starts : (before : Told) → call-heard C2 before (opening-call held j) ≡ by-replies (j .settings) first (j .image) []
+  unfolding call-heard call-done
+  starts before = rw (eq-eqb (refusal (opening-call held j)) 0 (g .accepted)) (Lists.opens (j .settings) first (j .image) opening-of before held)
 
   -- a list of calls tells what its replies in a row come to
-  told-are : (before : Told) (calls : List Call) → May-follow C2 (j .image) (heard C2 before (opens held j)) calls
-      → told C2 before (opens held j ∷ calls) ≡ by-replies (j .settings) first (j .image) (in-a-row C2 calls)
+  told-are : (before : Told) (calls : List Call) → May-follow C2 (j .image) (call-heard C2 before (opening-call held j)) calls
+      → told C2 before (opening-call held j ∷ calls) ≡ by-replies (j .settings) first (j .image) (in-a-row C2 calls)
   unfolding told
   told-are before calls m =
       ap (λ (x : Told). told C2 x calls) (starts before) ∙ c2-lists (j .settings) first (j .image) opening-of calls (rw (starts before) at m)
@@ -87,7 +87,7 @@ module _ (j : Job) (held : List ℕ) (g : Begins held j) where
   -- one call after the opening that takes these replies: it is accepted, its replies in a row are these, and it
   -- may follow
   abbrev one : (before : Told) → (rs buffer : List ℕ) → Call
-  one before rs buffer = taking (heard C2 before (opens held j) .held) (j .image) rs buffer 0
+  one before rs buffer = taking (call-heard C2 before (opening-call held j) .held) (j .image) rs buffer 0
 
   one-accepted : (before : Told) (rs buffer : List ℕ) → length rs ≤ length buffer → refusal (one before rs buffer) ≡ 0
   unfolding by-replies
@@ -97,7 +97,7 @@ module _ (j : Job) (held : List ℕ) (g : Begins held j) where
   unfolding in-a-row replies-of
   one-row before rs buffer h = rw (eq-eqb (refusal (one before rs buffer)) 0 (one-accepted before rs buffer h)) (append-nil rs)
 
-  one-follows : (before : Told) (rs buffer : List ℕ) → May-follow C2 (j .image) (heard C2 before (opens held j)) (one before rs buffer ∷ [])
+  one-follows : (before : Told) (rs buffer : List ℕ) → May-follow C2 (j .image) (call-heard C2 before (opening-call held j)) (one before rs buffer ∷ [])
   one-follows before rs buffer = ((λ _. (refl, refl)), tt)
 
 -- what holds of a list of rising pages
@@ -165,16 +165,16 @@ module _ (j : Job) (held : List ℕ) (g : Begins held j) (rs : List ℕ) (b : Be
   here i = record { target = stands (j .settings) b r .state i; flash = b .flash; delays = b .delays }
 
   -- the target after steps, and its replies, by the definitions of the session's side
-  at-steps : (xs : List ℕ) → given (j .settings) b xs ≡ bench (b .delays) (left-by u y (b .flash) xs .target) (left-by u y (b .flash) xs .flash)
-  at-steps xs = ap (λ (z : Bench). given (j .settings) z xs) here ∙ given-alike (j .settings) (b .delays) ok lent xs y (b .flash) lasts
+  at-steps : (xs : List ℕ) → bench-after (j .settings) b xs ≡ bench (b .delays) (left-by u y (b .flash) xs .target) (left-by u y (b .flash) xs .flash)
+  at-steps xs = ap (λ (z : Bench). bench-after (j .settings) z xs) here ∙ given-alike (j .settings) (b .delays) ok lent xs y (b .flash) lasts
 
-  sent-is : sent (by-replies (j .settings) (first-of (j .pages)) (j .image) rs) ≡ asks e ∷ steps e rs
+  sent-is : steps-sent (by-replies (j .settings) (first-of (j .pages)) (j .image) rs) ≡ asks e ∷ steps e rs
   unfolding by-replies
   sent-is = refl
 
-  replies-there : replies (j .settings) b (take (taken e rs) (sent (by-replies (j .settings) (first-of (j .pages)) (j .image) rs)))
-      ≡ own-replies u y (b .flash) (answered e rs)
-  unfolding answered
+  replies-there : replies (j .settings) b (take (taken e rs) (steps-sent (by-replies (j .settings) (first-of (j .pages)) (j .image) rs)))
+      ≡ own-replies u y (b .flash) (answered-steps e rs)
+  unfolding answered-steps
   replies-there =
       ap (λ (l : List ℕ). replies (j .settings) b (take (taken e rs) l)) sent-is
       ∙ ap (λ (z : Bench). replies (j .settings) z (take (taken e rs) (asks e ∷ steps e rs))) here
@@ -210,22 +210,22 @@ module _ (j : Job) (held : List ℕ) (g : Begins held j) (rs : List ℕ) (b : Be
 
     -- the flash after n of the steps
     abbrev F : ℕ → List ℕ
-    F n = given (j .settings) b (take n (sent (by-replies (j .settings) (first-of (j .pages)) (j .image) rs))) .flash
+    F n = bench-after (j .settings) b (take n (steps-sent (by-replies (j .settings) (first-of (j .pages)) (j .image) rs))) .flash
 
     flash-there : (n : ℕ) → F n ≡ left-by u y (b .flash) (take n (asks e ∷ steps e rs)) .flash
     flash-there n =
-        ap (λ (l : List ℕ). given (j .settings) b (take n l) .flash) sent-is
+        ap (λ (l : List ℕ). bench-after (j .settings) b (take n l) .flash) sent-is
         ∙ ap (λ (z : Bench). z .flash) (at-steps (take n (asks e ∷ steps e rs)))
 
     pub holds : x .outcome ≡ outcome Numbers.done → (n : ℕ) → x .taken ≤ n → F n ≡ programmed j (b .flash)
-    unfolding by-replies answered
+    unfolding by-replies answered-steps
     holds d n l =
         let z : x .outcome .number ≡ running → ⊥ = λ q. let w : Numbers.done ≡ running = sym (ap (λ (o : Outcome). o .number) d) ∙ q in omega arith in
         let q = over (fed e rs) z in
         let k = last-keeps u (first-of (j .pages)) (j .image) y (b .flash) rs (opening-of j held g) m own-is-own (q .0) (q .1) n l in
         flash-there n ∙ ap (λ (s : Steps.State). s .flash) k ∙ at-end (q .0) (q .1) .holds ∙ laid-is j held g (b .flash) sized
 
-    pub stays-ready : (n : ℕ) → Ready (j .settings) (given (j .settings) b (take n (sent (by-replies (j .settings) (first-of (j .pages)) (j .image) rs))))
+    pub stays-ready : (n : ℕ) → Ready (j .settings) (bench-after (j .settings) b (take n (steps-sent (by-replies (j .settings) (first-of (j .pages)) (j .image) rs))))
     stays-ready n =
         rw (sent-is, at-steps (take n (asks e ∷ steps e rs)))
         (ready (j .settings) (b .delays) _ _ ok (met-along u (first-of (j .pages)) (j .image) y (b .flash) rs (opening-of j held g) m own-is-own n))

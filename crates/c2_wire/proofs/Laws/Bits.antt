@@ -7,7 +7,8 @@ use native.Mathlib.Omega.{arith}
 use native.Mathlib.Nat.{pow-suc, pow-succ', div-one, div-div-eq-div-mul, not-suc-le-zero, pow-le-pow-right}
 use lib.Dec.{eqb}
 use lib.ListN.{length, getD, take, drop}
-use Rattle.c2_wire.specs.Bits.{odd, bits, bit, number, Bytes}
+use Rattle.laws.specs.Bytes.{Bytes}
+use Rattle.c2_wire.specs.Bits.{odd, bits, bit, number}
 
 pub bit-odd : (a : ℕ) → bit (odd a) ≡ a % 2
 unfolding bit odd

@@ -9,7 +9,7 @@ use lib.ListN.{length, length-append}
 use Rattle.c2_wire.specs.Bits.{bit}
 use Rattle.c2_wire.specs.Step.{Step, drives}
 use Rattle.c2_wire.specs.Field.{Field, master}
-use Rattle.c2_wire.specs.Exchange.{Exchange, ended, strobe, Outcome, read, byte, after, fed, asks, steps, taken, own}
+use Rattle.c2_wire.specs.Exchange.{Exchange, ended, strobe, Outcome, read, said-byte, after, fed, asks, steps, taken, own}
 use Rattle.exchange.specs.Exchange.{brought}
 use Rattle.exchange.proofs.Laws.Exchange.{brought-append}
 
@@ -41,7 +41,7 @@ map-append f (x ∷ xs) ys = ap (λ (l : _). f x ∷ l) (map-append f xs ys)
 
 pub steps-append : (e : Exchange) (rs qs : List ℕ) → steps e (rs ++ qs) ≡ steps e rs ++ steps (fed e rs) qs
 unfolding steps fed
-steps-append e rs qs = ap (λ (l : _). map byte l) (brought-append read e rs qs) ∙ map-append byte (brought read e rs) (brought read (fed e rs) qs)
+steps-append e rs qs = ap (λ (l : _). map said-byte l) (brought-append read e rs qs) ∙ map-append said-byte (brought read e rs) (brought read (fed e rs) qs)
 
 pub taken-append : (e : Exchange) (rs qs : List ℕ) → taken e (rs ++ qs) ≡ taken e rs + taken (fed e rs) qs
 unfolding taken

@@ -10,7 +10,7 @@ use lib.Dec.{eqb}
 use lib.ListN.{length, drop, getD}
 use Rattle.laws.proofs.Tests.{by-test}
 use Rattle.dump_ranges.specs.Ranges.{Range, range, grown, ranges-from, ranges}
-use Rattle.dump_ranges.specs.Claims.{Rising, Each, In-range, Covered, Longest, moved, Ends-by, Goes-on, Pieces-go-on, Pieces-reach}
+use Rattle.dump_ranges.specs.Claims.{Rising, Each, In-range, Covered, Longest, moved, Ends-by, Rest-goes-on, Pieces-go-on, Pieces-reach}
 use Rattle.dump_ranges.proofs.Laws.Ranges.{left, rises, step-equal, step-differs, past-equal, rising-from, stands-alone}
 use Rattle.dump_ranges.proofs.Laws.First.{start-of}
 use Rattle.dump_ranges.proofs.Laws.Claims.{ranges-cover, ranges-longest}
@@ -133,7 +133,7 @@ moved-left a b place =
     sym (ranges-moved place 0 (drop place a) (drop place b)) ∙ ap (λ (n : ℕ). ranges-from n (drop place a) (drop place b)) start
 
 piece : (a b : List ℕ) (place : ℕ) (r : Range) (qs : List Range) → Split a b place (r .start + r .length)
-    → left a b (r .start + r .length) ≡ qs → Rising (suc (r .start + r .length)) qs → Goes-on a b place r qs
+    → left a b (r .start + r .length) ≡ qs → Rising (suc (r .start + r .length)) qs → Rest-goes-on a b place r qs
 piece a b place r qs v u s = record {
   again = v .before;
   all = moved-left a b place ∙ v .whole ∙ ap (λ (t : List Range). v .before ++ t) u;

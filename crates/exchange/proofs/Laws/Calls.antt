@@ -6,17 +6,17 @@ use Prim.Native.Nat.{ℕ}
 use lib.Dec.{eqb}
 use borrow.Author.Tests.{eqb-true, ne-eqb}
 use Rattle.laws.proofs.Tests.{by-test}
-use Rattle.exchange.specs.Calls.{Family, done, heard, told, in-a-row, May-follow, Goes-on, Refused-unchanged, Lists-are-replies, Lists-alike}
+use Rattle.exchange.specs.Calls.{Family, call-done, call-heard, told, in-a-row, May-follow, Goes-on, Refused-unchanged, Lists-are-replies, Lists-alike}
 
 module _ (F : Family) where
   pub refused-unchanged : Refused-unchanged F
-  unfolding done
+  unfolding call-done
   refused-unchanged c n = rw (ne-eqb (F .refusal c) 0 n)
 
   module _ (l : F .Lent) (by : List (F .Reply) → F .Told) (g : Goes-on F l by) where
     one : (c : F .Call) (qs : List (F .Reply)) → (F .refusal c ≡ 0 → F .As-left l (by qs) c)
-        → heard F (by qs) c ≡ by (qs ++ cond (eqb (F .refusal c) 0) (F .replies c) [])
-    unfolding heard done
+        → call-heard F (by qs) c ≡ by (qs ++ cond (eqb (F .refusal c) 0) (F .replies c) [])
+    unfolding call-heard call-done
     one c qs m =
         by-test (eqb (F .refusal c) 0)
         (λ e. rw e (g qs c (eqb-true (F .refusal c) 0 e) (m (eqb-true (F .refusal c) 0 e))))

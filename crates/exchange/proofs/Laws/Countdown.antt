@@ -10,7 +10,7 @@ use lib.Seq.{take-append-seam, drop-append-seam, length-take-le}
 use Rattle.laws.proofs.Tests.{passes}
 use Rattle.exchange.specs.Exchange.{Exchange, after, brought}
 use Rattle.exchange.specs.Machine.{Sound, Replies-follow, fed}
-use Rattle.exchange.specs.Countdown.{counter, read, byte, countdown, unpacked, steps, face, Room}
+use Rattle.exchange.specs.Countdown.{counter, read, said-byte, countdown, unpacked, steps, face, Room}
 use Rattle.exchange.specs.Calls.{Lists-are-replies}
 use Rattle.exchange.specs.Served.{family, Adds-up, by-replies}
 use Rattle.exchange.proofs.Laws.Exchange.{brought-append}
@@ -51,7 +51,7 @@ same-fed e (r ∷ rs) = same-fed (after read e r) rs
 steps-append : (e : Exchange ℕ ℕ ℕ) (qs rs : List ℕ) → steps e (qs ++ rs) ≡ steps e qs ++ steps (fed counter e qs) rs
 unfolding steps
 steps-append e qs rs =
-    rw (same-fed e qs) (ap (λ (l : _). map byte l) (brought-append read e qs rs) ∙ map-append byte (brought read e qs) (brought read (Shared.fed read e qs) rs))
+    rw (same-fed e qs) (ap (λ (l : _). map said-byte l) (brought-append read e qs rs) ∙ map-append said-byte (brought read e qs) (brought read (Shared.fed read e qs) rs))
 
 adds-up : Adds-up counter face
 adds-up e s l qs rs m ok =

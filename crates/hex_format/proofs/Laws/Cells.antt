@@ -11,8 +11,8 @@ use lib.Dec.{eqb}
 use lib.ListN.{length, getD, take, drop, set, replicate, length-set, length-drop, length-take}
 use lib.Seq.{sets, getD-set-same, getD-set-other, getD-take, getD-drop, length-take-le}
 use Rattle.laws.proofs.Tests.{both, by-test}
-use Rattle.hex_format.specs.Digits.{Bytes}
-use Rattle.hex_format.specs.Reading.{unset, all-unset, first-set, past-set, byte, bytes}
+use Rattle.laws.specs.Bytes.{Bytes}
+use Rattle.hex_format.specs.Reading.{unset, all-unset, first-set, past-set, cell-byte, bytes}
 
 -- the cell of an address; past the flash nothing is set
 abbrev pub cell : List ℕ → ℕ → ℕ
@@ -221,14 +221,14 @@ unfolding bytes
 bytes-length [] = refl
 bytes-length (a ∷ s) = ap suc (bytes-length s)
 
-pub bytes-at : (s : List ℕ) (i : ℕ) → i < length s → getD (bytes s) i 0xff ≡ byte (cell s i)
+pub bytes-at : (s : List ℕ) (i : ℕ) → i < length s → getD (bytes s) i 0xff ≡ cell-byte (cell s i)
 unfolding bytes
 bytes-at [] i h = absurd (omega arith)
 bytes-at (a ∷ s) zero h = refl
 bytes-at (a ∷ s) (suc i) h = bytes-at s i (omega arith)
 
-pub byte-is : (b : ℕ) → b < 256 → byte b ≡ b
-unfolding byte
+pub byte-is : (b : ℕ) → b < 256 → cell-byte b ≡ b
+unfolding cell-byte
 byte-is b h = rw (lt-ltb b 256 h)
 
 pub bytes-are : (s : List ℕ) → Bytes s → bytes s ≡ s
@@ -241,8 +241,8 @@ module _ (cells : List ℕ) (start n : ℕ) (fits : start + n ≤ length cells) 
   pub window-long : length (bytes (take n (drop start cells))) ≡ n
   window-long = bytes-length (take n (drop start cells)) ∙ length-take-le n (drop start cells) (rw (length-drop start cells) (omega arith))
 
-  pub window-at : (i : ℕ) → i < n → getD (bytes (take n (drop start cells))) i 0xff ≡ byte (cell cells (start + i))
+  pub window-at : (i : ℕ) → i < n → getD (bytes (take n (drop start cells))) i 0xff ≡ cell-byte (cell cells (start + i))
   window-at i h =
       let l = length-take-le n (drop start cells) (rw (length-drop start cells) (omega arith)) in
       bytes-at (take n (drop start cells)) i (omega arith)
-      ∙ ap byte (getD-take n (drop start cells) i unset h ∙ getD-drop start cells i unset)
+      ∙ ap cell-byte (getD-take n (drop start cells) i unset h ∙ getD-drop start cells i unset)

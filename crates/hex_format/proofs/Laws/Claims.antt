@@ -16,8 +16,8 @@ use Rattle.laws.proofs.Tests.{by-test}
 use Rattle.settings.specs.declared.Settings.{Settings}
 use Rattle.settings.specs.Accepted.{settings-refusal}
 use Rattle.settings.proofs.Laws.Accepted.{facts}
-use Rattle.hex_format.specs.Reading.{lines, unset, all-unset, first-set, past-set, byte, bytes, Taken, took, taken, Walked, ended-with, walked, Answer, refused, copied, cut-out, answered, hex-read}
-use Rattle.hex_format.specs.Claims.{Read-back, Set, Shows, Accepted-shows, Fault, First-fault, No-fault}
+use Rattle.hex_format.specs.Reading.{lines, unset, all-unset, first-set, past-set, cell-byte, bytes, Line-taken, took, line-taken, Lines-taken, ended-with, lines-taken, Answer, refused, copied, cut-out, read-answer, hex-read}
+use Rattle.hex_format.specs.Claims.{Written-reads, Set, Shows, Accepted-shows, Fault, First-fault, No-fault}
 use Rattle.hex_format.proofs.Laws.Cells.{cell, first-there, past-there, past-within, set-from, set-below, byte-is, window-long, window-at}
 use Rattle.hex_format.proofs.Laws.Steps.{step-on, step-stop, walk-accepts, walk-rest, walk-zero, no-line}
 use Rattle.hex_format.proofs.Laws.Histories.{Among, History, history-none, history-more}
@@ -25,11 +25,11 @@ use Rattle.hex_format.proofs.Laws.Faults as Faults
 use Rattle.hex_format.proofs.Laws.Pages.{page-start, page-end, page-within, page-run}
 use Rattle.hex_format.proofs.Laws.ReadBack.{read-back}
 
-pub read-back-holds : Read-back
-read-back-holds s first space room image all e big = read-back s first space room image all e big
+pub written-reads : Written-reads
+written-reads s first space room image all e big = read-back s first space room image all e big
 
 -- taken, as a record of its parts
-pub parts : (t : Taken) → t .number ≡ 0 → t ≡ took 0 (t .ended) (t .cells)
+pub parts : (t : Line-taken) → t .number ≡ 0 → t ≡ took 0 (t .ended) (t .cells)
 parts t z = ap (λ n. took n (t .ended) (t .cells)) z
 
 -- the history of an accepted file
@@ -38,20 +38,20 @@ pub record Whole (flash : ℕ) (ls : List (List ℕ)) (final : List ℕ) : Type 
   pub history : History flash ls ended final
 
 whole : (flash n : ℕ) (before ls : List (List ℕ)) (ended : Bool) (cells final : List ℕ) → History flash before ended cells
-    → walked n ended cells ls ≡ ended-with 0 0 final → Whole flash (before ++ ls) final
-unfolding walked
+    → lines-taken n ended cells ls ≡ ended-with 0 0 final → Whole flash (before ++ ls) final
+unfolding lines-taken
 whole flash n before [] ended cells final h e =
-    let q : cells ≡ final = ap (λ (w : Walked). w .cells) e in
+    let q : cells ≡ final = ap (λ (w : Lines-taken). w .cells) e in
     rw (append-nil before) (record { ended = ended; history = rw q at h })
 whole flash n before (l ∷ ls) ended cells final h e =
     let z = walk-accepts n ended cells l ls final e in
-    let t = taken ended cells l in
+    let t = line-taken ended cells l in
     let r = walk-rest n ended cells l ls final e (t .ended) (t .cells) (parts t z) in
     let w = whole flash (n + 1) (before ++ (l ∷ [])) ls (t .ended) (t .cells) final (history-more flash before ended cells l h z) r in
     rw (append-assoc before (l ∷ []) ls) at w
 
 -- the first faulty line of a walk, with the lines that have been
-pub record Judges (flash : ℕ) (all : List (List ℕ)) (w : Walked) : Type 0 where
+pub record Judges (flash : ℕ) (all : List (List ℕ)) (w : Lines-taken) : Type 0 where
   pub at : (i : ℕ) → w .line ≡ suc i → i < length all
   pub fault : (i : ℕ) → w .line ≡ suc i → Fault flash (take i all) (getD all i []) (w .number)
   pub lowest : (i : ℕ) → w .line ≡ suc i → (m : ℕ) → Fault flash (take i all) (getD all i []) m → w .number ≤ m
@@ -60,8 +60,8 @@ pub record Judges (flash : ℕ) (all : List (List ℕ)) (w : Walked) : Type 0 wh
 
 judges : (flash n : ℕ) (all before ls : List (List ℕ)) (ended : Bool) (cells : List ℕ) → all ≡ before ++ ls → n ≡ length before
     → History flash before ended cells → ((j m : ℕ) → j < length before → Fault flash (take j all) (getD all j []) m → ⊥)
-    → Judges flash all (walked n ended cells ls)
-unfolding walked
+    → Judges flash all (lines-taken n ended cells ls)
+unfolding lines-taken
 judges flash n all before [] ended cells e c h f =
     let q : length all ≡ length before = ap length (e ∙ append-nil before) in
     record {
@@ -72,11 +72,11 @@ judges flash n all before [] ended cells e c h f =
       none = λ z j m g. f j m (omega arith);
     }
 judges flash n all before (l ∷ ls) ended cells e c h f =
-    by-test (eqb (taken ended cells l .number) 0)
-    (λ p. goes (eqb-true (taken ended cells l .number) 0 p)
-    (λ z. judges flash (n + 1) all (before ++ (l ∷ [])) ls (taken ended cells l .ended) (taken ended cells l .cells)
+    by-test (eqb (line-taken ended cells l .number) 0)
+    (λ p. goes (eqb-true (line-taken ended cells l .number) 0 p)
+    (λ z. judges flash (n + 1) all (before ++ (l ∷ [])) ls (line-taken ended cells l .ended) (line-taken ended cells l .cells)
     (e ∙ sym (append-assoc before (l ∷ []) ls)) (longer c) (history-more flash before ended cells l h z) (more z)))
-    (λ p. stops (λ z. let y : _≡_ {A = Bool} true false = sym (eq-eqb (taken ended cells l .number) 0 z) ∙ p in let x : _≡_ {A = ℕ} 0 1 = cc in omega arith))
+    (λ p. stops (λ z. let y : _≡_ {A = Bool} true false = sym (eq-eqb (line-taken ended cells l .number) 0 z) ∙ p in let x : _≡_ {A = ℕ} 0 1 = cc in omega arith))
   where
     here : take (length before) all ≡ before
     here = ap (take (length before)) e ∙ take-at before (l ∷ ls) (length before) refl
@@ -87,7 +87,7 @@ judges flash n all before (l ∷ ls) ended cells e c h f =
     longer : n ≡ length before → n + 1 ≡ length (before ++ (l ∷ []))
     longer c = rw (length-append before (l ∷ [])) (omega arith)
 
-    more : taken ended cells l .number ≡ 0 → (j m : ℕ) → j < length (before ++ (l ∷ [])) → Fault flash (take j all) (getD all j []) m → ⊥
+    more : line-taken ended cells l .number ≡ 0 → (j m : ℕ) → j < length (before ++ (l ∷ [])) → Fault flash (take j all) (getD all j []) m → ⊥
     more z j m g = go (decLt j (length before))
       where
         go : Dec (j < length before) → Fault flash (take j all) (getD all j []) m → ⊥
@@ -97,14 +97,14 @@ judges flash n all before (l ∷ ls) ended cells e c h f =
             let q : j ≡ length before = omega arith in
             rw (q, here, this) (Faults.no-fault flash before ended cells l h z m)
 
-    goes : taken ended cells l .number ≡ 0 → (taken ended cells l .number ≡ 0 → Judges flash all (walked (n + 1) (taken ended cells l .ended) (taken ended cells l .cells) ls))
-        → Judges flash all (walked n ended cells (l ∷ ls))
+    goes : line-taken ended cells l .number ≡ 0 → (line-taken ended cells l .number ≡ 0 → Judges flash all (lines-taken (n + 1) (line-taken ended cells l .ended) (line-taken ended cells l .cells) ls))
+        → Judges flash all (lines-taken n ended cells (l ∷ ls))
     goes z k =
-        rw (step-on n ended (taken ended cells l .ended) cells (taken ended cells l .cells) l ls (parts (taken ended cells l) z)) (k z)
+        rw (step-on n ended (line-taken ended cells l .ended) cells (line-taken ended cells l .cells) l ls (parts (line-taken ended cells l) z)) (k z)
 
-    stops : (taken ended cells l .number ≡ 0 → ⊥) → Judges flash all (walked n ended cells (l ∷ ls))
+    stops : (line-taken ended cells l .number ≡ 0 → ⊥) → Judges flash all (lines-taken n ended cells (l ∷ ls))
     stops z =
-        let t = taken ended cells l in
+        let t = line-taken ended cells l in
         let o = Faults.lowest flash before ended cells l h z in
         let a : length all ≡ length before + suc (length ls) = ap length e ∙ length-append before (l ∷ ls) in
         rw (step-stop n (t .number) ended (t .ended) cells (t .cells) l ls refl z)
@@ -116,13 +116,13 @@ judges flash n all before (l ∷ ls) ended cells e c h f =
           none = λ q. absurd (omega arith);
         })
 
-pub file-judges : (flash : ℕ) (file : List ℕ) → Judges flash (lines file) (walked 0 false (replicate flash unset) (lines file))
+pub file-judges : (flash : ℕ) (file : List ℕ) → Judges flash (lines file) (lines-taken 0 false (replicate flash unset) (lines file))
 file-judges flash file =
     judges flash 0 (lines file) [] (lines file) false (replicate flash unset) refl refl (history-none flash) (λ j m g. absurd (omega arith))
 
 -- the answer's line and number are the walk's where a line decided
-abbrev pub walk : Settings → List ℕ → Walked
-walk s file = walked 0 false (replicate (s .size * s .count) unset) (lines file)
+abbrev pub walk : Settings → List ℕ → Lines-taken
+walk s file = lines-taken 0 false (replicate (s .size * s .count) unset) (lines file)
 
 cut-line : (size room : ℕ) (cells : List ℕ) → cut-out size room cells .line ≡ 0
 unfolding cut-out copied
@@ -140,19 +140,19 @@ cut-line size room cells =
 no-bool : {A : Type 0} (t : Bool) → t ≡ true → t ≡ false → A
 no-bool t p q = absurd (let e : _≡_ {A = Bool} true false = sym p ∙ q in let y : _≡_ {A = ℕ} 0 1 = cc in omega arith)
 
-answered-line : (size room : ℕ) (w : Walked) → (w .number ≡ 0 → w .line ≡ 0) → answered size room w .line ≡ w .line
-unfolding answered
+answered-line : (size room : ℕ) (w : Lines-taken) → (w .number ≡ 0 → w .line ≡ 0) → read-answer size room w .line ≡ w .line
+unfolding read-answer
 answered-line size room w n =
     by-test (eqb (w .number) 0)
     (λ t. rw t (cut-line size room (w .cells) ∙ sym (n (eqb-true (w .number) 0 t))))
     (λ t. rw t)
 
-answered-number : (size room : ℕ) (w : Walked) → (w .number ≡ 0 → ⊥) → answered size room w .number ≡ w .number
-unfolding answered
+answered-number : (size room : ℕ) (w : Lines-taken) → (w .number ≡ 0 → ⊥) → read-answer size room w .number ≡ w .number
+unfolding read-answer
 answered-number size room w n = rw (ne-eqb (w .number) 0 n)
 
 module _ (s : Settings) (room : ℕ) (file : List ℕ) (ok : settings-refusal s ≡ 0) where
-  pub is-answered : hex-read s room file ≡ answered (s .size) room (walk s file)
+  pub is-answered : hex-read s room file ≡ read-answer (s .size) room (walk s file)
   unfolding hex-read
   is-answered = rw ok
 
@@ -195,7 +195,7 @@ pub record Accepts (s : Settings) (room : ℕ) (file : List ℕ) : Type 0 where
       }
 
 accepts : (s : Settings) (room : ℕ) (file : List ℕ) → hex-read s room file .number ≡ 0 → Accepts s room file
-unfolding hex-read answered cut-out copied
+unfolding hex-read read-answer cut-out copied
 accepts s room file z = by-test (eqb (settings-refusal s) 0) (λ t. settled t (rw t at z)) (λ t. no-bool (eqb (settings-refusal s) 0) (eq-eqb (settings-refusal s) 0 (rw t at z)) t)
   where
     page : ℕ
@@ -310,16 +310,16 @@ module _ (s : Settings) (file : List ℕ) (ok : settings-refusal s ≡ 0) (right
   byte-at : (k : ℕ) → k < length image
       → Set flash file (page * s .size + k) (getD image k 0xff)
       ⊎ ((getD image k 0xff ≡ 0xff) × ((b : ℕ) → Set flash file (page * s .size + k) b → ⊥))
-  unfolding byte
+  unfolding cell-byte
   byte-at k g = go (ℕ-discrete (cell F (page * s .size + k)) unset)
     where
-      at : getD image k 0xff ≡ byte (cell F (page * s .size + k))
+      at : getD image k 0xff ≡ cell-byte (cell F (page * s .size + k))
       at = let l = long in window-at F (page * s .size) n fits k (omega arith)
 
       go : Dec (cell F (page * s .size + k) ≡ unset)
           → Set flash file (page * s .size + k) (getD image k 0xff)
           ⊎ ((getD image k 0xff ≡ 0xff) × ((b : ℕ) → Set flash file (page * s .size + k) b → ⊥))
-      go (yes y) = inr (at ∙ ap byte y, λ b c. is-set (page * s .size + k) b c y)
+      go (yes y) = inr (at ∙ ap cell-byte y, λ b c. is-set (page * s .size + k) b c y)
       go (no y) =
           let m = h .covered (page * s .size + k) y in
           let b = h .byte (m .i) (page * s .size + k) (cell F (page * s .size + k)) (m .covers) in

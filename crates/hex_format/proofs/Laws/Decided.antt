@@ -11,7 +11,7 @@ use lib.ListN.{length, getD, take, drop, replicate}
 use Rattle.laws.proofs.Tests.{by-test}
 use Rattle.settings.specs.declared.Settings.{Settings}
 use Rattle.settings.specs.Accepted.{settings-refusal}
-use Rattle.hex_format.specs.Reading.{lines, unset, all-unset, first-set, past-set, bytes, taken, Walked, walked, Answer, refused, copied, cut-out, answered, hex-read}
+use Rattle.hex_format.specs.Reading.{lines, unset, all-unset, first-set, past-set, bytes, line-taken, Lines-taken, lines-taken, Answer, refused, copied, cut-out, read-answer, hex-read}
 use Rattle.hex_format.specs.Claims.{Set, Ended, Fault-at, Touched, touched-bytes, Decided, Answered-exactly}
 use Rattle.hex_format.proofs.Laws.Cells.{cell, unset-at, some-set, first-there, past-there, set-from, set-below}
 use Rattle.hex_format.proofs.Laws.Steps.{step-on, step-stop}
@@ -19,34 +19,34 @@ use Rattle.hex_format.proofs.Laws.Histories.{History, history-none, his
 use Rattle.hex_format.proofs.Laws.Claims.{parts, file-judges, walk, is-answered, long}
 
 -- a walk over lines of which none is faulty: their history, and whether the end record has been
-pub record Through (flash : ℕ) (ls : List (List ℕ)) (w : Walked) : Type 0 where
+pub record Through (flash : ℕ) (ls : List (List ℕ)) (w : Lines-taken) : Type 0 where
   pub ended : Bool
   pub history : History flash ls ended (w .cells)
   pub number : w .number ≡ cond ended 0 24
 
 through : (flash n : ℕ) (before ls : List (List ℕ)) (ended : Bool) (cells : List ℕ) → History flash before ended cells
-    → walked n ended cells ls .line ≡ 0 → Through flash (before ++ ls) (walked n ended cells ls)
-unfolding walked
+    → lines-taken n ended cells ls .line ≡ 0 → Through flash (before ++ ls) (lines-taken n ended cells ls)
+unfolding lines-taken
 through flash n before [] ended cells h e = rw (append-nil before) (record { ended = ended; history = h; number = refl })
 through flash n before (l ∷ ls) ended cells h e =
-    by-test (eqb (taken ended cells l .number) 0)
-    (goes (λ z q. through flash (n + 1) (before ++ (l ∷ [])) ls (taken ended cells l .ended) (taken ended cells l .cells) (history-more flash before ended cells l h z) q))
+    by-test (eqb (line-taken ended cells l .number) 0)
+    (goes (λ z q. through flash (n + 1) (before ++ (l ∷ [])) ls (line-taken ended cells l .ended) (line-taken ended cells l .cells) (history-more flash before ended cells l h z) q))
     stops
   where
-    goes : (taken ended cells l .number ≡ 0 → walked (n + 1) (taken ended cells l .ended) (taken ended cells l .cells) ls .line ≡ 0
-        → Through flash ((before ++ (l ∷ [])) ++ ls) (walked (n + 1) (taken ended cells l .ended) (taken ended cells l .cells) ls))
-        → eqb (taken ended cells l .number) 0 ≡ true → Through flash (before ++ (l ∷ ls)) (walked n ended cells (l ∷ ls))
+    goes : (line-taken ended cells l .number ≡ 0 → lines-taken (n + 1) (line-taken ended cells l .ended) (line-taken ended cells l .cells) ls .line ≡ 0
+        → Through flash ((before ++ (l ∷ [])) ++ ls) (lines-taken (n + 1) (line-taken ended cells l .ended) (line-taken ended cells l .cells) ls))
+        → eqb (line-taken ended cells l .number) 0 ≡ true → Through flash (before ++ (l ∷ ls)) (lines-taken n ended cells (l ∷ ls))
     goes k p =
-        let t = taken ended cells l in
+        let t = line-taken ended cells l in
         let z = eqb-true (t .number) 0 p in
         let on = step-on n ended (t .ended) cells (t .cells) l ls (parts t z) in
-        rw on (rw (append-assoc before (l ∷ []) ls) at (k z (sym (ap (λ (w : Walked). w .line) on) ∙ e)))
+        rw on (rw (append-assoc before (l ∷ []) ls) at (k z (sym (ap (λ (w : Lines-taken). w .line) on) ∙ e)))
 
-    stops : eqb (taken ended cells l .number) 0 ≡ false → Through flash (before ++ (l ∷ ls)) (walked n ended cells (l ∷ ls))
+    stops : eqb (line-taken ended cells l .number) 0 ≡ false → Through flash (before ++ (l ∷ ls)) (lines-taken n ended cells (l ∷ ls))
     stops p =
-        let t = taken ended cells l in
+        let t = line-taken ended cells l in
         let stop = step-stop n (t .number) ended (t .ended) cells (t .cells) l ls refl (eqb-false (t .number) 0 p) in
-        absurd (let y = ap (λ (w : Walked). w .line) stop in omega (arith, e, y))
+        absurd (let y = ap (λ (w : Lines-taken). w .line) stop in omega (arith, e, y))
 
 module _ (s : Settings) (room : ℕ) (file : List ℕ) (ok : settings-refusal s ≡ 0)
     (right : (j m : ℕ) → j < length (lines file) → Fault-at s file j m → ⊥) where
@@ -111,7 +111,7 @@ module _ (s : Settings) (room : ℕ) (file : List ℕ) (ok : settings-refusal s 
 
   -- no end record
   unended : all .ended ≡ false → Decided s room file (hex-read s room file)
-  unfolding answered
+  unfolding read-answer
   unended e =
       let w : walk s file .number ≡ 24 = all .number ∙ ap (λ (b : Bool). cond b 0 24) e in
       let f = h .unended e in
@@ -130,7 +130,7 @@ module _ (s : Settings) (room : ℕ) (file : List ℕ) (ok : settings-refusal s 
     d = h .ends e
 
     cut : hex-read s room file ≡ cut-out (s .size) room F
-    unfolding answered
+    unfolding read-answer
     cut = let w : walk s file .number ≡ 0 = all .number ∙ ap (λ (b : Bool). cond b 0 24) e in is-answered s room file ok ∙ rw w
 
     nothing : all-unset F ≡ true → Decided s room file (hex-read s room file)

@@ -9,7 +9,8 @@ use borrow.Author.Tests.{lt-ltb, le-ltb}
 use lib.Dec.{ltb}
 use lib.ListN.{length, getD, drop}
 use lib.Seq.{drop-cons}
-use Rattle.hex_format.specs.Digits.{digit, all-digits, octet, octets, Bytes}
+use Rattle.laws.specs.Bytes.{Bytes}
+use Rattle.hex_format.specs.Digits.{digit, all-digits, octet, octets}
 
 -- the next two of a row of digits are digits
 pub digits-more : (s : List ℕ) (i : ℕ) → i + 1 < length s → digit (getD s i 0) < 16 → digit (getD s (i + 1) 0) < 16

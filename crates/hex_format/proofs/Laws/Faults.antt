@@ -10,8 +10,8 @@ use lib.ListN.{length, take, drop, length-take, List·getD-eq-default}
 use lib.Seq.{sets, getD-take, getD-drop}
 use Rattle.hex_format.specs.declared.Line.{Line}
 use Rattle.hex_format.specs.declared.Line.the-variants.{Bad, Data, Last}
-use Rattle.hex_format.specs.Lines.{is-line, adds-up, kind, count, address, kinded, judged, data-of}
-use Rattle.hex_format.specs.Reading.{unset, all-unset, first-set, took, placed, taken-as, taken}
+use Rattle.hex_format.specs.Lines.{is-line, adds-up, kind, count, address, kinded, judged-line, data-of}
+use Rattle.hex_format.specs.Reading.{unset, all-unset, first-set, took, placed, taken-as, line-taken}
 use Rattle.hex_format.specs.Claims.{Ended, Twice, Fault}
 use Rattle.hex_format.proofs.Laws.Lines.{held, closes, Right, right-data, right-last, data-kind, bad-cases}
 use Rattle.hex_format.proofs.Laws.Cells.{cell, first-there, run-unset-at}
@@ -66,11 +66,11 @@ found cells a n e = go (decLt i n)
         short (suc n) (x ∷ s) = let h = short n s in omega arith
 
 module _ (flash : ℕ) (before : List (List ℕ)) (ended : Bool) (cells l : List ℕ) (h : History flash before ended cells) where
-  flat : (x : Line) → judged (length cells) l ≡ x → judged flash l ≡ x
-  flat x j = ap (λ n. judged n l) (sym (h .size)) ∙ j
+  flat : (x : Line) → judged-line (length cells) l ≡ x → judged-line flash l ≡ x
+  flat x j = ap (λ n. judged-line n l) (sym (h .size)) ∙ j
 
   -- data where nothing was set is not set twice
-  fresh : (a n : ℕ) → judged flash l ≡ Data a n → all-unset (take n (drop a cells)) ≡ true → Twice flash before l → ⊥
+  fresh : (a n : ℕ) → judged-line flash l ≡ Data a n → all-unset (take n (drop a cells)) ≡ true → Twice flash before l → ⊥
   fresh a n j f t =
       let d = held flash l a n j in
       let q : a ≤ t .k = omega (arith, t .from, d .place) in
@@ -81,18 +81,18 @@ module _ (flash : ℕ) (before : List (List ℕ)) (ended : Bool) (cells l : List
       omega arith
 
   -- an end record covers nothing
-  ends-none : judged flash l ≡ Last → Twice flash before l → ⊥
+  ends-none : judged-line flash l ≡ Last → Twice flash before l → ⊥
   ends-none j t = let c = closes flash l j .none in omega (arith, t .from, t .below)
 
-  pub no-fault : taken ended cells l .number ≡ 0 → (m : ℕ) → Fault flash before l m → ⊥
+  pub no-fault : line-taken ended cells l .number ≡ 0 → (m : ℕ) → Fault flash before l m → ⊥
   no-fault z m f =
       let a = accepted ended cells l z in
       ⊎-elim
-      (λ (s : Steps.Stored cells l (taken ended cells l)).
+      (λ (s : Steps.Stored cells l (line-taken ended cells l)).
       let j = flat (Data (s .a) (s .n)) (s .line) in
       by-others flash before l (Data (s .a) (s .n)) (right-data flash l (s .a) (s .n) j) (λ q. absurd (let y : _≡_ {A = ℕ} 0 1 = cc in omega arith)) m
       (λ t e. fresh (s .a) (s .n) j (s .free) t) (λ t e. h .unended (a .0) t) f)
-      (λ (s : Steps.Ended cells l (taken ended cells l)).
+      (λ (s : Steps.Ended cells l (line-taken ended cells l)).
       let j = flat Last (s .line) in
       by-others flash before l Last (right-last flash l j) (λ q. absurd (let y : _≡_ {A = ℕ} 0 1 = cc in omega arith)) m
       (λ t e. ends-none j t) (λ t e. h .unended (a .0) t) f)
@@ -123,7 +123,7 @@ module _ (flash : ℕ) (before : List (List ℕ)) (ended : Bool) (cells l : List
   bad-record s u m (inr (inr (inr (inl f)))) = omega (arith, f .0)
   bad-record s u m (inr (inr (inr (inr f)))) = omega (arith, f .0)
 
-  by-itself : (k : ℕ) → judged flash l ≡ Bad k → Lowest k
+  by-itself : (k : ℕ) → judged-line flash l ≡ Bad k → Lowest k
   by-itself k j =
       ⊎-elim
       (λ (f : (k ≡ 20) × (is-line l ≡ false)). (inl f, λ m g. let q = least m g in omega (arith, f .0)))
@@ -133,7 +133,7 @@ module _ (flash : ℕ) (before : List (List ℕ)) (ended : Bool) (cells l : List
       (inr (inr (inl (f .0, f .1, f .3))), λ m g. let q = bad-record (f .1) (f .2) m g in omega (arith, f .0))))
       (bad-cases flash l k j)
 
-  set-before : (a n : ℕ) → judged flash l ≡ Data a n → Found cells a n → Twice flash before l
+  set-before : (a n : ℕ) → judged-line flash l ≡ Data a n → Found cells a n → Twice flash before l
   set-before a n j f =
       let d = held flash l a n j in
       let r = right-data flash l a n j in
@@ -149,43 +149,43 @@ module _ (flash : ℕ) (before : List (List ℕ)) (ended : Bool) (cells l : List
         earlier = c .covers;
       }
 
-  twice : (a n : ℕ) → judged flash l ≡ Data a n → all-unset (take n (drop a cells)) ≡ false → Lowest 23
+  twice : (a n : ℕ) → judged-line flash l ≡ Data a n → all-unset (take n (drop a cells)) ≡ false → Lowest 23
   twice a n j u = (
     inr (inr (inr (inl (refl, set-before a n j (found cells a n u))))),
     λ m g. by-others flash before l (Data a n) (right-data flash l a n j) (λ q. absurd (let y : _≡_ {A = ℕ} 0 1 = cc in omega arith)) m
         (λ t e. omega arith) (λ t e. omega arith) g,
   )
 
-  late-data : (a n : ℕ) → judged flash l ≡ Data a n → all-unset (take n (drop a cells)) ≡ true → ended ≡ true → Lowest 24
+  late-data : (a n : ℕ) → judged-line flash l ≡ Data a n → all-unset (take n (drop a cells)) ≡ true → ended ≡ true → Lowest 24
   late-data a n j u e = (
     inr (inr (inr (inr (refl, h .ends e)))),
     λ m g. by-others flash before l (Data a n) (right-data flash l a n j) (λ q. absurd (let y : _≡_ {A = ℕ} 0 1 = cc in omega arith)) m
         (λ t q. absurd (fresh a n j u t)) (λ t q. omega arith) g,
   )
 
-  late-last : judged flash l ≡ Last → ended ≡ true → Lowest 24
+  late-last : judged-line flash l ≡ Last → ended ≡ true → Lowest 24
   late-last j e = (
     inr (inr (inr (inr (refl, h .ends e)))),
     λ m g. by-others flash before l Last (right-last flash l j) (λ q. absurd (let y : _≡_ {A = ℕ} 0 1 = cc in omega arith)) m
         (λ t q. absurd (ends-none j t)) (λ t q. omega arith) g,
   )
 
-  pub lowest : (taken ended cells l .number ≡ 0 → ⊥) → Lowest (taken ended cells l .number)
-  unfolding taken taken-as placed
-  lowest n = go (judged (length cells) l) refl n
+  pub lowest : (line-taken ended cells l .number ≡ 0 → ⊥) → Lowest (line-taken ended cells l .number)
+  unfolding line-taken taken-as placed
+  lowest n = go (judged-line (length cells) l) refl n
     where
-      in-data : (a k : ℕ) (u e : Bool) → judged flash l ≡ Data a k → all-unset (take k (drop a cells)) ≡ u → ended ≡ e
+      in-data : (a k : ℕ) (u e : Bool) → judged-line flash l ≡ Data a k → all-unset (take k (drop a cells)) ≡ u → ended ≡ e
           → (cond u (cond e (took 24 ended cells) (took 0 ended (sets cells a (data-of l)))) (took 23 ended cells) .number ≡ 0 → ⊥)
           → Lowest (cond u (cond e (took 24 ended cells) (took 0 ended (sets cells a (data-of l)))) (took 23 ended cells) .number)
       in-data a k true true j f g z = late-data a k j f g
       in-data a k true false j f g z = absurd (z refl)
       in-data a k false e j f g z = twice a k j f
 
-      in-last : (e : Bool) → judged flash l ≡ Last → ended ≡ e → (_≡_ {A = ℕ} (cond e 24 0) 0 → ⊥) → Lowest (cond e 24 0)
+      in-last : (e : Bool) → judged-line flash l ≡ Last → ended ≡ e → (_≡_ {A = ℕ} (cond e 24 0) 0 → ⊥) → Lowest (cond e 24 0)
       in-last true j g z = late-last j g
       in-last false j g z = absurd (z refl)
 
-      go : (x : Line) → judged (length cells) l ≡ x → (taken-as ended cells l x .number ≡ 0 → ⊥) → Lowest (taken-as ended cells l x .number)
+      go : (x : Line) → judged-line (length cells) l ≡ x → (taken-as ended cells l x .number ≡ 0 → ⊥) → Lowest (taken-as ended cells l x .number)
       go (Bad k) j z = by-itself k (flat (Bad k) j)
       go (Data a k) j z = in-data a k (all-unset (take k (drop a cells))) ended (flat (Data a k) j) refl refl z
       go Last j z = in-last ended (flat Last j) refl z

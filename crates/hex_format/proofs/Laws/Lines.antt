@@ -13,7 +13,7 @@ use Rattle.laws.proofs.Tests.{both, by-test}
 use Rattle.hex_format.specs.declared.Line.{Line}
 use Rattle.hex_format.specs.declared.Line.the-variants.{Bad, Data, Last}
 use Rattle.hex_format.specs.Digits.{all-digits}
-use Rattle.hex_format.specs.Lines.{colon, is-end, count, digits, is-line, adds-up, kind, address, kinded, judged}
+use Rattle.hex_format.specs.Lines.{colon, is-end, count, digits, is-line, adds-up, kind, address, kinded, judged-line}
 
 -- the sum kept to its low byte at each step is the sum's low byte
 pub low-byte : (s o t : ℕ) → ((s + o) % 256 + t) % 256 ≡ (s + (o + t)) % 256
@@ -55,8 +55,8 @@ pub record Held (flash : ℕ) (l : List ℕ) (a n : ℕ) : Type 0 where
   pub place : address l ≡ a
   pub room : (n ≡ 0 → ⊥) → a + n ≤ flash
 
-pub held : (flash : ℕ) (l : List ℕ) (a n : ℕ) → judged flash l ≡ Data a n → Held flash l a n
-unfolding judged kinded
+pub held : (flash : ℕ) (l : List ℕ) (a n : ℕ) → judged-line flash l ≡ Data a n → Held flash l a n
+unfolding judged-line kinded
 held flash l a n e =
     let p = first-of (is-line l) (cond (adds-up l) (kinded flash (kind l) (count l) (address l)) (Bad 21)) 20 a n e in
     let q = first-of (adds-up l) (kinded flash (kind l) (count l) (address l)) 21 a n (p .1) in
@@ -87,8 +87,8 @@ pub record Closes (l : List ℕ) : Type 0 where
   pub shape : is-line l ≡ true
   pub none : count l ≡ 0
 
-pub closes : (flash : ℕ) (l : List ℕ) → judged flash l ≡ Last → Closes l
-unfolding judged kinded
+pub closes : (flash : ℕ) (l : List ℕ) → judged-line flash l ≡ Last → Closes l
+unfolding judged-line kinded
 closes flash l e =
     let p = last-first (is-line l) (cond (adds-up l) (kinded flash (kind l) (count l) (address l)) (Bad 21)) 20 e in
     let q = last-first (adds-up l) (kinded flash (kind l) (count l) (address l)) 21 (p .1) in
@@ -103,15 +103,15 @@ pub record Right (flash : ℕ) (l : List ℕ) (x : Line) : Type 0 where
   pub sums : adds-up l ≡ true
   pub is : kinded flash (kind l) (count l) (address l) ≡ x
 
-pub right-data : (flash : ℕ) (l : List ℕ) (a n : ℕ) → judged flash l ≡ Data a n → Right flash l (Data a n)
-unfolding judged
+pub right-data : (flash : ℕ) (l : List ℕ) (a n : ℕ) → judged-line flash l ≡ Data a n → Right flash l (Data a n)
+unfolding judged-line
 right-data flash l a n e =
     let p = first-of (is-line l) (cond (adds-up l) (kinded flash (kind l) (count l) (address l)) (Bad 21)) 20 a n e in
     let q = first-of (adds-up l) (kinded flash (kind l) (count l) (address l)) 21 a n (p .1) in
     record { shape = p .0; sums = q .0; is = q .1 }
 
-pub right-last : (flash : ℕ) (l : List ℕ) → judged flash l ≡ Last → Right flash l Last
-unfolding judged
+pub right-last : (flash : ℕ) (l : List ℕ) → judged-line flash l ≡ Last → Right flash l Last
+unfolding judged-line
 right-last flash l e =
     let p = last-first (is-line l) (cond (adds-up l) (kinded flash (kind l) (count l) (address l)) (Bad 21)) 20 e in
     let q = last-first (adds-up l) (kinded flash (kind l) (count l) (address l)) 21 (p .1) in
@@ -133,11 +133,11 @@ bad-kind flash k n a m e = go (eqb k 0) (eqb n 0 || leb (a + n) flash) (eqb k 1 
     go false u false f = cc
 
 -- a line that is refused by itself: by which number, and why
-pub bad-cases : (flash : ℕ) (l : List ℕ) (k : ℕ) → judged flash l ≡ Bad k
+pub bad-cases : (flash : ℕ) (l : List ℕ) (k : ℕ) → judged-line flash l ≡ Bad k
     → ((k ≡ 20) × (is-line l ≡ false))
     ⊎ ((k ≡ 21) × (is-line l ≡ true) × (adds-up l ≡ false))
     ⊎ ((k ≡ 22) × (is-line l ≡ true) × (adds-up l ≡ true) × (kinded flash (kind l) (count l) (address l) ≡ Bad 22))
-unfolding judged
+unfolding judged-line
 bad-cases flash l k e = by-test (is-line l) (λ t. sums t (rw t at e)) (λ t. inl (number 20 (rw t at e), t))
   where
     number : (j : ℕ) → Bad j ≡ Bad k → k ≡ j

@@ -15,8 +15,8 @@ use Rattle.settings.specs.Accepted.{settings-refusal}
 use Rattle.settings.specs.Opening.{opening-refusal}
 use Rattle.settings.proofs.Laws.Accepted.{facts}
 use Rattle.settings.proofs.Laws.Opening.{Opened, settings-pass, opened}
-use Rattle.hex_format.specs.Digits.{Bytes}
-use Rattle.hex_format.specs.Reading.{unset, all-unset, first-set, past-set, bytes, copied, cut-out, answered, hex-read}
+use Rattle.laws.specs.Bytes.{Bytes}
+use Rattle.hex_format.specs.Reading.{unset, all-unset, first-set, past-set, bytes, copied, cut-out, read-answer, hex-read}
 use Rattle.hex_format.specs.Writing.{hex-file, file-bytes, write-refusal, hex-write}
 use Rattle.hex_format.proofs.Laws.Cells.{cell, kept, stored-set, some-set, first-is, past-is, unset-at, unset-fresh, bytes-are}
 use Rattle.hex_format.proofs.Laws.Writing.{walk-data, unset-drop}
@@ -74,7 +74,7 @@ cut-back size first p t room image pos long fits big all =
 
 pages-back : (s : Settings) (first p room : ℕ) (image : List ℕ) → settings-refusal s ≡ 0 → length image ≡ suc p * s .size → first + suc p ≤ s .count
     → length image ≤ room → Bytes image → hex-read s room (hex-file (s .size) first image) ≡ record { number = 0; line = 0; first = first; image = image }
-unfolding hex-read hex-file answered
+unfolding hex-read hex-file read-answer
 pages-back s first p room image ok long fits big all =
     let f = facts s ok in
     let size = s .size in

@@ -12,46 +12,46 @@ use lib.ListN.{length, take, drop, length-drop}
 use lib.Seq.{sets, length-sets, length-take-le}
 use Rattle.hex_format.specs.declared.Line.{Line}
 use Rattle.hex_format.specs.declared.Line.the-variants.{Bad, Data, Last}
-use Rattle.hex_format.specs.Digits.{Bytes}
-use Rattle.hex_format.specs.Lines.{count, is-line, adds-up, address, kind, data-of, kinded, judged}
-use Rattle.hex_format.specs.Reading.{unset, all-unset, Taken, took, placed, taken-as, taken, Walked, ended-with, walked}
+use Rattle.laws.specs.Bytes.{Bytes}
+use Rattle.hex_format.specs.Lines.{count, is-line, adds-up, address, kind, data-of, kinded, judged-line}
+use Rattle.hex_format.specs.Reading.{unset, all-unset, Line-taken, took, placed, taken-as, line-taken, Lines-taken, ended-with, lines-taken}
 use Rattle.hex_format.proofs.Laws.Digits.{octets-length, octets-bytes}
 use Rattle.hex_format.proofs.Laws.Lines.{held, long-line}
 use Rattle.hex_format.proofs.Laws.Cells.{cell, kept, run-unset-at}
 
 -- a walk's step, and where it stops
-abbrev after : ℕ → List (List ℕ) → Taken → Walked
+abbrev after : ℕ → List (List ℕ) → Line-taken → Lines-taken
 after before ls t =
     elim (eqb (t .number) 0) [
-      | true ↦ walked (before + 1) (t .ended) (t .cells) ls
+      | true ↦ lines-taken (before + 1) (t .ended) (t .cells) ls
       | false ↦ ended-with (t .number) (before + 1) (t .cells)
     ]
 
-pub step-on : (before : ℕ) (ended next : Bool) (cells later l : List ℕ) (ls : List (List ℕ)) → taken ended cells l ≡ took 0 next later
-    → walked before ended cells (l ∷ ls) ≡ walked (before + 1) next later ls
-unfolding walked
+pub step-on : (before : ℕ) (ended next : Bool) (cells later l : List ℕ) (ls : List (List ℕ)) → line-taken ended cells l ≡ took 0 next later
+    → lines-taken before ended cells (l ∷ ls) ≡ lines-taken (before + 1) next later ls
+unfolding lines-taken
 step-on before ended next cells later l ls e = ap (after before ls) e
 
-pub step-stop : (before number : ℕ) (ended next : Bool) (cells later l : List ℕ) (ls : List (List ℕ)) → taken ended cells l ≡ took number next later
-    → (number ≡ 0 → ⊥) → walked before ended cells (l ∷ ls) ≡ ended-with number (before + 1) later
-unfolding walked
+pub step-stop : (before number : ℕ) (ended next : Bool) (cells later l : List ℕ) (ls : List (List ℕ)) → line-taken ended cells l ≡ took number next later
+    → (number ≡ 0 → ⊥) → lines-taken before ended cells (l ∷ ls) ≡ ended-with number (before + 1) later
+unfolding lines-taken
 step-stop before number ended next cells later l ls e n =
-    ap (λ (t : Taken). elim (eqb (t .number) 0) [
-      | true ↦ walked (before + 1) (t .ended) (t .cells) ls
+    ap (λ (t : Line-taken). elim (eqb (t .number) 0) [
+      | true ↦ lines-taken (before + 1) (t .ended) (t .cells) ls
       | false ↦ ended-with (t .number) (before + 1) (t .cells)
     ]) e
     ∙ rw (ne-eqb number 0 n)
 
 -- What an accepted line was: data where nothing was set, or the end record; no end record before it.
-pub record Stored (cells l : List ℕ) (t : Taken) : Type 0 where
+pub record Stored (cells l : List ℕ) (t : Line-taken) : Type 0 where
   pub a : ℕ
   pub n : ℕ
-  pub line : judged (length cells) l ≡ Data a n
+  pub line : judged-line (length cells) l ≡ Data a n
   pub free : all-unset (take n (drop a cells)) ≡ true
   pub gives : t ≡ took 0 false (sets cells a (data-of l))
 
-pub record Ended (cells l : List ℕ) (t : Taken) : Type 0 where
-  pub line : judged (length cells) l ≡ Last
+pub record Ended (cells l : List ℕ) (t : Line-taken) : Type 0 where
+  pub line : judged-line (length cells) l ≡ Last
   pub gives : t ≡ took 0 true cells
 
 positive : (t : Bool) (x y : Line) (k : ℕ) → cond t x y ≡ Bad k → (x ≡ Bad k → 0 < k) → (y ≡ Bad k → 0 < k) → 0 < k
@@ -62,8 +62,8 @@ positive false x y k e f g = g e
 bad-number : (j k : ℕ) → 0 < j → Bad j ≡ Bad k → 0 < k
 bad-number j k h e = let p : j ≡ k = cc in omega arith
 
-pub judged-number : (flash : ℕ) (l : List ℕ) (k : ℕ) → judged flash l ≡ Bad k → 0 < k
-unfolding judged kinded
+pub judged-number : (flash : ℕ) (l : List ℕ) (k : ℕ) → judged-line flash l ≡ Bad k → 0 < k
+unfolding judged-line kinded
 judged-number flash l k e =
     positive (is-line l) _ (Bad 20) k e
     (λ p. positive (adds-up l) _ (Bad 21) k p
@@ -75,24 +75,24 @@ judged-number flash l k e =
     (bad-number 21 k (omega arith)))
     (bad-number 20 k (omega arith))
 
-pub accepted : (ended : Bool) (cells l : List ℕ) → taken ended cells l .number ≡ 0
-    → (ended ≡ false) × (Stored cells l (taken ended cells l) ⊎ Ended cells l (taken ended cells l))
-unfolding taken taken-as placed
-accepted ended cells l e = go (judged (length cells) l) refl e
+pub accepted : (ended : Bool) (cells l : List ℕ) → line-taken ended cells l .number ≡ 0
+    → (ended ≡ false) × (Stored cells l (line-taken ended cells l) ⊎ Ended cells l (line-taken ended cells l))
+unfolding line-taken taken-as placed
+accepted ended cells l e = go (judged-line (length cells) l) refl e
   where
-    data-line : (ended : Bool) (a n : ℕ) (u : Bool) → judged (length cells) l ≡ Data a n → all-unset (take n (drop a cells)) ≡ u
+    data-line : (ended : Bool) (a n : ℕ) (u : Bool) → judged-line (length cells) l ≡ Data a n → all-unset (take n (drop a cells)) ≡ u
         → cond u (cond ended (took 24 ended cells) (took 0 ended (sets cells a (data-of l)))) (took 23 ended cells) .number ≡ 0
         → (ended ≡ false) × Stored cells l (cond u (cond ended (took 24 ended cells) (took 0 ended (sets cells a (data-of l)))) (took 23 ended cells))
     data-line true a n true j f z = absurd (omega arith)
     data-line false a n true j f z = (refl, record { a = a; n = n; line = j; free = f; gives = refl })
     data-line ended a n false j f z = absurd (omega arith)
 
-    last-line : (ended : Bool) → judged (length cells) l ≡ Last → _≡_ {A = ℕ} (cond ended 24 0) 0
+    last-line : (ended : Bool) → judged-line (length cells) l ≡ Last → _≡_ {A = ℕ} (cond ended 24 0) 0
         → (ended ≡ false) × Ended cells l (took (cond ended 24 0) true cells)
     last-line true j z = absurd (omega arith)
     last-line false j z = (refl, record { line = j; gives = refl })
 
-    go : (j : Line) → judged (length cells) l ≡ j → taken-as ended cells l j .number ≡ 0
+    go : (j : Line) → judged-line (length cells) l ≡ j → taken-as ended cells l j .number ≡ 0
         → (ended ≡ false) × (Stored cells l (taken-as ended cells l j) ⊎ Ended cells l (taken-as ended cells l j))
     go (Bad k) p z = absurd (let h = judged-number (length cells) l k p in omega arith)
     go (Data a n) p z =
@@ -109,7 +109,7 @@ pub record Placed (cells l : List ℕ) (a n : ℕ) : Type 0 where
   pub bytes : Bytes (data-of l)
   pub room : (n ≡ 0 → ⊥) → a + n ≤ length cells
 
-pub in-place : (cells l : List ℕ) (a n : ℕ) → judged (length cells) l ≡ Data a n → Placed cells l a n
+pub in-place : (cells l : List ℕ) (a n : ℕ) → judged-line (length cells) l ≡ Data a n → Placed cells l a n
 unfolding data-of
 in-place cells l a n e =
     let h = held (length cells) l a n e in
@@ -127,63 +127,63 @@ in-place cells l a n e =
     }
 
 -- a walk that gives no number names no line
-pub no-line : (before : ℕ) (ended : Bool) (cells : List ℕ) (ls : List (List ℕ)) → walked before ended cells ls .number ≡ 0 → walked before ended cells ls .line ≡ 0
-unfolding walked
+pub no-line : (before : ℕ) (ended : Bool) (cells : List ℕ) (ls : List (List ℕ)) → lines-taken before ended cells ls .number ≡ 0 → lines-taken before ended cells ls .line ≡ 0
+unfolding lines-taken
 no-line before ended cells [] z = refl
-no-line before ended cells (l ∷ ls) z = go (taken ended cells l) (no-line (before + 1) (taken ended cells l .ended) (taken ended cells l .cells) ls) z
+no-line before ended cells (l ∷ ls) z = go (line-taken ended cells l) (no-line (before + 1) (line-taken ended cells l .ended) (line-taken ended cells l .cells) ls) z
   where
-    stop : (t : Taken) (u : Bool) → eqb (t .number) 0 ≡ u → (walked (before + 1) (t .ended) (t .cells) ls .number ≡ 0 → walked (before + 1) (t .ended) (t .cells) ls .line ≡ 0)
-        → (elim u as (λ (x : Bool). Walked) [ true ↦ walked (before + 1) (t .ended) (t .cells) ls | false ↦ ended-with (t .number) (before + 1) (t .cells) ]) .number ≡ 0
-        → (elim u as (λ (x : Bool). Walked) [ true ↦ walked (before + 1) (t .ended) (t .cells) ls | false ↦ ended-with (t .number) (before + 1) (t .cells) ]) .line ≡ 0
+    stop : (t : Line-taken) (u : Bool) → eqb (t .number) 0 ≡ u → (lines-taken (before + 1) (t .ended) (t .cells) ls .number ≡ 0 → lines-taken (before + 1) (t .ended) (t .cells) ls .line ≡ 0)
+        → (elim u as (λ (x : Bool). Lines-taken) [ true ↦ lines-taken (before + 1) (t .ended) (t .cells) ls | false ↦ ended-with (t .number) (before + 1) (t .cells) ]) .number ≡ 0
+        → (elim u as (λ (x : Bool). Lines-taken) [ true ↦ lines-taken (before + 1) (t .ended) (t .cells) ls | false ↦ ended-with (t .number) (before + 1) (t .cells) ]) .line ≡ 0
     stop t true p k z = k z
     stop t false p k z = absurd (let y : _≡_ {A = Bool} true false = sym (eq-eqb (t .number) 0 z) ∙ p in let x : _≡_ {A = ℕ} 0 1 = cc in omega arith)
 
-    go : (t : Taken) → (walked (before + 1) (t .ended) (t .cells) ls .number ≡ 0 → walked (before + 1) (t .ended) (t .cells) ls .line ≡ 0)
+    go : (t : Line-taken) → (lines-taken (before + 1) (t .ended) (t .cells) ls .number ≡ 0 → lines-taken (before + 1) (t .ended) (t .cells) ls .line ≡ 0)
         → after before ls t .number ≡ 0 → after before ls t .line ≡ 0
     go t k z = stop t (eqb (t .number) 0) refl k z
 
-pub walk-zero : (before : ℕ) (ended : Bool) (cells : List ℕ) (ls : List (List ℕ)) → walked before ended cells ls .number ≡ 0
-    → walked before ended cells ls ≡ ended-with 0 0 (walked before ended cells ls .cells)
-walk-zero before ended cells ls z = same (walked before ended cells ls) z (no-line before ended cells ls z)
+pub walk-zero : (before : ℕ) (ended : Bool) (cells : List ℕ) (ls : List (List ℕ)) → lines-taken before ended cells ls .number ≡ 0
+    → lines-taken before ended cells ls ≡ ended-with 0 0 (lines-taken before ended cells ls .cells)
+walk-zero before ended cells ls z = same (lines-taken before ended cells ls) z (no-line before ended cells ls z)
   where
-    same : (w : Walked) → w .number ≡ 0 → w .line ≡ 0 → w ≡ ended-with 0 0 (w .cells)
+    same : (w : Lines-taken) → w .number ≡ 0 → w .line ≡ 0 → w ≡ ended-with 0 0 (w .cells)
     same w p q = ap (λ n. ended-with n (w .line) (w .cells)) p ∙ ap (λ n. ended-with 0 n (w .cells)) q
 
 -- a file that is accepted to its end: each line is, and the cells at the end
 module _ (before : ℕ) (ended : Bool) (cells l : List ℕ) (ls : List (List ℕ)) (final : List ℕ)
-    (e : walked before ended cells (l ∷ ls) ≡ ended-with 0 0 final) where
-  pub walk-accepts : taken ended cells l .number ≡ 0
-  unfolding walked
-  walk-accepts = go (taken ended cells l) e
+    (e : lines-taken before ended cells (l ∷ ls) ≡ ended-with 0 0 final) where
+  pub walk-accepts : line-taken ended cells l .number ≡ 0
+  unfolding lines-taken
+  walk-accepts = go (line-taken ended cells l) e
     where
-      stop : (t : Taken) (u : Bool) → eqb (t .number) 0 ≡ u
-          → elim u [ true ↦ walked (before + 1) (t .ended) (t .cells) ls | false ↦ ended-with (t .number) (before + 1) (t .cells) ] ≡ ended-with 0 0 final
+      stop : (t : Line-taken) (u : Bool) → eqb (t .number) 0 ≡ u
+          → elim u [ true ↦ lines-taken (before + 1) (t .ended) (t .cells) ls | false ↦ ended-with (t .number) (before + 1) (t .cells) ] ≡ ended-with 0 0 final
           → t .number ≡ 0
       stop t true p f = eqb-true (t .number) 0 p
-      stop t false p f = absurd (let z : before + 1 ≡ 0 = ap (λ (w : Walked). w .line) f in omega arith)
+      stop t false p f = absurd (let z : before + 1 ≡ 0 = ap (λ (w : Lines-taken). w .line) f in omega arith)
 
-      go : (t : Taken) → after before ls t ≡ ended-with 0 0 final → t .number ≡ 0
+      go : (t : Line-taken) → after before ls t ≡ ended-with 0 0 final → t .number ≡ 0
       go t f = stop t (eqb (t .number) 0) refl f
 
-  pub walk-rest : (next : Bool) (later : List ℕ) → taken ended cells l ≡ took 0 next later → walked (before + 1) next later ls ≡ ended-with 0 0 final
+  pub walk-rest : (next : Bool) (later : List ℕ) → line-taken ended cells l ≡ took 0 next later → lines-taken (before + 1) next later ls ≡ ended-with 0 0 final
   walk-rest next later t = sym (step-on before ended next cells later l ls t) ∙ e
 
 -- what is set stays set to the end of an accepted file
-pub stays : (before : ℕ) (ended : Bool) (cells : List ℕ) (ls : List (List ℕ)) (final : List ℕ) → walked before ended cells ls ≡ ended-with 0 0 final
+pub stays : (before : ℕ) (ended : Bool) (cells : List ℕ) (ls : List (List ℕ)) (final : List ℕ) → lines-taken before ended cells ls ≡ ended-with 0 0 final
     → (length final ≡ length cells) × ((k : ℕ) → (cell cells k ≡ unset → ⊥) → cell final k ≡ unset → ⊥)
-unfolding walked
+unfolding lines-taken
 stays before ended cells [] final e =
-    let q : cells ≡ final = ap (λ (w : Walked). w .cells) e in
+    let q : cells ≡ final = ap (λ (w : Lines-taken). w .cells) e in
     (rw q, λ k n. rw q at n)
 stays before ended cells (l ∷ ls) final e =
     let z = walk-accepts before ended cells l ls final e in
     let a = accepted ended cells l z in
     ⊎-elim
-    (λ (s : Stored cells l (taken ended cells l)).
+    (λ (s : Stored cells l (line-taken ended cells l)).
     let r = stays (before + 1) false (sets cells (s .a) (data-of l)) ls final (walk-rest before ended cells l ls final e false (sets cells (s .a) (data-of l)) (s .gives)) in
     let p = in-place cells l (s .a) (s .n) (s .line) in
     (r .0 ∙ length-sets cells (s .a) (data-of l), λ k n. r .1 k (still s p k n)))
-    (λ (s : Ended cells l (taken ended cells l)).
+    (λ (s : Ended cells l (line-taken ended cells l)).
     stays (before + 1) true cells ls final (walk-rest before ended cells l ls final e true cells (s .gives)))
     (a .1)
   where
@@ -191,7 +191,7 @@ stays before ended cells (l ∷ ls) final e =
     none [] a k h = refl
     none (x ∷ d) a k h = absurd (omega arith)
 
-    still : (s : Stored cells l (taken ended cells l)) → Placed cells l (s .a) (s .n) → (k : ℕ) → (cell cells k ≡ unset → ⊥)
+    still : (s : Stored cells l (line-taken ended cells l)) → Placed cells l (s .a) (s .n) → (k : ℕ) → (cell cells k ≡ unset → ⊥)
         → cell (sets cells (s .a) (data-of l)) k ≡ unset → ⊥
     still s p k n q = go (decLe (s .n) 0)
       where

@@ -13,9 +13,10 @@ use lib.Seq.{take-at, drop-at, sets, length-sets, drop-set-lt, length-take-le, d
 use Rattle.laws.proofs.Tests.{both}
 use Rattle.laws.proofs.Below.{same-below}
 use Rattle.hex_format.specs.declared.Line.the-variants.{Data}
-use Rattle.hex_format.specs.Digits.{digit, all-digits, octet, octets, upper, text, Bytes}
-use Rattle.hex_format.specs.Lines.{sum, is-end, count, digits, is-line, adds-up, kind, address, data-of, kinded, judged}
-use Rattle.hex_format.specs.Reading.{joined, lines, all-unset, took, placed, taken-as, taken, ended-with, walked}
+use Rattle.laws.specs.Bytes.{Bytes}
+use Rattle.hex_format.specs.Digits.{digit, all-digits, octet, octets, upper, text}
+use Rattle.hex_format.specs.Lines.{sum, is-end, count, digits, is-line, adds-up, kind, address, data-of, kinded, judged-line}
+use Rattle.hex_format.specs.Reading.{joined-line, lines, all-unset, took, placed, taken-as, line-taken, ended-with, lines-taken}
 use Rattle.hex_format.specs.Writing.{checksum, line-of, data-line, last-line, data-lines}
 use Rattle.hex_format.proofs.Laws.Steps.{step-on}
 
@@ -90,8 +91,8 @@ module _ (n h w k : ℕ) (d : List ℕ) (long : length d ≡ n + 1) (all : Bytes
   unfolding address text
   address-is = rw (octet-upper h (all .1 .0), octet-upper w (all .1 .1 .0))
 
-  pub judged-is : (flash : ℕ) → sum (n ∷ h ∷ w ∷ k ∷ d) % 256 ≡ 0 → judged flash (58 ∷ (text (n ∷ h ∷ w ∷ k ∷ d) ++ (10 ∷ []))) ≡ kinded flash k n (256 * h + w)
-  unfolding judged adds-up
+  pub judged-is : (flash : ℕ) → sum (n ∷ h ∷ w ∷ k ∷ d) % 256 ≡ 0 → judged-line flash (58 ∷ (text (n ∷ h ∷ w ∷ k ∷ d) ++ (10 ∷ []))) ≡ kinded flash k n (256 * h + w)
+  unfolding judged-line adds-up
   judged-is flash e = rw (line-is, digits-are, text-octets (n ∷ h ∷ w ∷ k ∷ d) all, e, kind-is, count-is, address-is)
 
 -- the data of a line
@@ -123,7 +124,7 @@ Plain [] = Unit {0}
 Plain (b ∷ p) = (b ≡ 10 → ⊥) × Plain p
 
 lines-cut : (p r : List ℕ) → Plain p → lines (p ++ (10 ∷ r)) ≡ (p ++ (10 ∷ [])) ∷ lines r
-unfolding lines joined
+unfolding lines joined-line
 lines-cut [] r h = refl
 lines-cut (b ∷ p) r h = rw (ne-eqb b 10 (h .0), lines-cut p r (h .1))
 
@@ -147,7 +148,7 @@ lines-of s r =
     rw (append-assoc t (10 ∷ []) r) (lines-cut (58 ∷ t) r ((λ e. absurd (omega arith)), text-plain (s ++ (checksum s ∷ []))))
 
 -- a data line, judged and taken
-pub data-judged : (flash a : ℕ) (bs : List ℕ) → length bs ≡ 16 → a + 16 ≤ flash → flash ≤ 65536 → Bytes bs → judged flash (data-line a bs) ≡ Data a 16
+pub data-judged : (flash a : ℕ) (bs : List ℕ) → length bs ≡ 16 → a + 16 ≤ flash → flash ≤ 65536 → Bytes bs → judged-line flash (data-line a bs) ≡ Data a 16
 unfolding data-line line-of kinded
 data-judged flash a bs long fits small all =
     let h : a / 256 < 256 = omega arith in
@@ -163,17 +164,17 @@ data-back a bs long all =
     data-is (length bs) (a / 256) (a % 256) 0 (checksum (length bs ∷ a / 256 ∷ a % 256 ∷ 0 ∷ bs)) bs refl (omega arith) all
 
 pub data-taken : (a : ℕ) (bs cells : List ℕ) → length bs ≡ 16 → a + 16 ≤ length cells → length cells ≤ 65536 → Bytes bs → all-unset (take 16 (drop a cells)) ≡ true
-    → taken false cells (data-line a bs) ≡ took 0 false (sets cells a bs)
-unfolding taken taken-as placed
+    → line-taken false cells (data-line a bs) ≡ took 0 false (sets cells a bs)
+unfolding line-taken taken-as placed
 data-taken a bs cells long fits small all free =
     rw (data-judged (length cells) a bs long fits small all, free) (ap (λ v. took 0 false (sets cells a v)) (data-back a bs long all))
 
-last-taken : (cells : List ℕ) → taken false cells last-line ≡ took 0 true cells
-unfolding taken taken-as judged adds-up kinded is-line all-digits digit octet octets sum is-end count address kind last-line line-of text upper checksum
+last-taken : (cells : List ℕ) → line-taken false cells last-line ≡ took 0 true cells
+unfolding line-taken taken-as judged-line adds-up kinded is-line all-digits digit octet octets sum is-end count address kind last-line line-of text upper checksum
 last-taken cells = refl
 
 last-lines : lines last-line ≡ last-line ∷ []
-unfolding lines joined last-line line-of text upper checksum sum
+unfolding lines joined-line last-line line-of text upper checksum sum
 last-lines = refl
 
 -- runs of stores
@@ -203,16 +204,16 @@ cut-line : (a : ℕ) (bs rest : List ℕ) → lines (data-line a bs ++ rest) ≡
 unfolding data-line
 cut-line a bs rest = lines-of (length bs ∷ a / 256 ∷ a % 256 ∷ 0 ∷ bs) rest
 
-ends : (m : ℕ) (cells : List ℕ) → walked m true cells [] ≡ ended-with 0 0 cells
-unfolding walked
+ends : (m : ℕ) (cells : List ℕ) → lines-taken m true cells [] ≡ ended-with 0 0 cells
+unfolding lines-taken
 ends m cells = refl
 
-data-lines-of : (a : ℕ) (bs rest : List ℕ) (line : ℕ) (cells after : List ℕ) → taken false cells (data-line a bs) ≡ took 0 false after
-    → walked line false cells (lines (data-line a bs ++ rest)) ≡ walked (line + 1) false after (lines rest)
+data-lines-of : (a : ℕ) (bs rest : List ℕ) (line : ℕ) (cells after : List ℕ) → line-taken false cells (data-line a bs) ≡ took 0 false after
+    → lines-taken line false cells (lines (data-line a bs ++ rest)) ≡ lines-taken (line + 1) false after (lines rest)
 data-lines-of a bs rest line cells after t = rw (cut-line a bs rest) (step-on line false false cells after (data-line a bs) (lines rest) t)
 
 pub walk-data : (n a line : ℕ) (image cells : List ℕ) → length image ≡ 16 * n → a + 16 * n ≤ length cells → length cells ≤ 65536 → Bytes image
-    → all-unset (drop a cells) ≡ true → walked line false cells (lines (data-lines n a image)) ≡ ended-with 0 0 (sets cells a image)
+    → all-unset (drop a cells) ≡ true → lines-taken line false cells (lines (data-lines n a image)) ≡ ended-with 0 0 (sets cells a image)
 unfolding data-lines
 walk-data zero a line [] cells long fits small all free = rw last-lines (step-on line false true cells cells last-line [] (last-taken cells) ∙ ends (line + 1) cells)
 walk-data zero a line (x ∷ image) cells long fits small all free = absurd (omega arith)

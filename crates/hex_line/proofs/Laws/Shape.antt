@@ -12,14 +12,14 @@ use lib.Seq.{take-append-le, drop-append-le, getD-take, getD-drop, take-all, len
 use Rattle.laws.proofs.Tests.{both, by-test}
 use Rattle.hex_format.specs.declared.Line.the-variants.{Bad}
 use Rattle.hex_format.specs.Digits.{digit, all-digits, octets}
-use Rattle.hex_format.specs.Lines.{colon, lf, cr, is-end, count, digits, is-line, sum, adds-up, address, kind, data-of, kinded, judged}
-use Rattle.hex_format.specs.Reading.{joined, lines}
+use Rattle.hex_format.specs.Lines.{colon, lf, cr, is-end, count, digits, is-line, sum, adds-up, address, kind, data-of, kinded, judged-line}
+use Rattle.hex_format.specs.Reading.{joined-line, lines}
 use Rattle.hex_format.proofs.Laws.Lines.{long-line}
-use Rattle.hex_line.specs.Code.Shape.{first-line, weighed, line-end, ended-by, shaped, judgement, line-at}
+use Rattle.hex_line.specs.Code.Shape.{first-line, weighed, line-end, ended-by, shaped, judgement, judgement-at}
 
 -- a file's first line is cut off its front
 pub lines-first : (b : ℕ) (s : List ℕ) → lines (b ∷ s) ≡ first-line (b ∷ s) ∷ lines (drop (length (first-line (b ∷ s))) (b ∷ s))
-unfolding lines joined first-line
+unfolding lines joined-line first-line
 lines-first b [] = by-test (eqb b lf) (λ t. rw t) (λ t. rw t)
 lines-first b (d ∷ s) = by-test (eqb b lf) (λ t. rw t) (λ t. rw (t, lines-first d s))
 
@@ -414,22 +414,22 @@ shaped-long s n =
     let l = ap length (first-front s) ∙ length-append (first-line s) (rest s) in
     omega arith
 
-pub judge-shape : (flash : ℕ) (s : List ℕ) → shaped s ≡ 0 → judgement (Bad 20) 0 ≡ line-at flash s
-unfolding line-at judged
+pub judge-shape : (flash : ℕ) (s : List ℕ) → shaped s ≡ 0 → judgement (Bad 20) 0 ≡ judgement-at flash s
+unfolding judgement-at judged-line
 judge-shape flash s z =
     let n : is-line (first-line s) ≡ false =
     by-test (is-line (first-line s)) (λ e. absurd (let f = first-shaped s e in let g = first-long s e in omega arith)) (λ e. e) in
     rw n
 
 module _ (flash : ℕ) (s : List ℕ) (n : shaped s ≡ 0 → ⊥) where
-  pub judge-sum : (sum (octets (digits s)) % 256 ≡ 0 → ⊥) → judgement (Bad 21) (shaped s) ≡ line-at flash s
-  unfolding line-at judged adds-up
+  pub judge-sum : (sum (octets (digits s)) % 256 ≡ 0 → ⊥) → judgement (Bad 21) (shaped s) ≡ judgement-at flash s
+  unfolding judgement-at judged-line adds-up
   judge-sum z =
       let e = is-shaped s n in
       rw (e, first-digits s e, ne-eqb (sum (octets (digits s)) % 256) 0 z, first-shaped s e)
 
-  pub judge-kind : sum (octets (digits s)) % 256 ≡ 0 → judgement (kinded flash (kind s) (count s) (address s)) (shaped s) ≡ line-at flash s
-  unfolding line-at judged adds-up
+  pub judge-kind : sum (octets (digits s)) % 256 ≡ 0 → judgement (kinded flash (kind s) (count s) (address s)) (shaped s) ≡ judgement-at flash s
+  unfolding judgement-at judged-line adds-up
   judge-kind z =
       let e = is-shaped s n in
       rw (e, first-digits s e, z, first-kind s e, first-count s e, first-address s e, first-shaped s e)

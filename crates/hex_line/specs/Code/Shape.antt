@@ -7,7 +7,7 @@ use lib.Dec.{eqb}
 use lib.ListN.{length, getD, drop}
 use Rattle.hex_format.specs.declared.Line.{Line}
 use Rattle.hex_format.specs.Digits.{octets, all-digits}
-use Rattle.hex_format.specs.Lines.{colon, lf, cr, count, digits, is-line, sum, judged}
+use Rattle.hex_format.specs.Lines.{colon, lf, cr, count, digits, is-line, sum, judged-line}
 
 -- the first line of a file, up to its LF
 unfoldable pub first-line : List ℕ → List ℕ
@@ -22,8 +22,8 @@ pub record Judgement : Type 0 where
 abbrev pub judgement : Line → ℕ → Judgement
 judgement line bytes = record { line = line; bytes = bytes }
 
-unfoldable pub line-at : (flash : ℕ) → List ℕ → Judgement
-line-at flash s = judgement (judged flash (first-line s)) (cond (is-line (first-line s)) (length (first-line s)) 0)
+unfoldable pub judgement-at : (flash : ℕ) → List ℕ → Judgement
+judgement-at flash s = judgement (judged-line flash (first-line s)) (cond (is-line (first-line s)) (length (first-line s)) 0)
 
 -- the low byte of the sum of the digits' bytes; 256 where a character is no digit
 unfoldable pub weighed : List ℕ → ℕ

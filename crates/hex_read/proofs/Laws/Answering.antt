@@ -8,24 +8,24 @@ use borrow.Author.Tests.{lt-ltb, le-ltb, ne-eqb}
 use lib.ListN.{length, take, drop, replicate, length-drop, length-replicate}
 use lib.Seq.{length-take-le}
 use Rattle.laws.proofs.Tests.{by-test}
-use Rattle.hex_format.specs.Reading.{lines, unset, all-unset, first-set, bytes, Walked, walked, shown, shows, copied, cut-out, answered}
+use Rattle.hex_format.specs.Reading.{lines, unset, all-unset, first-set, bytes, Lines-taken, lines-taken, reading-done, image-in-buffer, copied, cut-out, read-answer}
 use Rattle.hex_format.proofs.Laws.Cells.{first-there, past-there, past-zero, past-within, set-from, set-below, bytes-length}
 use Rattle.hex_format.proofs.Laws.Steps.{stays, walk-zero}
 use Rattle.hex_format.proofs.Laws.Pages.{page-start, page-end, page-within}
 use Rattle.hex_read.specs.Code.Walk.{Walks}
 use Rattle.hex_read.specs.Code.Fill.{final, Window}
 
-module _ (size room number line low high : ℕ) (old : List ℕ) (w : Walked) (e : Walks number line low high w) where
-  pub answer-stops : (number ≡ 0 → ⊥) → shown number line 0 0 old ≡ shows (answered size room w) old
-  unfolding answered shows
+module _ (size room number line low high : ℕ) (old : List ℕ) (w : Lines-taken) (e : Walks number line low high w) where
+  pub answer-stops : (number ≡ 0 → ⊥) → reading-done number line 0 0 old ≡ image-in-buffer (read-answer size room w) old
+  unfolding read-answer image-in-buffer
   answer-stops n = rw (← e .same-number, ← e .same-line, ne-eqb number 0 n)
 
   module _ (z : number ≡ 0) where
     ok : w .number ≡ 0
     ok = sym (e .same-number) ∙ z
 
-    pub answer-none : high ≡ 0 → shown 25 0 0 0 old ≡ shows (answered size room w) old
-    unfolding answered cut-out shows
+    pub answer-none : high ≡ 0 → reading-done 25 0 0 0 old ≡ image-in-buffer (read-answer size room w) old
+    unfolding read-answer cut-out image-in-buffer
     answer-none h =
         let u : all-unset (w .cells) ≡ true =
         by-test (all-unset (w .cells)) (λ t. t) (λ t. absurd (let p = past-there (w .cells) t .0 in omega (arith, e .past z))) in
@@ -43,14 +43,14 @@ module _ (size room number line low high : ℕ) (old : List ℕ) (w : Walked) (e
       pub past-end : high ≤ length (w .cells)
       past-end = omega (arith, e .past z, past-within (w .cells))
 
-      pub answer-small : room < (high - 1) / size * size + size - low / size * size → shown 26 0 0 0 old ≡ shows (answered size room w) old
-      unfolding answered cut-out copied shows
+      pub answer-small : room < (high - 1) / size * size + size - low / size * size → reading-done 26 0 0 0 old ≡ image-in-buffer (read-answer size room w) old
+      unfolding read-answer cut-out copied image-in-buffer
       answer-small h =
           rw (ok, touched, ← e .first z, ← e .past z, lt-ltb room ((high - 1) / size * size + size - low / size * size) h)
 
       pub answer-image : (n : ℕ) → n ≡ (high - 1) / size * size + size - low / size * size → n ≤ room → low / size * size + n ≤ length (w .cells)
-          → shown 0 0 (low / size) n (bytes (take n (drop (low / size * size) (w .cells))) ++ drop n old) ≡ shows (answered size room w) old
-      unfolding answered cut-out copied shows
+          → reading-done 0 0 (low / size) n (bytes (take n (drop (low / size * size) (w .cells))) ++ drop n old) ≡ image-in-buffer (read-answer size room w) old
+      unfolding read-answer cut-out copied image-in-buffer
       answer-image n q h g =
           let l : length (bytes (take n (drop (low / size * size) (w .cells)))) ≡ n =
           bytes-length (take n (drop (low / size * size) (w .cells)))
@@ -58,24 +58,24 @@ module _ (size room number line low high : ℕ) (old : List ℕ) (w : Walked) (e
           rw (ok, touched, ← e .first z, ← e .past z, ← q, le-ltb room n h, l)
 
 -- the window of an accepted file
-pub final-long : (flash : ℕ) (file : List ℕ) → walked 0 false (replicate flash unset) (lines file) .number ≡ 0 → length (final flash file) ≡ flash
+pub final-long : (flash : ℕ) (file : List ℕ) → lines-taken 0 false (replicate flash unset) (lines file) .number ≡ 0 → length (final flash file) ≡ flash
 unfolding final
 final-long flash file z =
     stays 0 false (replicate flash unset) (lines file) (final flash file) (walk-zero 0 false (replicate flash unset) (lines file) z) .0
     ∙ length-replicate {A = ℕ} flash unset
 
-module _ (size count number line low high : ℕ) (file : List ℕ) (e : Walks number line low high (walked 0 false (replicate (size * count) unset) (lines file)))
+module _ (size count number line low high : ℕ) (file : List ℕ) (e : Walks number line low high (lines-taken 0 false (replicate (size * count) unset) (lines file)))
     (z : number ≡ 0) (some : high ≡ 0 → ⊥) (pos : 0 < size) where
-  pub window-cells : length (walked 0 false (replicate (size * count) unset) (lines file) .cells) ≡ size * count
+  pub window-cells : length (lines-taken 0 false (replicate (size * count) unset) (lines file) .cells) ≡ size * count
   unfolding final
   window-cells = final-long (size * count) file (sym (e .same-number) ∙ z)
 
   pub window-order : low < high
-  window-order = in-order size 0 number line low high [] (walked 0 false (replicate (size * count) unset) (lines file)) e z some
+  window-order = in-order size 0 number line low high [] (lines-taken 0 false (replicate (size * count) unset) (lines file)) e z some
 
   pub window-past : high ≤ size * count
   window-past =
-      let p = past-end size 0 number line low high [] (walked 0 false (replicate (size * count) unset) (lines file)) e z some in
+      let p = past-end size 0 number line low high [] (lines-taken 0 false (replicate (size * count) unset) (lines file)) e z some in
       let l = window-cells in
       omega arith
 
@@ -97,11 +97,11 @@ module _ (size count number line low high : ℕ) (file : List ℕ) (e : Walks nu
       record {
         right = sym (e .same-number) ∙ z;
         from = λ k s.
-            let f = set-from (walked 0 false (replicate (size * count) unset) (lines file) .cells) k s in
+            let f = set-from (lines-taken 0 false (replicate (size * count) unset) (lines file) .cells) k s in
             let p = page-start low size in
             omega (arith, e .first z);
         below = λ k s.
-            let f = set-below (walked 0 false (replicate (size * count) unset) (lines file) .cells) k s in
+            let f = set-below (lines-taken 0 false (replicate (size * count) unset) (lines file) .cells) k s in
             let p = page-end (high - 1) size pos in
             omega (arith, e .past z);
         inside = omega arith;

@@ -8,9 +8,10 @@ use native.Mathlib.Omega.{arith}
 use native.Mathlib.Decide.{decLe, decLt}
 use lib.ListN.{length, getD, take, drop, replicate, length-drop, length-replicate, getD-replicate, drop-of-length-le}
 use lib.Seq.{sets, length-sets, getD-drop, ext-getD}
-use Rattle.hex_format.specs.Digits.{Bytes, octets}
+use Rattle.laws.specs.Bytes.{Bytes}
+use Rattle.hex_format.specs.Digits.{octets}
 use Rattle.hex_format.specs.Lines.{lf, is-line, count, address, data-of}
-use Rattle.hex_format.specs.Reading.{lines, unset, byte, bytes, Taken, taken, Walked, ended-with, walked}
+use Rattle.hex_format.specs.Reading.{lines, unset, cell-byte, bytes, Line-taken, line-taken, Lines-taken, ended-with, lines-taken}
 use Rattle.hex_format.proofs.Laws.Lines.{closes}
 use Rattle.hex_format.proofs.Laws.Cells.{cell, sets-before, sets-in, sets-after, stored-set, window-long, window-at, byte-is, byte-below, unset-at, unset-fresh}
 use Rattle.hex_format.proofs.Laws.Steps.{accepted, Stored, Ended, Placed, in-place, walk-accepts, walk-rest, stays, walk-zero}
@@ -47,14 +48,14 @@ module _ (s : List ℕ) (e : is-line (first-line s) ≡ true) where
 
 -- the window of a fresh flash, and of cells with data stored
 pub window-fresh : (flash start n : ℕ) → start + n ≤ flash → replicate n 0xff ≡ bytes (take n (drop start (replicate flash unset)))
-unfolding byte
+unfolding cell-byte
 window-fresh flash start n h =
     let l = length-replicate {A = ℕ} flash unset in
     let w : length (bytes (take n (drop start (replicate flash unset)))) ≡ n = window-long (replicate flash unset) start n (omega arith) in
     let r = length-replicate {A = ℕ} n 0xff in
     ext-getD 0xff (replicate n 0xff) (bytes (take n (drop start (replicate flash unset)))) (r ∙ sym w)
     (λ i k. getD-replicate n i 0xff 0xff (omega arith)
-    ∙ ap byte (sym (unset-at (replicate flash unset) (start + i) (unset-fresh flash)))
+    ∙ ap cell-byte (sym (unset-at (replicate flash unset) (start + i) (unset-fresh flash)))
     ∙ sym (window-at (replicate flash unset) start n (omega arith) i (omega arith)))
 
 pub window-sets : (cells : List ℕ) (start n a : ℕ) (vs : List ℕ) → start + n ≤ length cells → start ≤ a → a + length vs ≤ start + n → Bytes vs
@@ -69,11 +70,11 @@ window-sets cells start n a vs fits from below all =
     (λ i h. at i (omega arith) (decLt i (a - start)) (decLt i (a - start + length vs)) ∙ sym (window-at (sets cells a vs) start n (omega arith) i (omega arith)))
   where
     at : (i : ℕ) → i < n → Dec (i < a - start) → Dec (i < a - start + length vs)
-        → getD (sets (bytes (take n (drop start cells))) (a - start) vs) i 0xff ≡ byte (cell (sets cells a vs) (start + i))
+        → getD (sets (bytes (take n (drop start cells))) (a - start) vs) i 0xff ≡ cell-byte (cell (sets cells a vs) (start + i))
     at i h (yes y) z =
         sets-before 0xff vs (bytes (take n (drop start cells))) (a - start) i y
         ∙ window-at cells start n fits i h
-        ∙ ap byte (sym (sets-before unset vs cells a (start + i) (omega arith)))
+        ∙ ap cell-byte (sym (sets-before unset vs cells a (start + i) (omega arith)))
     at i h (no y) (yes z) =
         let j = i - (a - start) in
         let w = window-long cells start n fits in
@@ -84,7 +85,7 @@ window-sets cells start n a vs fits from below all =
         (rw e at p)
         ∙ same vs j (omega arith)
         ∙ sym (byte-is (getD vs j unset) (byte-below vs j unset all (omega arith)))
-        ∙ ap byte (sym (rw f at q))
+        ∙ ap cell-byte (sym (rw f at q))
       where
         same : (vs : List ℕ) (j : ℕ) → j < length vs → getD vs j 0xff ≡ getD vs j unset
         same [] j h = absurd (omega arith)
@@ -93,7 +94,7 @@ window-sets cells start n a vs fits from below all =
     at i h (no y) (no z) =
         sets-after 0xff vs (bytes (take n (drop start cells))) (a - start) i (omega arith)
         ∙ window-at cells start n fits i h
-        ∙ ap byte (sym (sets-after unset vs cells a (start + i) (omega arith)))
+        ∙ ap cell-byte (sym (sets-after unset vs cells a (start + i) (omega arith)))
 
 -- with the file read to a place, the image has the bytes set so far
 pub record Filling (file last : List ℕ) (start n : ℕ) (image : List ℕ) (at : ℕ) : Type 0 where
@@ -102,7 +103,7 @@ pub record Filling (file last : List ℕ) (start n : ℕ) (image : List ℕ) (at
   pub ended : Bool
   pub cells : List ℕ
   pub size : start + n ≤ length cells
-  pub goes : walked line ended cells (lines (drop at file)) ≡ ended-with 0 0 last
+  pub goes : lines-taken line ended cells (lines (drop at file)) ≡ ended-with 0 0 last
   pub holds : image ≡ bytes (take n (drop start cells))
 
 pub fill-starts : (file : List ℕ) (start n flash : ℕ) (image : List ℕ) → Window file start n flash → image ≡ replicate n 0xff
@@ -131,11 +132,11 @@ module _ (file : List ℕ) (start n flash : ℕ) (image : List ℕ) (at : ℕ) (
   abbrev l : List ℕ
   l = first-line (drop at file)
 
-  abbrev t : Taken
-  t = taken (f .ended) (f .cells) (first-line (drop at file))
+  abbrev t : Line-taken
+  t = line-taken (f .ended) (f .cells) (first-line (drop at file))
 
-  here : walked (f .line) (f .ended) (f .cells) (l ∷ lines (drop (at + length l) file)) ≡ ended-with 0 0 (final flash file)
-  here = ap (walked (f .line) (f .ended) (f .cells)) (sym (cuts at file h)) ∙ f .goes
+  here : lines-taken (f .line) (f .ended) (f .cells) (l ∷ lines (drop (at + length l) file)) ≡ ended-with 0 0 (final flash file)
+  here = ap (lines-taken (f .line) (f .ended) (f .cells)) (sym (cuts at file h)) ∙ f .goes
 
   right : t .number ≡ 0
   right = walk-accepts (f .line) (f .ended) (f .cells) l (lines (drop (at + length l) file)) (final flash file) here
@@ -225,8 +226,8 @@ module _ (file : List ℕ) (start n flash : ℕ) (image : List ℕ) (at : ℕ) (
 
 pub fill-ends : (file : List ℕ) (start n flash : ℕ) (image : List ℕ) (at : ℕ) → Filling file (final flash file) start n image at → length file ≤ at
     → image ≡ filled flash start n file
-unfolding filled walked lines
+unfolding filled lines-taken lines
 fill-ends file start n flash image at f h =
-    let e : walked (f .line) (f .ended) (f .cells) [] ≡ ended-with 0 0 (final flash file) =
-    ap (λ s. walked (f .line) (f .ended) (f .cells) (lines s)) (sym (drop-of-length-le file {i = at} h)) ∙ f .goes in
-    f .holds ∙ ap (λ x. bytes (take n (drop start x))) (ap (λ (v : Walked). v .cells) e)
+    let e : lines-taken (f .line) (f .ended) (f .cells) [] ≡ ended-with 0 0 (final flash file) =
+    ap (λ s. lines-taken (f .line) (f .ended) (f .cells) (lines s)) (sym (drop-of-length-le file {i = at} h)) ∙ f .goes in
+    f .holds ∙ ap (λ x. bytes (take n (drop start x))) (ap (λ (v : Lines-taken). v .cells) e)

@@ -13,16 +13,16 @@ use lib.Seq.{sets, length-sets, take-all, drop-cons, drop-drop}
 use Rattle.laws.proofs.Tests.{by-test}
 use Rattle.hex_format.specs.declared.Line.{Line}
 use Rattle.hex_format.specs.declared.Line.the-variants.{Bad, Data, Last}
-use Rattle.hex_format.specs.Digits.{Bytes}
-use Rattle.hex_format.specs.Lines.{is-line, judged, data-of}
-use Rattle.hex_format.specs.Reading.{lines, unset, all-unset, first-set, past-set, Taken, took, placed, taken-as, taken, ended-with, walked}
+use Rattle.laws.specs.Bytes.{Bytes}
+use Rattle.hex_format.specs.Lines.{is-line, judged-line, data-of}
+use Rattle.hex_format.specs.Reading.{lines, unset, all-unset, first-set, past-set, Line-taken, took, placed, taken-as, line-taken, ended-with, lines-taken}
 use Rattle.hex_format.proofs.Laws.Lines.{held, closes, long-line}
 use Rattle.hex_format.proofs.Laws.Cells.{cell, unset-at, unset-fresh, first-fresh, past-fresh, run-unset, run-set, stored-set, kept, first-before, first-is, first-there, first-length, past-after, past-is, past-there, past-zero}
 use Rattle.hex_format.proofs.Laws.Steps.{step-on, step-stop, accepted, Stored, Ended, in-place}
-use Rattle.hex_line.specs.Code.Shape.{first-line, judgement, Judgement, line-at}
+use Rattle.hex_line.specs.Code.Shape.{first-line, judgement, Judgement, judgement-at}
 use Rattle.hex_line.proofs.Laws.Shape.{lines-first, first-front, rest}
-use Rattle.hex_read.specs.Code.Map.{marked, Run, Clash}
-use Rattle.hex_read.specs.Code.Walk.{Follows, Within, Takes, Takes-data, Takes-line, Walks}
+use Rattle.hex_read.specs.Code.Map.{marked-at, Run, Clash}
+use Rattle.hex_read.specs.Code.Walk.{Map-follows, Within, Takes, Takes-data, Takes-line, Walks}
 use Rattle.hex_read.proofs.Laws.Marking.{clear-marked}
 
 -- a cell's mark
@@ -33,7 +33,7 @@ mark-taken : (x : ℕ) → (_≡_ {A = ℕ} (cond (eqb x unset) 0 1) 0 → ⊥) 
 mark-taken x n e = n (rw (eq-eqb x unset e))
 
 -- a clear map stands for a flash with nothing set
-pub follows-fresh : (n flash : ℕ) → Follows (replicate n 0) flash 0 (replicate flash unset)
+pub follows-fresh : (n flash : ℕ) → Map-follows (replicate n 0) flash 0 (replicate flash unset)
 follows-fresh n flash =
     record {
       marks = λ k h. clear-marked n k ∙ rw (eq-eqb (cell (replicate flash unset) k) unset (unset-at (replicate flash unset) k (unset-fresh flash)));
@@ -42,21 +42,21 @@ follows-fresh n flash =
     }
 
 -- data marked where nothing was set
-module _ (old new : List ℕ) (low high : ℕ) (cells : List ℕ) (f : Follows old low high cells) (a : ℕ) (vs : List ℕ)
+module _ (old new : List ℕ) (low high : ℕ) (cells : List ℕ) (f : Map-follows old low high cells) (a : ℕ) (vs : List ℕ)
     (r : Run old new a (length vs)) (fits : a + length vs ≤ length cells) (all : Bytes vs) (some : 0 < length vs) where
   free : (k : ℕ) → a ≤ k → k < a + length vs → cell cells k ≡ unset
   free k g h = mark-free (cell cells k) (sym (f .marks k (omega arith)) ∙ r .free k g h)
 
-  new-marks : (k : ℕ) → k < length (sets cells a vs) → marked new k ≡ cond (eqb (cell (sets cells a vs) k) unset) 0 1
+  new-marks : (k : ℕ) → k < length (sets cells a vs) → marked-at new k ≡ cond (eqb (cell (sets cells a vs) k) unset) 0 1
   new-marks k h = go (decLe a k) (decLt k (a + length vs))
     where
       within : k < length cells
       within = let l = length-sets cells a vs in omega arith
 
-      outside : (a ≤ k → k < a + length vs → ⊥) → marked new k ≡ cond (eqb (cell (sets cells a vs) k) unset) 0 1
+      outside : (a ≤ k → k < a + length vs → ⊥) → marked-at new k ≡ cond (eqb (cell (sets cells a vs) k) unset) 0 1
       outside n = r .outside k n ∙ f .marks k within ∙ ap (λ x. cond (eqb x unset) 0 1) (sym (kept cells a vs fits all k n))
 
-      go : Dec (a ≤ k) → Dec (k < a + length vs) → marked new k ≡ cond (eqb (cell (sets cells a vs) k) unset) 0 1
+      go : Dec (a ≤ k) → Dec (k < a + length vs) → marked-at new k ≡ cond (eqb (cell (sets cells a vs) k) unset) 0 1
       go (yes y) (yes z) = r .inside k y z ∙ rw (ne-eqb (cell (sets cells a vs) k) unset (stored-set cells a vs fits all k y z))
       go (yes y) (no z) = outside (λ g h. z h)
       go (no y) z = outside (λ g h. y g)
@@ -113,7 +113,7 @@ module _ (old new : List ℕ) (low high : ℕ) (cells : List ℕ) (f : Follows o
           ∙ past-is (sets cells a vs) k (λ i h. behind i (omega arith) (omega arith))
           (λ z. there (omega arith) (sym (kept cells a vs fits all k (λ u v. omega arith)) ∙ z)))
 
-  pub follows-data : Follows new (cond (leb low a) low a) (cond (leb high (a + length vs)) (a + length vs) high) (sets cells a vs)
+  pub follows-data : Map-follows new (cond (leb low a) low a) (cond (leb high (a + length vs)) (a + length vs) high) (sets cells a vs)
   follows-data = record { marks = new-marks; first = new-first; past = new-past }
 
 -- a record with data: marked, or an address of it was marked before
@@ -127,7 +127,7 @@ data-runs old new a n ended low high r cells vs f fits long all some =
     let d = follows-data old new low high cells f a vs t p all (omega arith) in
     rw u (go ended (rw long at d))
   where
-    go : (ended : Bool) → Follows new (cond (leb low a) low a) (cond (leb high (a + n)) (a + n) high) (sets cells a vs)
+    go : (ended : Bool) → Map-follows new (cond (leb low a) low a) (cond (leb high (a + n)) (a + n) high) (sets cells a vs)
         → Takes new (cond ended 24 0) ended (cond (leb low a) low a) (cond (leb high (a + n)) (a + n) high) (cond ended (took 24 ended cells) (took 0 ended (sets cells a vs)))
     go true d = record { same-number = refl; same-end = refl; follows = λ z. absurd (omega arith) }
     go false d = record { same-number = refl; same-end = refl; follows = λ z. d }
@@ -142,11 +142,11 @@ data-clashes old new a n ended low high x cells vs f fits long all some =
 
 -- a line that has been judged
 pub bad-takes : (map : List ℕ) (number : ℕ) (ended : Bool) (low high : ℕ) → Takes-line map map (Bad number) ended low high number ended low high
-unfolding taken taken-as
+unfolding line-taken taken-as
 bad-takes map number ended low high cells l e f = rw (← e) (record { same-number = refl; same-end = refl; follows = λ z. f })
 
 pub none-takes : (map : List ℕ) (a : ℕ) (ended : Bool) (low high : ℕ) → Takes-line map map (Data a 0) ended low high (cond ended 24 0) ended low high
-unfolding taken taken-as placed all-unset
+unfolding line-taken taken-as placed all-unset
 none-takes map a ended low high cells l e f =
     let p = in-place cells l a 0 (sym e) in
     rw (← e) (go ended (empty (data-of l) (p .long)))
@@ -161,12 +161,12 @@ none-takes map a ended low high cells l e f =
     go false s = rw s (record { same-number = refl; same-end = refl; follows = λ z. f })
 
 pub last-takes : (map : List ℕ) (ended : Bool) (low high : ℕ) → Takes-line map map Last ended low high (cond ended 24 0) true low high
-unfolding taken taken-as
+unfolding line-taken taken-as
 last-takes map ended low high cells l e f = rw (← e) (record { same-number = refl; same-end = refl; follows = λ z. f })
 
 pub data-takes : (old new : List ℕ) (a n : ℕ) (ended : Bool) (low high number : ℕ) (next : Bool) (lower higher : ℕ) → (n ≡ 0 → ⊥)
     → Takes-data old new a n ended low high number next lower higher → Takes-line old new (Data a n) ended low high number next lower higher
-unfolding taken taken-as
+unfolding line-taken taken-as
 data-takes old new a n ended low high number next lower higher some t cells l e f =
     let p = in-place cells l a n (sym e) in
     rw (← e) (t cells (data-of l) f (p .room some) (p .long) (p .bytes) some)
@@ -188,18 +188,18 @@ pub first-within : (s : List ℕ) → length (first-line s) ≤ length s
 first-within s = let e = ap length (first-front s) ∙ length-append (first-line s) (rest s) in omega arith
 
 -- an accepted line has a record's shape
-pub accepted-shape : (ended : Bool) (cells l : List ℕ) → taken ended cells l .number ≡ 0 → is-line l ≡ true
+pub accepted-shape : (ended : Bool) (cells l : List ℕ) → line-taken ended cells l .number ≡ 0 → is-line l ≡ true
 accepted-shape ended cells l z =
     ⊎-elim
-    (λ (s : Stored cells l (taken ended cells l)). held (length cells) l (s .a) (s .n) (s .line) .shape)
-    (λ (s : Ended cells l (taken ended cells l)). closes (length cells) l (s .line) .shape)
+    (λ (s : Stored cells l (line-taken ended cells l)). held (length cells) l (s .a) (s .n) (s .line) .shape)
+    (λ (s : Ended cells l (line-taken ended cells l)). closes (length cells) l (s .line) .shape)
     (accepted ended cells l z .1)
 
-accepted-size : (ended : Bool) (cells l : List ℕ) → taken ended cells l .number ≡ 0 → length (taken ended cells l .cells) ≡ length cells
+accepted-size : (ended : Bool) (cells l : List ℕ) → line-taken ended cells l .number ≡ 0 → length (line-taken ended cells l .cells) ≡ length cells
 accepted-size ended cells l z =
     ⊎-elim
-    (λ (s : Stored cells l (taken ended cells l)). ap (λ (t : Taken). length (t .cells)) (s .gives) ∙ length-sets cells (s .a) (data-of l))
-    (λ (s : Ended cells l (taken ended cells l)). ap (λ (t : Taken). length (t .cells)) (s .gives))
+    (λ (s : Stored cells l (line-taken ended cells l)). ap (λ (t : Line-taken). length (t .cells)) (s .gives) ∙ length-sets cells (s .a) (data-of l))
+    (λ (s : Ended cells l (line-taken ended cells l)). ap (λ (t : Line-taken). length (t .cells)) (s .gives))
     (accepted ended cells l z .1)
 
 -- with the file read to a place, the code's state stands for that of the fold
@@ -208,8 +208,8 @@ pub record Walking (map file : List ℕ) (flash at line : ℕ) (ended : Bool) (l
   pub counted : line ≤ at
   pub cells : List ℕ
   pub size : length cells ≡ flash
-  pub follows : Follows map low high cells
-  pub goes : walked 0 false (replicate flash unset) (lines file) ≡ walked line ended cells (lines (drop at file))
+  pub follows : Map-follows map low high cells
+  pub goes : lines-taken 0 false (replicate flash unset) (lines file) ≡ lines-taken line ended cells (lines (drop at file))
 
 pub walk-starts : (n flash : ℕ) (file map : List ℕ) → map ≡ replicate n 0 → Walking map file flash 0 0 false flash 0
 walk-starts n flash file map e =
@@ -222,47 +222,47 @@ walk-starts n flash file map e =
       goes = refl;
     }
 
-pub judged-within : (flash : ℕ) (s : List ℕ) (line : Line) (bytes most : ℕ) → judgement line bytes ≡ line-at flash s → flash ≤ most → Within line most
-unfolding line-at
+pub judged-within : (flash : ℕ) (s : List ℕ) (line : Line) (bytes most : ℕ) → judgement line bytes ≡ judgement-at flash s → flash ≤ most → Within line most
+unfolding judgement-at
 judged-within flash s line bytes most j h a n e some =
-    let p : line ≡ judged flash (first-line s) = ap (λ (x : Judgement). x .line) j in
+    let p : line ≡ judged-line flash (first-line s) = ap (λ (x : Judgement). x .line) j in
     let r = held flash (first-line s) a n (sym p ∙ e) .room some in
     omega arith
 
 module _ (map file : List ℕ) (flash at line : ℕ) (ended : Bool) (low high : ℕ) (w : Walking map file flash at line ended low high)
-    (h : at < length file) (found : Line) (bytes : ℕ) (j : judgement found bytes ≡ line-at flash (drop at file))
+    (h : at < length file) (found : Line) (bytes : ℕ) (j : judgement found bytes ≡ judgement-at flash (drop at file))
     (new : List ℕ) (number : ℕ) (next : Bool) (lower higher : ℕ)
     (t : Takes-line map new found ended low high number next lower higher) where
   abbrev l : List ℕ
   l = first-line (drop at file)
 
-  is-judged : found ≡ judged (length (w .cells)) l
-  unfolding line-at
-  is-judged = ap (λ (x : Judgement). x .line) j ∙ ap (λ n. judged n l) (sym (w .size))
+  is-judged : found ≡ judged-line (length (w .cells)) l
+  unfolding judgement-at
+  is-judged = ap (λ (x : Judgement). x .line) j ∙ ap (λ n. judged-line n l) (sym (w .size))
 
-  takes : Takes new number next lower higher (taken ended (w .cells) l)
+  takes : Takes new number next lower higher (line-taken ended (w .cells) l)
   takes = t (w .cells) l is-judged (w .follows)
 
-  same : (x : Taken) → Takes new number next lower higher x → x ≡ took number next (x .cells)
+  same : (x : Line-taken) → Takes new number next lower higher x → x ≡ took number next (x .cells)
   same x s = rw (s .same-number, s .same-end)
 
   cut : lines (drop at file) ≡ l ∷ lines (drop (at + length l) file)
   cut = cuts at file h
 
-  pub walk-stops : (number ≡ 0 → ⊥) → Walks number (line + 1) 0 0 (walked 0 false (replicate flash unset) (lines file))
+  pub walk-stops : (number ≡ 0 → ⊥) → Walks number (line + 1) 0 0 (lines-taken 0 false (replicate flash unset) (lines file))
   walk-stops n =
-      let e : walked 0 false (replicate flash unset) (lines file) ≡ ended-with number (line + 1) (taken ended (w .cells) l .cells) =
+      let e : lines-taken 0 false (replicate flash unset) (lines file) ≡ ended-with number (line + 1) (line-taken ended (w .cells) l .cells) =
       w .goes
-      ∙ ap (walked line ended (w .cells)) cut
-      ∙ step-stop line number ended next (w .cells) (taken ended (w .cells) l .cells) l (lines (drop (at + length l) file)) (same (taken ended (w .cells) l) takes) n in
+      ∙ ap (lines-taken line ended (w .cells)) cut
+      ∙ step-stop line number ended next (w .cells) (line-taken ended (w .cells) l .cells) l (lines (drop (at + length l) file)) (same (line-taken ended (w .cells) l) takes) n in
       rw e (record { same-number = refl; same-line = refl; first = λ z. absurd (n z); past = λ z. absurd (n z) })
 
   module _ (z : number ≡ 0) where
-    right : taken ended (w .cells) l .number ≡ 0
+    right : line-taken ended (w .cells) l .number ≡ 0
     right = sym (takes .same-number) ∙ z
 
     pub goes-by : bytes ≡ length l
-    unfolding line-at
+    unfolding judgement-at
     goes-by = ap (λ (x : Judgement). x .bytes) j ∙ rw (accepted-shape ended (w .cells) l right)
 
     pub by-some : 11 < length l
@@ -282,21 +282,21 @@ module _ (map file : List ℕ) (flash at line : ℕ) (ended : Bool) (low high : 
         record {
           within = by-within;
           counted = let c = w .counted in omega arith;
-          cells = taken ended (w .cells) l .cells;
+          cells = line-taken ended (w .cells) l .cells;
           size = accepted-size ended (w .cells) l right ∙ w .size;
           follows = takes .follows z;
           goes =
               w .goes
-              ∙ ap (walked line ended (w .cells)) cut
-              ∙ step-on line ended next (w .cells) (taken ended (w .cells) l .cells) l (lines (drop (at + length l) file))
-              (same (taken ended (w .cells) l) takes ∙ ap (λ n. took n next (taken ended (w .cells) l .cells)) z)
-              ∙ ap (λ n. walked (line + 1) next (taken ended (w .cells) l .cells) (lines (drop (at + n) file))) (sym b);
+              ∙ ap (lines-taken line ended (w .cells)) cut
+              ∙ step-on line ended next (w .cells) (line-taken ended (w .cells) l .cells) l (lines (drop (at + length l) file))
+              (same (line-taken ended (w .cells) l) takes ∙ ap (λ n. took n next (line-taken ended (w .cells) l .cells)) z)
+              ∙ ap (λ n. lines-taken (line + 1) next (line-taken ended (w .cells) l .cells) (lines (drop (at + n) file))) (sym b);
         }
 
 pub walk-ends : (map file : List ℕ) (flash at line : ℕ) (ended : Bool) (low high : ℕ) → Walking map file flash at line ended low high → length file ≤ at
-    → Walks (cond ended 0 24) 0 low high (walked 0 false (replicate flash unset) (lines file))
-unfolding walked lines
+    → Walks (cond ended 0 24) 0 low high (lines-taken 0 false (replicate flash unset) (lines file))
+unfolding lines-taken lines
 walk-ends map file flash at line ended low high w h =
-    let e : walked 0 false (replicate flash unset) (lines file) ≡ ended-with (cond ended 0 24) 0 (w .cells) =
-    w .goes ∙ ap (λ s. walked line ended (w .cells) (lines s)) (drop-of-length-le file {i = at} h) in
+    let e : lines-taken 0 false (replicate flash unset) (lines file) ≡ ended-with (cond ended 0 24) 0 (w .cells) =
+    w .goes ∙ ap (λ s. lines-taken line ended (w .cells) (lines s)) (drop-of-length-le file {i = at} h) in
     rw e (record { same-number = refl; same-line = refl; first = λ z. w .follows .first; past = λ z. w .follows .past })

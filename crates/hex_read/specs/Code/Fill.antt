@@ -5,15 +5,15 @@ use mathlib.Core.Bool.{false}
 use mathlib.Core.List.{List}
 use Prim.Native.Nat.{ℕ, _+_, _≤_, _<_}
 use lib.ListN.{getD, take, drop, replicate}
-use Rattle.hex_format.specs.Reading.{lines, unset, walked, bytes}
+use Rattle.hex_format.specs.Reading.{lines, unset, lines-taken, bytes}
 
 -- what is set at the end of a file, in a flash of so many bytes
 unfoldable pub final : (flash : ℕ) (file : List ℕ) → List ℕ
-final flash file = walked 0 false (replicate flash unset) (lines file) .cells
+final flash file = lines-taken 0 false (replicate flash unset) (lines file) .cells
 
 -- the file is accepted, and all that it sets lies in the window
 pub record Window (file : List ℕ) (start bytes flash : ℕ) : Type 0 where
-  pub right : walked 0 false (replicate flash unset) (lines file) .number ≡ 0
+  pub right : lines-taken 0 false (replicate flash unset) (lines file) .number ≡ 0
   pub from : (k : ℕ) → (getD (final flash file) k unset ≡ unset → ⊥) → start ≤ k
   pub below : (k : ℕ) → (getD (final flash file) k unset ≡ unset → ⊥) → k < start + bytes
   pub inside : start + bytes ≤ flash

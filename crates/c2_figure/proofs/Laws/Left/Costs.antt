@@ -20,7 +20,7 @@ use Rattle.c2_acts.specs.declared.Task.{Task}
 use Rattle.c2_acts.specs.declared.Task.the-variants.{Reset, Pause, Address, Send, Input, Output, Ident, Status, Compare}
 use Rattle.c2_session.specs.declared.Session.{Session}
 use Rattle.c2_acts.specs.Code.Acts.{task-of, acts-in}
-use Rattle.c2_session.specs.Code.Next.{at}
+use Rattle.c2_session.specs.Code.Next.{act-at}
 use Rattle.c2_range.specs.Range.{pages-in, blocks-in}
 use Rattle.c2_position.specs.Position.{page-at, block-at, stage-acts, pages-from, writes-from, reads-from, after-stage}
 use Rattle.c2_range.proofs.Laws.Acts.{task-act}
@@ -148,7 +148,7 @@ module _ (w r : ℕ) where
             rw d (rw q (sym (stage-ends g)))
         down (suc m) k e =
             let l : suc k < length (stage-acts g s image i j) = rw (stage-length s image h g i j gi gj) (omega arith) in
-            let c : cost (limits w r) (act-here s image h g (at g i j (suc k))) ≡ task-cost w r (task-of g (suc k)) = act-costs (task-of g (suc k)) _ _ _ in
+            let c : cost (limits w r) (act-here s image h g (act-at g i j (suc k))) ≡ task-cost w r (task-of g (suc k)) = act-costs (task-of g (suc k)) _ _ _ in
             rw (drop-cons (stage-acts g s image i j) (suc k) reset-pulse l, stands s image h g i j (suc k) reset-pulse gi gj (omega arith))
             (omega (arith, c, down m (suc k) (omega arith), stage-on g k (omega arith)))
 

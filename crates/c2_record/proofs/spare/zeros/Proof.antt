@@ -1,6 +1,6 @@
 use borrow.Author.Needs.{needs}
 use Rattle.laws.proofs.Pick.{picks}
-use Rattle.c2_record.specs.Code.Spare.{zeros}
+use Rattle.c2_record.specs.Code.Spare.{all-zero}
 use Rattle.c2_record.proofs.spare.zeros.Statement.{statement}
 use Rattle.c2_record.proofs.spare.zeros.Tie as tie
 
@@ -56,11 +56,11 @@ four-requires-2 : tie.Need-four-requires-2
 four-requires-2 c κs = search needs
 
 returns : tie.Need-returns
-unfolding zeros
+unfolding all-zero
 returns c = rw (c .four2 .ensures) (search (needs, picks))
 
 returns-2 : tie.Need-returns-2
-unfolding zeros
+unfolding all-zero
 returns-2 c = search (needs, picks)
 
 pub zeros-spec : {M : Type 1} → statement M

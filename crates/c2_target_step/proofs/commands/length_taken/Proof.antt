@@ -1,6 +1,6 @@
 use mathlib.Core.Path.{sym, _∙_}
 use borrow.Author.Needs.{needs}
-use Rattle.c2_target.specs.Commands.{takes}
+use Rattle.c2_target.specs.Commands.{takes-put}
 use Rattle.c2_target_step.proofs.commands.length_taken.Statement.{statement}
 use Rattle.c2_target_step.proofs.commands.length_taken.Tie as tie
 
@@ -11,22 +11,22 @@ in-flash-requires : tie.Need-in-flash-requires
 in-flash-requires c κs = search needs
 
 returns : tie.Need-returns
-unfolding takes
+unfolding takes-put
 returns c = λ t. rw (c .before .before .if1 .taken, ← c .before .before .before .coded-length .ensures, sym (c .before .in-flash .ensures) ∙ c .if2 .taken)
 
 returns-2 : tie.Need-returns-2
-unfolding takes
+unfolding takes-put
 returns-2 c = λ t. rw (c .before .before .if1 .taken, ← c .before .before .before .coded-length .ensures, sym (c .before .in-flash .ensures) ∙ c .if2 .left)
 
 in-flash-requires-2 : tie.Need-in-flash-requires-2
 in-flash-requires-2 c κs = search needs
 
 returns-3 : tie.Need-returns-3
-unfolding takes
+unfolding takes-put
 returns-3 c = λ t. rw (c .before .before .if1 .left, ← c .before .before .before .coded-length .ensures, sym (c .before .in-flash2 .ensures) ∙ c .if3 .taken)
 
 returns-4 : tie.Need-returns-4
-unfolding takes
+unfolding takes-put
 returns-4 c = λ t. rw (c .before .before .if1 .left, ← c .before .before .before .coded-length .ensures, sym (c .before .in-flash2 .ensures) ∙ c .if3 .left)
 
 pub length-taken-spec : {M : Type 1} → statement M

@@ -1,6 +1,6 @@
 use mathlib.Core.Path.{refl}
 use borrow.Author.Needs.{needs}
-use Rattle.c2_target.specs.Commands.{takes}
+use Rattle.c2_target.specs.Commands.{takes-put}
 use Rattle.c2_target_step.proofs.commands.low_taken.Statement.{statement}
 use Rattle.c2_target_step.proofs.commands.low_taken.Tie as tie
 
@@ -11,7 +11,7 @@ add-t5 : tie.Need-add-t5
 add-t5 c = search needs
 
 returns : tie.Need-returns
-unfolding takes
+unfolding takes-put
 returns c = λ t. refl
 
 pub low-taken-spec : {M : Type 1} → statement M

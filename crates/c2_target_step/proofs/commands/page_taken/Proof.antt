@@ -1,6 +1,6 @@
 use borrow.Author.Tests.{lt-ltb, le-ltb}
 use borrow.Author.Needs.{needs}
-use Rattle.c2_target.specs.Commands.{takes}
+use Rattle.c2_target.specs.Commands.{takes-put}
 use Rattle.c2_target_step.proofs.commands.page_taken.Statement.{statement}
 use Rattle.c2_target_step.proofs.commands.page_taken.Tie as tie
 
@@ -8,11 +8,11 @@ cast-if1 : tie.Need-cast-if1
 cast-if1 c = search needs
 
 returns : tie.Need-returns
-unfolding takes
+unfolding takes-put
 returns c = λ f. rw (lt-ltb _ _ (c .if1 .taken))
 
 returns-2 : tie.Need-returns-2
-unfolding takes
+unfolding takes-put
 returns-2 c = λ f. rw (le-ltb _ _ (c .if1 .left))
 
 pub page-taken-spec : {M : Type 1} → statement M

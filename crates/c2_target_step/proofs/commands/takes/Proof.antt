@@ -1,5 +1,5 @@
 use borrow.Author.Needs.{needs}
-use Rattle.c2_target.specs.Commands.{takes}
+use Rattle.c2_target.specs.Commands.{takes-put}
 use Rattle.c2_target.specs.Known.{known-command}
 use Rattle.c2_target_step.proofs.Laws.Known.{byte-says, block-says}
 use Rattle.c2_target_step.proofs.commands.takes.Statement.{statement}
@@ -53,35 +53,35 @@ past-end-taken-requires : tie.Need-past-end-taken-requires
 past-end-taken-requires c κs = search needs
 
 returns : tie.Need-returns
-unfolding takes
+unfolding takes-put
 returns c = rw (c .before .enum-told .given .1) (c .opens .ensures _)
 
 returns-2 : tie.Need-returns-2
-unfolding takes
+unfolding takes-put
 returns-2 c = rw (c .before .enum-told2 .given .1) (c .page-taken .ensures _)
 
 returns-3 : tie.Need-returns-3
-unfolding takes
+unfolding takes-put
 returns-3 c = rw (c .before .enum-told3 .given .1) (c .confirm-taken .ensures (c .before .before .before .before .args .t) _ _)
 
 returns-4 : tie.Need-returns-4
-unfolding takes
+unfolding takes-put
 returns-4 c = rw (c .before .command .given .1)
 
 returns-5 : tie.Need-returns-5
-unfolding takes
+unfolding takes-put
 returns-5 c = rw (c .before .before .command2 .given .1) (c .low-taken .ensures (c .before .before .before .before .before .args .t))
 
 returns-6 : tie.Need-returns-6
-unfolding takes
+unfolding takes-put
 returns-6 c = rw (c .before .before .command3 .given .1) (c .length-taken .ensures _)
 
 returns-7 : tie.Need-returns-7
-unfolding takes
+unfolding takes-put
 returns-7 c = rw (c .before .before .command4 .given .1) (c .byte-taken .ensures (c .before .before .before .before .before .args .t) (c .before .before .before .before .before .args .byte))
 
 returns-8 : tie.Need-returns-8
-unfolding takes
+unfolding takes-put
 returns-8 c = rw (c .before .before .command5 .given .1) (c .past-end-taken .ensures (c .before .before .before .before .before .args .t) (c .before .before .before .before .before .args .byte))
 
 pub takes-spec : {M : Type 1} → statement M

@@ -2,7 +2,7 @@ use mathlib.Core.Path.{sym}
 use native.Mathlib.Omega.{arith}
 use borrow.Author.Needs.{needs}
 use Rattle.c2_target.specs.Known.{known-command}
-use Rattle.c2_target.specs.Commands.{takes}
+use Rattle.c2_target.specs.Commands.{takes-put}
 use Rattle.c2_target_step.proofs.Laws.Flash.{opens-keeps, page-keeps, length-keeps}
 use Rattle.c2_target_step.proofs.Laws.Known.{page-says, block-says}
 use Rattle.c2_target_step.proofs.flash.put_writes.Statement.{statement}
@@ -32,14 +32,14 @@ same-length-2 : tie.Need-same-length-2
 same-length-2 c = search needs
 
 returns-2 : tie.Need-returns-2
-unfolding takes
+unfolding takes-put
 returns-2 c = rw (c .before .before .before .before .before .command2 .given .1) (c .before .before .store .ensures)
 
 enum-told : tie.Need-enum-told
 enum-told c = search needs
 
 returns-3 : tie.Need-returns-3
-unfolding takes
+unfolding takes-put
 returns-3 c = rw (c .enum-told .given .1) (sym (opens-keeps _ _))
 
 enum-told-2 : tie.Need-enum-told-2
@@ -52,14 +52,14 @@ enum-told-3 : tie.Need-enum-told-3
 enum-told-3 c = search needs
 
 returns-5 : tie.Need-returns-5
-unfolding takes
+unfolding takes-put
 returns-5 c = rw (c .enum-told3 .given .1)
 
 enum-told-4 : tie.Need-enum-told-4
 enum-told-4 c = search needs
 
 returns-6 : tie.Need-returns-6
-unfolding takes
+unfolding takes-put
 returns-6 c = rw (c .enum-told4 .given .1)
 
 enum-told-5 : tie.Need-enum-told-5
@@ -72,7 +72,7 @@ enum-told-6 : tie.Need-enum-told-6
 enum-told-6 c = search needs
 
 returns-8 : tie.Need-returns-8
-unfolding takes
+unfolding takes-put
 returns-8 c = rw (c .enum-told6 .given .1)
 
 pub put-writes-spec : {M : Type 1} → statement M

@@ -1,5 +1,5 @@
 use borrow.Author.Needs.{needs}
-use Rattle.c2_target.specs.Interface.{does}
+use Rattle.c2_target.specs.Interface.{frame-does}
 use Rattle.c2_target_step.proofs.interface.addressed.Statement.{statement}
 use Rattle.c2_target_step.proofs.interface.addressed.Tie as tie
 
@@ -7,7 +7,7 @@ idle-requires : tie.Need-idle-requires
 idle-requires c κs = search needs
 
 returns : tie.Need-returns
-unfolding does
+unfolding frame-does
 returns c = λ t. rw (c .idle .ensures)
 
 pub addressed-spec : {M : Type 1} → statement M

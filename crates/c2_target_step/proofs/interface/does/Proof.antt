@@ -1,5 +1,5 @@
 use borrow.Author.Needs.{needs}
-use Rattle.c2_target.specs.Interface.{does}
+use Rattle.c2_target.specs.Interface.{frame-does}
 use Rattle.c2_target.specs.Known.{known-effect}
 use Rattle.c2_target_step.proofs.Laws.Known.{byte-says, link-command, link-output}
 use Rattle.c2_target_step.proofs.interface.does.Statement.{statement}
@@ -37,23 +37,23 @@ reads-requires : tie.Need-reads-requires
 reads-requires c κs = link-output _ _ _ (c .before .before .before .before .before .pre .0)
 
 returns : tie.Need-returns
-unfolding does
+unfolding frame-does
 returns c = rw (c .before .enum-told .given .1, c .idle .ensures)
 
 returns-2 : tie.Need-returns-2
-unfolding does
+unfolding frame-does
 returns-2 c = rw (c .before .before .effect .given .1) (c .addressed .ensures (c .before .before .before .before .before .before .before .args .t))
 
 returns-3 : tie.Need-returns-3
-unfolding does
+unfolding frame-does
 returns-3 c = rw (c .before .before .effect2 .given .1, c .writes .ensures)
 
 returns-4 : tie.Need-returns-4
-unfolding does
+unfolding frame-does
 returns-4 c = rw (c .before .enum-told2 .given .1, c .counts-down .ensures)
 
 returns-5 : tie.Need-returns-5
-unfolding does
+unfolding frame-does
 returns-5 c = rw (c .before .enum-told3 .given .1, c .reads .ensures)
 
 pub does-spec : {M : Type 1} → statement M

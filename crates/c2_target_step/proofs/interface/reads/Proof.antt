@@ -1,6 +1,6 @@
 use mathlib.Core.Path.{sym, _∙_}
 use borrow.Author.Needs.{needs}
-use Rattle.c2_target.specs.Interface.{does}
+use Rattle.c2_target.specs.Interface.{frame-does}
 use Rattle.c2_target_step.proofs.interface.reads.Statement.{statement}
 use Rattle.c2_target_step.proofs.interface.reads.Tie as tie
 
@@ -11,14 +11,14 @@ gets-requires : tie.Need-gets-requires
 gets-requires c κs = search needs
 
 returns : tie.Need-returns
-unfolding does
+unfolding frame-does
 returns c = rw (sym (c .before .before .linked .ensures) ∙ c .before .if1 .taken) (c .gets .ensures _)
 
 served-requires : tie.Need-served-requires
 served-requires c κs = search needs
 
 returns-2 : tie.Need-returns-2
-unfolding does
+unfolding frame-does
 returns-2 c = rw (sym (c .before .before .linked .ensures) ∙ c .before .if1 .left, c .served .ensures)
 
 pub reads-spec : {M : Type 1} → statement M

@@ -1,6 +1,6 @@
 use mathlib.Core.Path.{sym, _∙_}
 use borrow.Author.Needs.{needs}
-use Rattle.c2_target.specs.Interface.{does}
+use Rattle.c2_target.specs.Interface.{frame-does}
 use Rattle.c2_target_step.proofs.interface.writes.Statement.{statement}
 use Rattle.c2_target_step.proofs.interface.writes.Tie as tie
 
@@ -14,14 +14,14 @@ puts-requires : tie.Need-puts-requires
 puts-requires c κs = search needs
 
 returns : tie.Need-returns
-unfolding does
+unfolding frame-does
 returns c = rw (sym (c .before .before .linked .ensures) ∙ c .before .if1 .taken, c .puts .ensures, c .before .before .before .next-keys .ensures)
 
 served-requires : tie.Need-served-requires
 served-requires c κs = search needs
 
 returns-2 : tie.Need-returns-2
-unfolding does
+unfolding frame-does
 returns-2 c = rw (sym (c .before .before .linked .ensures) ∙ c .before .if1 .left, c .served .ensures, c .before .before .before .next-keys .ensures)
 
 pub writes-spec : {M : Type 1} → statement M

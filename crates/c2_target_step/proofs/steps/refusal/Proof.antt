@@ -1,7 +1,7 @@
 use mathlib.Core.Path.{sym, _∙_}
 use borrow.Author.Tests.{eq-eqb, ne-eqb}
 use borrow.Author.Needs.{needs}
-use Rattle.c2_target.specs.Target.{refusal}
+use Rattle.c2_target.specs.Target.{step-refusal}
 use Rattle.c2_target_step.proofs.steps.refusal.Statement.{statement}
 use Rattle.c2_target_step.proofs.steps.refusal.Tie as tie
 
@@ -9,7 +9,7 @@ refusal-requires : tie.Need-refusal-requires
 refusal-requires c κs = search needs
 
 returns : tie.Need-returns
-unfolding refusal
+unfolding step-refusal
 returns c = λ ds. let e = c .before .refusal .ensures in rw (ne-eqb _ _ (λ h. c .if1 .taken (e ∙ h))) e
 
 known-requires : tie.Need-known-requires
@@ -19,15 +19,15 @@ is-step-requires : tie.Need-is-step-requires
 is-step-requires c κs = search needs
 
 returns-2 : tie.Need-returns-2
-unfolding refusal
+unfolding step-refusal
 returns-2 c = λ ds. rw (eq-eqb _ _ (sym (c .before .before .before .before .before .refusal .ensures) ∙ c .before .before .before .before .if1 .left), sym (c .before .before .before .known .ensures ds) ∙ c .before .before .if2 .taken, sym (c .before .is-step .ensures) ∙ c .if3 .taken)
 
 returns-3 : tie.Need-returns-3
-unfolding refusal
+unfolding step-refusal
 returns-3 c = λ ds. rw (eq-eqb _ _ (sym (c .before .before .before .before .before .refusal .ensures) ∙ c .before .before .before .before .if1 .left), sym (c .before .before .before .known .ensures ds) ∙ c .before .before .if2 .taken, sym (c .before .is-step .ensures) ∙ c .if3 .left)
 
 returns-4 : tie.Need-returns-4
-unfolding refusal
+unfolding step-refusal
 returns-4 c = λ ds. rw (eq-eqb _ _ (sym (c .before .before .before .refusal .ensures) ∙ c .before .before .if1 .left), sym (c .before .known .ensures ds) ∙ c .if2 .left)
 
 pub refusal-spec : {M : Type 1} → statement M

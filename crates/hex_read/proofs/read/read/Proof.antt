@@ -5,7 +5,7 @@ use borrow.Author.Needs.{needs}
 use borrow.Author.Tests.{ne-eqb}
 use Rattle.settings.specs.Accepted.{settings-refusal}
 use Rattle.settings.proofs.Laws.Accepted.{facts}
-use Rattle.hex_format.specs.Reading.{hex-read, shows}
+use Rattle.hex_format.specs.Reading.{hex-read, image-in-buffer}
 use Rattle.hex_read.proofs.read.read.Statement.{statement}
 use Rattle.hex_read.proofs.read.read.Tie as tie
 
@@ -16,7 +16,7 @@ refused-requires : tie.Need-refused-requires
 refused-requires c κs = search needs
 
 returns : tie.Need-returns
-unfolding hex-read shows
+unfolding hex-read image-in-buffer
 returns c =
     rw (c .refused .ensures .0, c .refused .ensures .1, c .refused .ensures .2, c .refused .ensures .3, ne-eqb (settings-refusal (c .before .before .before .before .before .args .s)) 0 (λ h. c .before .if1 .taken (c .before .before .refusal .ensures ∙ h)), c .before .before .refusal .ensures)
 

@@ -6,7 +6,7 @@ use native.Mathlib.Omega.{arith}
 use borrow.Author.Needs.{needs}
 use lib.ListN.{length, take, replicate, length-replicate}
 use lib.Seq.{length-take-le}
-use Rattle.hex_format.specs.Reading.{unset, lines, walked}
+use Rattle.hex_format.specs.Reading.{unset, lines, lines-taken}
 use Rattle.hex_format.proofs.Laws.Pages.{page-start, page-number}
 use Rattle.hex_read.specs.Code.Fill.{final, filled, Window}
 use Rattle.hex_read.proofs.Laws.Answering.{answer-stops, answer-none, answer-small, answer-image, window-order, window-past, window-stop, window-start, window-cells, window}
@@ -36,7 +36,7 @@ returns c =
     let a = c .before .before .before .before .before .before .before .before .before .before .before .before .before .before .args in
     let r = c .before .before .before .before .before .walk .result in
     let w = c .before .before .before .before .before .walk .ensures in
-    rw (c .refused .ensures .0, c .refused .ensures .1, c .refused .ensures .2, c .refused .ensures .3) (answer-stops (a .size) (length (a .image .now)) (r .number) (r .line) (r .low) (r .high) (a .image .now) (walked 0 false (replicate (a .size * a .count) unset) (lines (a .file .now))) w (c .before .if1 .taken))
+    rw (c .refused .ensures .0, c .refused .ensures .1, c .refused .ensures .2, c .refused .ensures .3) (answer-stops (a .size) (length (a .image .now)) (r .number) (r .line) (r .low) (r .high) (a .image .now) (lines-taken 0 false (replicate (a .size * a .count) unset) (lines (a .file .now))) w (c .before .if1 .taken))
 
 refused-requires-2 : tie.Need-refused-requires-2
 refused-requires-2 c κs = search needs
@@ -50,7 +50,7 @@ returns-2 c =
     let r = c .before .before .before .before .before .before .before .walk .result in
     let w = c .before .before .before .before .before .before .before .walk .ensures in
     let z = c .before .before .before .if1 .left in
-    rw (c .refused2 .ensures .0, c .refused2 .ensures .1, c .refused2 .ensures .2, c .refused2 .ensures .3) (answer-none (a .size) (length (a .image .now)) (r .number) (r .line) (r .low) (r .high) (a .image .now) (walked 0 false (replicate (a .size * a .count) unset) (lines (a .file .now))) w z (c .before .if2 .taken))
+    rw (c .refused2 .ensures .0, c .refused2 .ensures .1, c .refused2 .ensures .2, c .refused2 .ensures .3) (answer-none (a .size) (length (a .image .now)) (r .number) (r .line) (r .low) (r .high) (a .image .now) (lines-taken 0 false (replicate (a .size * a .count) unset) (lines (a .file .now))) w z (c .before .if2 .taken))
 
 div-page : tie.Need-div-page
 div-page c = search needs
@@ -105,7 +105,7 @@ returns-3 c =
     let r = c .before .before .before .before .before .before .before .before .before .before .walk .result in
     let w = c .before .before .before .before .before .before .before .before .before .before .walk .ensures in
     let z = c .before .before .before .before .before .before .if1 .left in
-    rw (c .refused3 .ensures .0, c .refused3 .ensures .1, c .refused3 .ensures .2, c .refused3 .ensures .3) (answer-small (a .size) (length (a .image .now)) (r .number) (r .line) (r .low) (r .high) (a .image .now) (walked 0 false (replicate (a .size * a .count) unset) (lines (a .file .now))) w z (c .before .before .before .before .if2 .left) (c .before .if3 .taken))
+    rw (c .refused3 .ensures .0, c .refused3 .ensures .1, c .refused3 .ensures .2, c .refused3 .ensures .3) (answer-small (a .size) (length (a .image .now)) (r .number) (r .line) (r .low) (r .high) (a .image .now) (lines-taken 0 false (replicate (a .size * a .count) unset) (lines (a .file .now))) w z (c .before .before .before .before .if2 .left) (c .before .if3 .taken))
 
 slice-relend-prefix-fill : tie.Need-slice-relend-prefix-fill
 slice-relend-prefix-fill c = search needs
@@ -152,7 +152,7 @@ returns-4 c =
     let l = length-take-le n (a .image .now) (omega (arith, c .before .before .before .before .if3 .left)) in
     let v : Window (a .file .now) (r .low / a .size * a .size) (length (take n (a .image .now))) (a .size * a .count) = rw l (window (a .size) (a .count) (r .number) (r .line) (r .low) (r .high) (a .file .now) w z (c .before .before .before .before .before .before .before .if2 .left) (c .before .before .before .before .before .before .before .before .before .before .before .before .before .before .before .before .before .before .before .before .before .before .pre .0) n refl) in
     rw (c .before .before .fill .ensures (a .size * a .count) v, l)
-    (answer-image (a .size) (length (a .image .now)) (r .number) (r .line) (r .low) (r .high) (a .image .now) (walked 0 false (replicate (a .size * a .count) unset) (lines (a .file .now))) w z (c .before .before .before .before .before .before .before .if2 .left) n refl (omega (arith, c .before .before .before .before .if3 .left)) (omega (arith, window-start (a .size) (a .count) (r .number) (r .line) (r .low) (r .high) (a .file .now) w z (c .before .before .before .before .before .before .before .if2 .left) (c .before .before .before .before .before .before .before .before .before .before .before .before .before .before .before .before .before .before .before .before .before .before .pre .0), window-stop (a .size) (a .count) (r .number) (r .line) (r .low) (r .high) (a .file .now) w z (c .before .before .before .before .before .before .before .if2 .left) (c .before .before .before .before .before .before .before .before .before .before .before .before .before .before .before .before .before .before .before .before .before .before .pre .0), window-cells (a .size) (a .count) (r .number) (r .line) (r .low) (r .high) (a .file .now) w z (c .before .before .before .before .before .before .before .if2 .left) (c .before .before .before .before .before .before .before .before .before .before .before .before .before .before .before .before .before .before .before .before .before .before .pre .0))))
+    (answer-image (a .size) (length (a .image .now)) (r .number) (r .line) (r .low) (r .high) (a .image .now) (lines-taken 0 false (replicate (a .size * a .count) unset) (lines (a .file .now))) w z (c .before .before .before .before .before .before .before .if2 .left) n refl (omega (arith, c .before .before .before .before .if3 .left)) (omega (arith, window-start (a .size) (a .count) (r .number) (r .line) (r .low) (r .high) (a .file .now) w z (c .before .before .before .before .before .before .before .if2 .left) (c .before .before .before .before .before .before .before .before .before .before .before .before .before .before .before .before .before .before .before .before .before .before .pre .0), window-stop (a .size) (a .count) (r .number) (r .line) (r .low) (r .high) (a .file .now) w z (c .before .before .before .before .before .before .before .if2 .left) (c .before .before .before .before .before .before .before .before .before .before .before .before .before .before .before .before .before .before .before .before .before .before .pre .0), window-cells (a .size) (a .count) (r .number) (r .line) (r .low) (r .high) (a .file .now) w z (c .before .before .before .before .before .before .before .if2 .left) (c .before .before .before .before .before .before .before .before .before .before .before .before .before .before .before .before .before .before .before .before .before .before .pre .0))))
 
 pub read-map-spec : {M : Type 1} → statement M
 read-map-spec =

@@ -4,7 +4,7 @@ use Prim.Native.Nat.{_-_, _*_}
 use native.Mathlib.Omega.{arith}
 use borrow.Author.Needs.{needs}
 use lib.ListN.{length, drop}
-use Rattle.hex_line.specs.Code.Shape.{line-at}
+use Rattle.hex_line.specs.Code.Shape.{judgement-at}
 use Rattle.hex_read.proofs.Laws.Judging.{Walking, tail-is, walk-starts, judged-within, walk-stops, walk-on, walk-ends, by-some, by-within, goes-by}
 use Rattle.hex_read.proofs.walk.walk.Statement.{statement}
 use Rattle.hex_read.proofs.walk.walk.Tie as tie
@@ -35,7 +35,7 @@ take-line-requires : tie.Need-take-line-requires Inv-loop μ-loop
 take-line-requires c κs =
     let l = c .before .before .before .before .loop in
     let a = c .before .before .before .before .before .before .before .args in
-    let j = c .before .judge .ensures ∙ ap (line-at (a .flash)) (tail-is (l .at) (a .file .now)) in (
+    let j = c .before .judge .ensures ∙ ap (judgement-at (a .flash)) (tail-is (l .at) (a .file .now)) in (
       judged-within (a .flash) (drop (l .at) (a .file .now)) (c .before .judge .result .line) (c .before .judge .result .bytes) (8 * length (l .map)) j
           (omega (arith, c .before .before .before .before .before .before .before .pre .0, l .inv .1)),
       omega (arith, c .before .before .before .before .before .before .before .pre .1, l .inv .1),
@@ -51,7 +51,7 @@ returns : tie.Need-returns Inv-loop μ-loop
 returns c =
     let l = c .before .before .before .before .before .before .before .before .before .loop in
     let a = c .before .before .before .before .before .before .before .before .before .before .before .before .args in
-    let j = c .before .before .before .before .before .before .judge .ensures ∙ ap (line-at (a .flash)) (tail-is (l .at) (a .file .now)) in
+    let j = c .before .before .before .before .before .before .judge .ensures ∙ ap (judgement-at (a .flash)) (tail-is (l .at) (a .file .now)) in
     let r = c .before .before .before .before .take-line .result in
     walk-stops (l .map) (a .file .now) (a .flash) (l .at) (l .line) (l .ended) (l .low) (l .high) (l .inv .0) (omega arith) (c .before .before .before .before .before .before .judge .result .line) (c .before .before .before .before .before .before .judge .result .bytes) j
     (c .before .before .before .before .take-line .last .0) (r .number) (r .ended) (r .low) (r .high) (c .before .before .before .before .take-line .ensures) (c .if1 .taken)
@@ -60,7 +60,7 @@ add-at : tie.Need-add-at Inv-loop μ-loop
 add-at c =
     let l = c .before .before .before .before .before .before .before .before .before .before .loop in
     let a = c .before .before .before .before .before .before .before .before .before .before .before .before .before .args in
-    let j = c .before .before .before .before .before .before .before .judge .ensures ∙ ap (line-at (a .flash)) (tail-is (l .at) (a .file .now)) in
+    let j = c .before .before .before .before .before .before .before .judge .ensures ∙ ap (judgement-at (a .flash)) (tail-is (l .at) (a .file .now)) in
     let r = c .before .before .before .before .before .take-line .result in
     let w = by-within (l .map) (a .file .now) (a .flash) (l .at) (l .line) (l .ended) (l .low) (l .high) (l .inv .0) (omega arith) (c .before .before .before .before .before .before .before .judge .result .line) (c .before .before .before .before .before .before .before .judge .result .bytes) j
     (c .before .before .before .before .before .take-line .last .0) (r .number) (r .ended) (r .low) (r .high) (c .before .before .before .before .before .take-line .ensures) (c .before .if1 .left) in
@@ -70,7 +70,7 @@ loop-less : tie.Need-loop-less Inv-loop μ-loop
 loop-less c =
     let l = c .before .before .before .before .before .before .before .before .before .before .loop in
     let a = c .before .before .before .before .before .before .before .before .before .before .before .before .before .args in
-    let j = c .before .before .before .before .before .before .before .judge .ensures ∙ ap (line-at (a .flash)) (tail-is (l .at) (a .file .now)) in
+    let j = c .before .before .before .before .before .before .before .judge .ensures ∙ ap (judgement-at (a .flash)) (tail-is (l .at) (a .file .now)) in
     let r = c .before .before .before .before .before .take-line .result in
     let w = by-within (l .map) (a .file .now) (a .flash) (l .at) (l .line) (l .ended) (l .low) (l .high) (l .inv .0) (omega arith) (c .before .before .before .before .before .before .before .judge .result .line) (c .before .before .before .before .before .before .before .judge .result .bytes) j
     (c .before .before .before .before .before .take-line .last .0) (r .number) (r .ended) (r .low) (r .high) (c .before .before .before .before .before .take-line .ensures) (c .before .if1 .left) in
@@ -84,7 +84,7 @@ loop-again : tie.Need-loop-again Inv-loop μ-loop
 loop-again c =
     let l = c .before .before .before .before .before .before .before .before .before .before .loop in
     let a = c .before .before .before .before .before .before .before .before .before .before .before .before .before .args in
-    let j = c .before .before .before .before .before .before .before .judge .ensures ∙ ap (line-at (a .flash)) (tail-is (l .at) (a .file .now)) in
+    let j = c .before .before .before .before .before .before .before .judge .ensures ∙ ap (judgement-at (a .flash)) (tail-is (l .at) (a .file .now)) in
     let r = c .before .before .before .before .before .take-line .result in (
       walk-on (l .map) (a .file .now) (a .flash) (l .at) (l .line) (l .ended) (l .low) (l .high) (l .inv .0) (omega arith) (c .before .before .before .before .before .before .before .judge .result .line) (c .before .before .before .before .before .before .before .judge .result .bytes) j
           (c .before .before .before .before .before .take-line .last .0) (r .number) (r .ended) (r .low) (r .high) (c .before .before .before .before .before .take-line .ensures) (c .before .if1 .left),

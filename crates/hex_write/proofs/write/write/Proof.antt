@@ -6,7 +6,7 @@ use borrow.Author.Needs.{needs}
 use lib.ListN.{length}
 use lib.Seq.{length-take-le}
 use borrow.Author.Tests.{ne-eqb}
-use Rattle.hex_format.specs.Writing.{hex-file, file-bytes, hex-write, puts}
+use Rattle.hex_format.specs.Writing.{hex-file, file-bytes, hex-write, file-in-buffer}
 use Rattle.hex_format.proofs.Laws.ReadBack.{writes, opened-records, opened-within}
 use Rattle.hex_write.proofs.Laws.Putting.{file-long}
 use Rattle.hex_write.proofs.write.write.Statement.{statement}
@@ -16,7 +16,7 @@ refusal-requires : tie.Need-refusal-requires
 refusal-requires c κs = search needs
 
 returns : tie.Need-returns
-unfolding puts hex-write
+unfolding file-in-buffer hex-write
 returns c =
     let a = c .before .before .before .before .args in
     rw (← c .before .refusal .ensures, ne-eqb (c .before .refusal .result) 0 (c .if1 .taken))
@@ -70,7 +70,7 @@ same-length : tie.Need-same-length
 same-length c = search needs
 
 returns-2 : tie.Need-returns-2
-unfolding puts hex-write hex-file
+unfolding file-in-buffer hex-write hex-file
 returns-2 c =
     let a = c .before .before .before .before .before .before .before .before .before .args in
     let n = length (a .image .now) in
