@@ -1,4 +1,4 @@
-/* Made from the MIR of crate c2, sha256 ea0d7185d4eba143a8d5c262f54a3b2f7132a44db3491110caa63ff5a1a3daa6. */
+/* Made from the MIR of crate c2, sha256 bf980bd8a9d9372aa6fb75055986d0f9115d32d6de31073889cbe9750de9ab3e. */
 /*
  * Made by `make c`, not to be edited. A function stands under its path in the proved code. Its result is
  * called result, its parameters a1, a2 .. and its other locals v.., by their numbers in the MIR. A statement
@@ -27,10 +27,9 @@ typedef struct {
     uint16_t u16_0;
     uint32_t u32_0;
     uint16_t u16_1;
-    uint64_t u64_0;
-    uint64_t u64_1;
-    uint64_t u64_2;
     uint32_t u32_1;
+    uint32_t u32_2;
+    uint32_t u32_3;
 } c2_session__Point;
 
 typedef struct {
@@ -47,9 +46,9 @@ typedef struct {
     uint16_t f3;
     uint32_t f4;
     uint16_t f5;
-    uint64_t f6;
-    uint64_t f7;
-    uint64_t f8;
+    uint32_t f6;
+    uint32_t f7;
+    uint32_t f8;
 } c2_record__Fields;
 
 typedef struct {
@@ -61,8 +60,6 @@ typedef struct {
     uint32_t f1;
 } c2_outcome__Outcome;
 
-typedef uint8_t c2_acts__Task;
-
 typedef struct {
     c2_acts__Stage f0;
     uint16_t f1;
@@ -71,23 +68,26 @@ typedef struct {
 } c2_session__At;
 
 typedef struct {
-    uint64_t f0;
-    uint64_t f1;
-    uint64_t f2;
+    uint32_t f0;
+    uint32_t f1;
+    uint32_t f2;
 } c2_wire__Place;
+
+typedef uint8_t c2_acts__Task;
+
+typedef struct {
+    c2_session__Point f0;
+    c2_acts__Task f1;
+    uint64_t f2;
+} c2_session__Runner;
 
 typedef struct {
     uint8_t tag;
     c2_wire__Place c2_wire__Place_0;
-    uint64_t u64_0;
+    uint32_t u32_0;
 } c2_wire__Moved;
 
 typedef uint8_t c2_wire__Frame;
-
-typedef struct {
-    uint8_t tag;
-    uint64_t u64_0;
-} c2_wire__Role;
 
 typedef struct {
     c2_session__Session f0;
@@ -174,10 +174,9 @@ static c2_session__Session c2_opening__start(const c2_settings *a1, uint32_t a2,
     v8.u16_0 = 0u;
     v8.u32_0 = UINT32_C(0);
     v8.u16_1 = 0u;
-    v8.u64_0 = UINT64_C(0);
-    v8.u64_1 = UINT64_C(0);
-    v8.u64_2 = UINT64_C(0);
-    v8.u32_1 = 0;
+    v8.u32_1 = UINT32_C(0);
+    v8.u32_2 = UINT32_C(0);
+    v8.u32_3 = UINT32_C(0);
     result.f0.device_id = a1->device_id;
     result.f0.fpdat = a1->fpdat;
     result.f0.page_size = a1->page_size;
@@ -189,10 +188,9 @@ static c2_session__Session c2_opening__start(const c2_settings *a1, uint32_t a2,
     result.f3.u16_0 = v8.u16_0;
     result.f3.u32_0 = v8.u32_0;
     result.f3.u16_1 = v8.u16_1;
-    result.f3.u64_0 = v8.u64_0;
-    result.f3.u64_1 = v8.u64_1;
-    result.f3.u64_2 = v8.u64_2;
     result.f3.u32_1 = v8.u32_1;
+    result.f3.u32_2 = v8.u32_2;
+    result.f3.u32_3 = v8.u32_3;
     return result;
 }
 
@@ -230,9 +228,9 @@ static c2_record__Fields c2_record__write__fields_of(const c2_session__Point *a1
     uint16_t v3;
     uint32_t v4;
     uint16_t v5;
-    uint64_t v6;
-    uint64_t v7;
-    uint64_t v8;
+    uint32_t v6;
+    uint32_t v7;
+    uint32_t v8;
     uint32_t v9;
     uint32_t v10;
     c2_record__Fields v11;
@@ -243,9 +241,9 @@ static c2_record__Fields c2_record__write__fields_of(const c2_session__Point *a1
         v3 = a1->u16_0;
         v4 = a1->u32_0;
         v5 = a1->u16_1;
-        v6 = a1->u64_0;
-        v7 = a1->u64_1;
-        v8 = a1->u64_2;
+        v6 = a1->u32_1;
+        v7 = a1->u32_2;
+        v8 = a1->u32_3;
         v12 = c2_record__write__stage_code(v2);
         v11.f0 = UINT32_C(0);
         v11.f1 = UINT32_C(0);
@@ -266,9 +264,9 @@ static c2_record__Fields c2_record__write__fields_of(const c2_session__Point *a1
         v11.f3 = 0u;
         v11.f4 = UINT32_C(0);
         v11.f5 = 0u;
-        v11.f6 = UINT64_C(0);
-        v11.f7 = UINT64_C(0);
-        v11.f8 = UINT64_C(0);
+        v11.f6 = UINT32_C(0);
+        v11.f7 = UINT32_C(0);
+        v11.f8 = UINT32_C(0);
         break;
     }
     result.f0 = v11.f0;
@@ -284,23 +282,23 @@ static c2_record__Fields c2_record__write__fields_of(const c2_session__Point *a1
 }
 
 /* c2_record::words::high */
-static uint8_t c2_record__words__high(uint64_t a1)
+static uint8_t c2_record__words__high(uint32_t a1)
 {
     uint8_t result;
-    uint64_t v2;
-    uint64_t v3;
-    v2 = a1 / UINT64_C(256);
-    v3 = v2 % UINT64_C(256);
+    uint32_t v2;
+    uint32_t v3;
+    v2 = (uint32_t)(a1 / UINT32_C(256));
+    v3 = (uint32_t)(v2 % UINT32_C(256));
     result = (uint8_t)v3;
     return result;
 }
 
 /* c2_record::words::low */
-static uint8_t c2_record__words__low(uint64_t a1)
+static uint8_t c2_record__words__low(uint32_t a1)
 {
     uint8_t result;
-    uint64_t v2;
-    v2 = a1 % UINT64_C(256);
+    uint32_t v2;
+    v2 = (uint32_t)(a1 % UINT32_C(256));
     result = (uint8_t)v2;
     return result;
 }
@@ -311,89 +309,75 @@ static array_32_u8 c2_record__write__lay(const c2_settings *a1, uint16_t a2, uin
 {
     array_32_u8 result;
     uint8_t v5;
-    uint64_t v6;
+    uint32_t v6;
     uint8_t v7;
-    uint64_t v8;
+    uint32_t v8;
     uint8_t v9;
-    uint64_t v10;
+    uint8_t v10;
     uint8_t v11;
-    uint64_t v12;
-    uint8_t v13;
-    uint64_t v14;
-    uint8_t v15;
-    uint64_t v16;
+    uint8_t v12;
+    uint32_t v13;
+    uint8_t v14;
+    uint32_t v15;
+    uint8_t v16;
     uint8_t v17;
-    uint64_t v18;
+    uint8_t v18;
     uint8_t v19;
-    uint64_t v20;
+    uint32_t v20;
     uint8_t v21;
-    uint64_t v22;
+    uint32_t v22;
     uint8_t v23;
-    uint64_t v24;
-    uint8_t v25;
-    uint64_t v26;
-    uint8_t v27;
-    uint64_t v28;
+    uint8_t v24;
+    uint32_t v25;
+    uint8_t v26;
+    uint32_t v27;
+    uint8_t v28;
     uint8_t v29;
-    uint64_t v30;
-    uint8_t v31;
-    uint64_t v32;
-    uint8_t v33;
-    uint64_t v34;
-    uint8_t v35;
-    uint8_t v36;
-    uint8_t v37;
-    v6 = (uint64_t)a1->device_id;
+    uint8_t v30;
+    v6 = (uint32_t)a1->device_id;
     v5 = c2_record__words__low(v6);
-    v8 = (uint64_t)a1->fpdat;
+    v8 = (uint32_t)a1->fpdat;
     v7 = c2_record__words__low(v8);
-    v10 = (uint64_t)a1->page_size;
-    v9 = c2_record__words__low(v10);
-    v12 = (uint64_t)a1->page_size;
-    v11 = c2_record__words__high(v12);
-    v14 = (uint64_t)a1->page_count;
-    v13 = c2_record__words__low(v14);
-    v16 = (uint64_t)a2;
-    v15 = c2_record__words__low(v16);
-    v18 = (uint64_t)a3;
-    v17 = c2_record__words__low(v18);
-    v20 = (uint64_t)a4->f0;
+    v9 = c2_record__words__low(a1->page_size);
+    v10 = c2_record__words__high(a1->page_size);
+    v11 = c2_record__words__low(a1->page_count);
+    v13 = (uint32_t)a2;
+    v12 = c2_record__words__low(v13);
+    v15 = (uint32_t)a3;
+    v14 = c2_record__words__low(v15);
+    v16 = c2_record__words__low(a4->f0);
+    v17 = c2_record__words__low(a4->f1);
+    v18 = c2_record__words__high(a4->f1);
+    v20 = (uint32_t)a4->f2;
     v19 = c2_record__words__low(v20);
-    v22 = (uint64_t)a4->f1;
+    v22 = (uint32_t)a4->f3;
     v21 = c2_record__words__low(v22);
-    v24 = (uint64_t)a4->f1;
-    v23 = c2_record__words__high(v24);
-    v26 = (uint64_t)a4->f2;
-    v25 = c2_record__words__low(v26);
-    v28 = (uint64_t)a4->f3;
-    v27 = c2_record__words__low(v28);
-    v30 = (uint64_t)a4->f4;
-    v29 = c2_record__words__low(v30);
-    v32 = (uint64_t)a4->f5;
-    v31 = c2_record__words__low(v32);
-    v34 = (uint64_t)a4->f5;
-    v33 = c2_record__words__high(v34);
-    v35 = c2_record__words__low(a4->f6);
-    v36 = c2_record__words__low(a4->f7);
-    v37 = c2_record__words__low(a4->f8);
+    v23 = c2_record__words__low(a4->f4);
+    v25 = (uint32_t)a4->f5;
+    v24 = c2_record__words__low(v25);
+    v27 = (uint32_t)a4->f5;
+    v26 = c2_record__words__high(v27);
+    v28 = c2_record__words__low(a4->f6);
+    v29 = c2_record__words__low(a4->f7);
+    v30 = c2_record__words__low(a4->f8);
     result.at[0] = v5;
     result.at[1] = v7;
     result.at[2] = v9;
-    result.at[3] = v11;
-    result.at[4] = v13;
-    result.at[5] = v15;
-    result.at[6] = v17;
-    result.at[7] = v19;
-    result.at[8] = v21;
-    result.at[9] = v23;
-    result.at[10] = v25;
-    result.at[11] = v27;
-    result.at[12] = v29;
-    result.at[13] = v31;
-    result.at[14] = v33;
-    result.at[15] = v35;
-    result.at[16] = v36;
-    result.at[17] = v37;
+    result.at[3] = v10;
+    result.at[4] = v11;
+    result.at[5] = v12;
+    result.at[6] = v14;
+    result.at[7] = v16;
+    result.at[8] = v17;
+    result.at[9] = v18;
+    result.at[10] = v19;
+    result.at[11] = v21;
+    result.at[12] = v23;
+    result.at[13] = v24;
+    result.at[14] = v26;
+    result.at[15] = v28;
+    result.at[16] = v29;
+    result.at[17] = v30;
     result.at[18] = 0u;
     result.at[19] = 0u;
     result.at[20] = 0u;
@@ -427,10 +411,9 @@ static array_32_u8 c2_record__write__pack(const c2_session__Session *a1)
     v3.u16_0 = a1->f3.u16_0;
     v3.u32_0 = a1->f3.u32_0;
     v3.u16_1 = a1->f3.u16_1;
-    v3.u64_0 = a1->f3.u64_0;
-    v3.u64_1 = a1->f3.u64_1;
-    v3.u64_2 = a1->f3.u64_2;
     v3.u32_1 = a1->f3.u32_1;
+    v3.u32_2 = a1->f3.u32_2;
+    v3.u32_3 = a1->f3.u32_3;
     v4 = c2_record__write__fields_of(&v3);
     result = c2_record__write__lay(&v2, a1->f1, a1->f2, &v4);
     return result;
@@ -627,10 +610,9 @@ static c2_advanced c2__advance__answer(const c2_session__Session *a1, uint64_t a
     v3.u16_0 = a1->f3.u16_0;
     v3.u32_0 = a1->f3.u32_0;
     v3.u16_1 = a1->f3.u16_1;
-    v3.u64_0 = a1->f3.u64_0;
-    v3.u64_1 = a1->f3.u64_1;
-    v3.u64_2 = a1->f3.u64_2;
     v3.u32_1 = a1->f3.u32_1;
+    v3.u32_2 = a1->f3.u32_2;
+    v3.u32_3 = a1->f3.u32_3;
     v4 = c2_outcome__outcome_of(&v3);
     v5 = a2;
     result.number = v4.f0;
@@ -663,338 +645,6 @@ static _Bool c2_outcome__is_running(const c2_session__Point *a1)
         break;
     }
     result = v2;
-    return result;
-}
-
-/* c2_outcome::same_point */
-static c2_session__Point c2_outcome__same_point(const c2_session__Point *a1)
-{
-    c2_session__Point result;
-    c2_acts__Stage v2;
-    uint16_t v3;
-    uint32_t v4;
-    uint16_t v5;
-    uint64_t v6;
-    uint64_t v7;
-    uint64_t v8;
-    uint32_t v9;
-    uint32_t v10;
-    c2_session__Point v11;
-    switch (a1->tag) {
-    case 0u:
-        v2 = a1->c2_acts__Stage_0;
-        v3 = a1->u16_0;
-        v4 = a1->u32_0;
-        v5 = a1->u16_1;
-        v6 = a1->u64_0;
-        v7 = a1->u64_1;
-        v8 = a1->u64_2;
-        v11.tag = 0u;
-        v11.c2_acts__Stage_0 = v2;
-        v11.u16_0 = v3;
-        v11.u32_0 = v4;
-        v11.u16_1 = v5;
-        v11.u64_0 = v6;
-        v11.u64_1 = v7;
-        v11.u64_2 = v8;
-        v11.u32_1 = 0;
-        break;
-    default: /* 1 */
-        v9 = a1->u32_0;
-        v10 = a1->u32_1;
-        v11.tag = 1u;
-        v11.u32_0 = v9;
-        v11.u32_1 = v10;
-        v11.c2_acts__Stage_0 = 0;
-        v11.u16_0 = 0;
-        v11.u16_1 = 0;
-        v11.u64_0 = 0;
-        v11.u64_1 = 0;
-        v11.u64_2 = 0;
-        break;
-    }
-    result.tag = v11.tag;
-    result.c2_acts__Stage_0 = v11.c2_acts__Stage_0;
-    result.u16_0 = v11.u16_0;
-    result.u32_0 = v11.u32_0;
-    result.u16_1 = v11.u16_1;
-    result.u64_0 = v11.u64_0;
-    result.u64_1 = v11.u64_1;
-    result.u64_2 = v11.u64_2;
-    result.u32_1 = v11.u32_1;
-    return result;
-}
-
-/* c2_outcome::same_session */
-static c2_session__Session c2_outcome__same_session(const c2_session__Session *a1)
-{
-    c2_session__Session result;
-    c2_settings v2;
-    c2_session__Point v3;
-    c2_session__Point v4;
-    v2.device_id = a1->f0.device_id;
-    v2.fpdat = a1->f0.fpdat;
-    v2.page_size = a1->f0.page_size;
-    v2.page_count = a1->f0.page_count;
-    v3.tag = a1->f3.tag;
-    v3.c2_acts__Stage_0 = a1->f3.c2_acts__Stage_0;
-    v3.u16_0 = a1->f3.u16_0;
-    v3.u32_0 = a1->f3.u32_0;
-    v3.u16_1 = a1->f3.u16_1;
-    v3.u64_0 = a1->f3.u64_0;
-    v3.u64_1 = a1->f3.u64_1;
-    v3.u64_2 = a1->f3.u64_2;
-    v3.u32_1 = a1->f3.u32_1;
-    v4 = c2_outcome__same_point(&v3);
-    result.f0.device_id = v2.device_id;
-    result.f0.fpdat = v2.fpdat;
-    result.f0.page_size = v2.page_size;
-    result.f0.page_count = v2.page_count;
-    result.f1 = a1->f1;
-    result.f2 = a1->f2;
-    result.f3.tag = v4.tag;
-    result.f3.c2_acts__Stage_0 = v4.c2_acts__Stage_0;
-    result.f3.u16_0 = v4.u16_0;
-    result.f3.u32_0 = v4.u32_0;
-    result.f3.u16_1 = v4.u16_1;
-    result.f3.u64_0 = v4.u64_0;
-    result.f3.u64_1 = v4.u64_1;
-    result.f3.u64_2 = v4.u64_2;
-    result.f3.u32_1 = v4.u32_1;
-    return result;
-}
-
-/* c2_acts::erase_task */
-static c2_acts__Task c2_acts__erase_task(uint16_t a1)
-{
-    c2_acts__Task result;
-    _Bool v2;
-    uint16_t v3;
-    v2 = a1 == 0u;
-    if (v2) {
-        result = 2u;
-        return result;
-    }
-    v3 = (uint16_t)((unsigned)a1 % 4u);
-    v2 = v3 == 1u;
-    if (v2) {
-        result = 3u;
-        return result;
-    }
-    v3 = (uint16_t)((unsigned)a1 % 4u);
-    v2 = v3 == 2u;
-    if (v2) {
-        result = 4u;
-        return result;
-    }
-    v3 = (uint16_t)((unsigned)a1 % 4u);
-    v2 = v3 == 3u;
-    if (v2) {
-        result = 5u;
-        return result;
-    }
-    result = 7u;
-    return result;
-}
-
-/* c2_acts::lead_task */
-static c2_acts__Task c2_acts__lead_task(uint16_t a1)
-{
-    c2_acts__Task result;
-    _Bool v2;
-    v2 = a1 == 0u;
-    if (v2) {
-        result = 0u;
-        return result;
-    }
-    v2 = a1 == 1u;
-    if (v2) {
-        result = 6u;
-        return result;
-    }
-    v2 = a1 == 2u;
-    if (v2) {
-        result = 0u;
-        return result;
-    }
-    v2 = a1 == 3u;
-    if (v2) {
-        result = 2u;
-        return result;
-    }
-    v2 = a1 < 7u;
-    if (v2) {
-        result = 3u;
-        return result;
-    }
-    result = 1u;
-    return result;
-}
-
-/* c2_acts::put_task */
-static c2_acts__Task c2_acts__put_task(uint16_t a1)
-{
-    c2_acts__Task result;
-    uint16_t v2;
-    _Bool v3;
-    v2 = (uint16_t)((unsigned)a1 % 2u);
-    v3 = v2 == 1u;
-    if (v3) {
-        result = 3u;
-        return result;
-    }
-    result = 4u;
-    return result;
-}
-
-/* c2_acts::read_task */
-static c2_acts__Task c2_acts__read_task(uint16_t a1)
-{
-    c2_acts__Task result;
-    _Bool v2;
-    uint16_t v3;
-    v2 = a1 == 0u;
-    if (v2) {
-        result = 2u;
-        return result;
-    }
-    v2 = a1 == 3u;
-    if (v2) {
-        result = 5u;
-        return result;
-    }
-    v2 = a1 == 4u;
-    if (v2) {
-        result = 7u;
-        return result;
-    }
-    v2 = a1 < 11u;
-    if (v2) {
-        result = c2_acts__put_task(a1);
-        return result;
-    }
-    v3 = (uint16_t)((unsigned)a1 % 2u);
-    v2 = v3 == 1u;
-    if (v2) {
-        result = 5u;
-        return result;
-    }
-    v2 = a1 == 12u;
-    if (v2) {
-        result = 7u;
-        return result;
-    }
-    result = 8u;
-    return result;
-}
-
-/* c2_acts::write_task */
-static c2_acts__Task c2_acts__write_task(uint16_t a1)
-{
-    c2_acts__Task result;
-    _Bool v2;
-    v2 = a1 == 0u;
-    if (v2) {
-        result = 2u;
-        return result;
-    }
-    v2 = a1 == 3u;
-    if (v2) {
-        result = 5u;
-        return result;
-    }
-    v2 = a1 == 4u;
-    if (v2) {
-        result = 7u;
-        return result;
-    }
-    v2 = a1 < 523u;
-    if (v2) {
-        result = c2_acts__put_task(a1);
-        return result;
-    }
-    v2 = a1 == 523u;
-    if (v2) {
-        result = 5u;
-        return result;
-    }
-    result = 7u;
-    return result;
-}
-
-/* c2_acts::task_of */
-static c2_acts__Task c2_acts__task_of(c2_acts__Stage a1, uint16_t a2)
-{
-    c2_acts__Task result;
-    c2_acts__Task v3;
-    switch (a1) {
-    case 0u:
-        v3 = c2_acts__lead_task(a2);
-        break;
-    case 1u:
-        v3 = c2_acts__erase_task(a2);
-        break;
-    case 2u:
-        v3 = c2_acts__write_task(a2);
-        break;
-    case 3u:
-        v3 = c2_acts__read_task(a2);
-        break;
-    default: /* 4 */
-        v3 = 0u;
-        break;
-    }
-    result = v3;
-    return result;
-}
-
-/* c2_outcome::task_at */
-static c2_acts__Task c2_outcome__task_at(const c2_session__Point *a1)
-{
-    c2_acts__Task result;
-    c2_acts__Stage v2;
-    uint16_t v3;
-    c2_acts__Task v4;
-    switch (a1->tag) {
-    case 0u:
-        v2 = a1->c2_acts__Stage_0;
-        v3 = a1->u16_1;
-        v4 = c2_acts__task_of(v2, v3);
-        break;
-    default: /* 1 */
-        v4 = 0u;
-        break;
-    }
-    result = v4;
-    return result;
-}
-
-/* c2_outcome::task_next */
-static c2_acts__Task c2_outcome__task_next(const c2_session__Point *a1, c2_acts__Task a2)
-{
-    c2_acts__Task result;
-    c2_acts__Stage v3;
-    uint16_t v4;
-    uint64_t v5;
-    c2_acts__Task v6;
-    _Bool v7;
-    switch (a1->tag) {
-    case 0u:
-        v3 = a1->c2_acts__Stage_0;
-        v4 = a1->u16_1;
-        v5 = a1->u64_0;
-        v7 = v5 == UINT64_C(0);
-        if (v7) {
-            result = c2_acts__task_of(v3, v4);
-            return result;
-        }
-        v6 = a2;
-        break;
-    default: /* 1 */
-        v6 = a2;
-        break;
-    }
-    result = v6;
     return result;
 }
 
@@ -1067,9 +717,8 @@ static c2_session__Point c2_session__Session__differs(const c2_session__Session 
     result.c2_acts__Stage_0 = 0;
     result.u16_0 = 0;
     result.u16_1 = 0;
-    result.u64_0 = 0;
-    result.u64_1 = 0;
-    result.u64_2 = 0;
+    result.u32_2 = 0;
+    result.u32_3 = 0;
     return result;
 }
 
@@ -1109,10 +758,9 @@ static c2_session__Point c2_session__next__first_strobe(c2_acts__Stage a1, uint1
     result.u16_0 = a2;
     result.u32_0 = a3;
     result.u16_1 = a4;
-    result.u64_0 = UINT64_C(0);
-    result.u64_1 = UINT64_C(0);
-    result.u64_2 = UINT64_C(0);
-    result.u32_1 = 0;
+    result.u32_1 = UINT32_C(0);
+    result.u32_2 = UINT32_C(0);
+    result.u32_3 = UINT32_C(0);
     return result;
 }
 
@@ -1218,9 +866,8 @@ static c2_session__Point c2_session__next__end_point(uint32_t a1)
     result.c2_acts__Stage_0 = 0;
     result.u16_0 = 0;
     result.u16_1 = 0;
-    result.u64_0 = 0;
-    result.u64_1 = 0;
-    result.u64_2 = 0;
+    result.u32_2 = 0;
+    result.u32_3 = 0;
     return result;
 }
 
@@ -1256,10 +903,9 @@ static c2_session__Point c2_session__Session__next_stage(const c2_session__Sessi
     result.u16_0 = v4.u16_0;
     result.u32_0 = v4.u32_0;
     result.u16_1 = v4.u16_1;
-    result.u64_0 = v4.u64_0;
-    result.u64_1 = v4.u64_1;
-    result.u64_2 = v4.u64_2;
     result.u32_1 = v4.u32_1;
+    result.u32_2 = v4.u32_2;
+    result.u32_3 = v4.u32_3;
     return result;
 }
 
@@ -1294,12 +940,12 @@ static c2_session__Point c2_session__Session__next_act(const c2_session__Session
 
 /* c2_session::Session::compared */
 static c2_session__Point c2_session__Session__compared(const c2_session__Session *a1, uint8_t a2,
-    const c2_session__At *a3, uint64_t a4)
+    const c2_session__At *a3, uint32_t a4)
 {
     c2_session__Point result;
-    uint64_t v5;
+    uint32_t v5;
     _Bool v6;
-    v5 = (uint64_t)a2;
+    v5 = (uint32_t)a2;
     v6 = a4 == v5;
     if (v6) {
         result = c2_session__Session__next_act(a1, a3);
@@ -1335,42 +981,41 @@ static c2_session__Point c2_session__next__strobe_point(const c2_session__At *a1
     result.u16_0 = a1->f1;
     result.u32_0 = a1->f2;
     result.u16_1 = a1->f3;
-    result.u64_0 = a2->f0;
-    result.u64_1 = a2->f1;
-    result.u64_2 = a2->f2;
-    result.u32_1 = 0;
+    result.u32_1 = a2->f0;
+    result.u32_2 = a2->f1;
+    result.u32_3 = a2->f2;
     return result;
 }
 
 /* c2_session::judge::read_again */
-static c2_session__Point c2_session__judge__read_again(uint64_t a1, const c2_session__At *a2, uint64_t a3)
+static c2_session__Point c2_session__judge__read_again(uint32_t a1, const c2_session__At *a2, uint32_t a3)
 {
     c2_session__Point result;
     _Bool v4;
-    uint64_t v5;
+    uint32_t v5;
     c2_wire__Place v6;
     v4 = a1 <= a3;
     if (v4) {
         result = c2_session__next__end_point(UINT32_C(11));
         return result;
     }
-    v5 = a3 + UINT64_C(1);
+    v5 = (uint32_t)(a3 + UINT32_C(1));
     v4 = a1 <= v5;
     if (v4) {
         result = c2_session__next__end_point(UINT32_C(11));
         return result;
     }
-    v5 = a3 + UINT64_C(1);
-    v6.f0 = UINT64_C(0);
+    v5 = (uint32_t)(a3 + UINT32_C(1));
+    v6.f0 = UINT32_C(0);
     v6.f1 = v5;
-    v6.f2 = UINT64_C(0);
+    v6.f2 = UINT32_C(0);
     result = c2_session__next__strobe_point(a2, &v6);
     return result;
 }
 
 /* c2_session::Session::polled */
 static c2_session__Point c2_session__Session__polled(const c2_session__Session *a1, _Bool a2,
-    const c2_session__At *a3, uint64_t a4)
+    const c2_session__At *a3, uint32_t a4)
 {
     c2_session__Point result;
     _Bool v5;
@@ -1379,7 +1024,7 @@ static c2_session__Point c2_session__Session__polled(const c2_session__Session *
         result = c2_session__Session__next_act(a1, a3);
         return result;
     }
-    result = c2_session__judge__read_again(UINT64_C(256), a3, a4);
+    result = c2_session__judge__read_again(UINT32_C(256), a3, a4);
     return result;
 }
 
@@ -1405,20 +1050,20 @@ static uint8_t c2_session__bytes__image_byte(slice_u8 a1, uint64_t a2)
 
 /* c2_session::Session::frame_judged */
 static c2_session__Point c2_session__Session__frame_judged(const c2_session__Session *a1, c2_acts__Task a2,
-    const c2_session__At *a3, uint64_t a4, uint64_t a5, slice_u8 a6)
+    const c2_session__At *a3, uint32_t a4, uint32_t a5, slice_u8 a6)
 {
     c2_session__Point result;
     c2_settings v7;
     c2_session__Point v8;
-    uint64_t v9;
-    uint64_t v10;
+    uint32_t v9;
+    uint32_t v10;
     _Bool v11;
-    uint64_t v12;
+    uint32_t v12;
     _Bool v13;
     _Bool v14;
     uint8_t v15;
     uint64_t v16;
-    uint64_t v17;
+    uint32_t v17;
     _Bool v18;
     v7.device_id = a1->f0.device_id;
     v7.fpdat = a1->f0.fpdat;
@@ -1426,18 +1071,18 @@ static c2_session__Point c2_session__Session__frame_judged(const c2_session__Ses
     v7.page_count = a1->f0.page_count;
     switch (a2) {
     case 4u:
-        v9 = a5 / UINT64_C(2);
-        v10 = v9 % UINT64_C(2);
-        v11 = v10 == UINT64_C(0);
+        v9 = (uint32_t)(a5 / UINT32_C(2));
+        v10 = (uint32_t)(v9 % UINT32_C(2));
+        v11 = v10 == UINT32_C(0);
         v8 = c2_session__Session__polled(a1, v11, a3, a4);
         break;
     case 5u:
-        v12 = a5 % UINT64_C(2);
-        v13 = v12 == UINT64_C(1);
+        v12 = (uint32_t)(a5 % UINT32_C(2));
+        v13 = v12 == UINT32_C(1);
         v8 = c2_session__Session__polled(a1, v13, a3, a4);
         break;
     case 7u:
-        v14 = a5 == UINT64_C(13);
+        v14 = a5 == UINT32_C(13);
         v8 = c2_session__Session__expects(a1, v14, UINT32_C(13), a3);
         break;
     case 8u:
@@ -1446,7 +1091,7 @@ static c2_session__Point c2_session__Session__frame_judged(const c2_session__Ses
         v8 = c2_session__Session__compared(a1, v15, a3, a5);
         break;
     case 6u:
-        v17 = (uint64_t)v7.device_id;
+        v17 = (uint32_t)v7.device_id;
         v18 = a5 == v17;
         v8 = c2_session__Session__expects(a1, v18, UINT32_C(12), a3);
         break;
@@ -1468,121 +1113,95 @@ static c2_session__Point c2_session__Session__frame_judged(const c2_session__Ses
     result.u16_0 = v8.u16_0;
     result.u32_0 = v8.u32_0;
     result.u16_1 = v8.u16_1;
-    result.u64_0 = v8.u64_0;
-    result.u64_1 = v8.u64_1;
-    result.u64_2 = v8.u64_2;
     result.u32_1 = v8.u32_1;
+    result.u32_2 = v8.u32_2;
+    result.u32_3 = v8.u32_3;
     return result;
 }
 
-/* c2_session::Session::frame_answered */
-static c2_session__Point c2_session__Session__frame_answered(const c2_session__Session *a1,
-    const c2_wire__Moved *a2, c2_acts__Task a3, const c2_session__At *a4, uint64_t a5, slice_u8 a6)
+/* c2_wire::script::script_after */
+static uint64_t c2_wire__script__script_after(uint64_t a1, uint32_t a2, uint32_t a3)
 {
-    c2_session__Point result;
-    c2_wire__Place v7;
-    uint64_t v8;
-    c2_session__Point v9;
+    uint64_t result;
+    _Bool v4;
+    v4 = a3 == a2;
+    if (v4) {
+        result = a1;
+        return result;
+    }
+    result = a1 / UINT64_C(16);
+    return result;
+}
+
+/* c2_session::Session::settled */
+static c2_session__Runner c2_session__Session__settled(const c2_session__Session *a1,
+    const c2_wire__Moved *a2, c2_acts__Task a3, uint64_t a4, const c2_session__At *a5,
+    const c2_wire__Place *a6, slice_u8 a7)
+{
+    c2_session__Runner result;
+    c2_wire__Place v8;
+    uint32_t v9;
+    c2_session__Runner v10;
+    c2_session__Point v11;
+    uint64_t v12;
+    c2_session__Point v13;
+    c2_session__Point v14;
     switch (a2->tag) {
     case 0u:
-        v7.f0 = a2->c2_wire__Place_0.f0;
-        v7.f1 = a2->c2_wire__Place_0.f1;
-        v7.f2 = a2->c2_wire__Place_0.f2;
-        v9 = c2_session__next__strobe_point(a4, &v7);
+        v8.f0 = a2->c2_wire__Place_0.f0;
+        v8.f1 = a2->c2_wire__Place_0.f1;
+        v8.f2 = a2->c2_wire__Place_0.f2;
+        v11 = c2_session__next__strobe_point(a5, &v8);
+        v12 = c2_wire__script__script_after(a4, a6->f0, v8.f0);
+        v10.f0.tag = v11.tag;
+        v10.f0.c2_acts__Stage_0 = v11.c2_acts__Stage_0;
+        v10.f0.u16_0 = v11.u16_0;
+        v10.f0.u32_0 = v11.u32_0;
+        v10.f0.u16_1 = v11.u16_1;
+        v10.f0.u32_1 = v11.u32_1;
+        v10.f0.u32_2 = v11.u32_2;
+        v10.f0.u32_3 = v11.u32_3;
+        v10.f1 = a3;
+        v10.f2 = v12;
         break;
     case 1u:
-        v8 = a2->u64_0;
-        v9 = c2_session__Session__frame_judged(a1, a3, a4, a5, v8, a6);
+        v9 = a2->u32_0;
+        v13 = c2_session__Session__frame_judged(a1, a3, a5, a6->f1, v9, a7);
+        v10.f0.tag = v13.tag;
+        v10.f0.c2_acts__Stage_0 = v13.c2_acts__Stage_0;
+        v10.f0.u16_0 = v13.u16_0;
+        v10.f0.u32_0 = v13.u32_0;
+        v10.f0.u16_1 = v13.u16_1;
+        v10.f0.u32_1 = v13.u32_1;
+        v10.f0.u32_2 = v13.u32_2;
+        v10.f0.u32_3 = v13.u32_3;
+        v10.f1 = a3;
+        v10.f2 = UINT64_C(0);
         break;
     default: /* 2 */
-        v9 = c2_session__next__end_point(UINT32_C(10));
+        v14 = c2_session__next__end_point(UINT32_C(10));
+        v10.f0.tag = v14.tag;
+        v10.f0.c2_acts__Stage_0 = v14.c2_acts__Stage_0;
+        v10.f0.u16_0 = v14.u16_0;
+        v10.f0.u32_0 = v14.u32_0;
+        v10.f0.u16_1 = v14.u16_1;
+        v10.f0.u32_1 = v14.u32_1;
+        v10.f0.u32_2 = v14.u32_2;
+        v10.f0.u32_3 = v14.u32_3;
+        v10.f1 = a3;
+        v10.f2 = UINT64_C(0);
         break;
     }
-    result.tag = v9.tag;
-    result.c2_acts__Stage_0 = v9.c2_acts__Stage_0;
-    result.u16_0 = v9.u16_0;
-    result.u32_0 = v9.u32_0;
-    result.u16_1 = v9.u16_1;
-    result.u64_0 = v9.u64_0;
-    result.u64_1 = v9.u64_1;
-    result.u64_2 = v9.u64_2;
-    result.u32_1 = v9.u32_1;
-    return result;
-}
-
-/* c2_session::step::alone */
-static uint8_t c2_session__step__alone(c2_acts__Task a1)
-{
-    uint8_t result;
-    uint8_t v2;
-    switch (a1) {
-    case 0u:
-        v2 = 4u;
-        break;
-    case 1u:
-        v2 = 5u;
-        break;
-    case 2u:
-        v2 = 0u;
-        break;
-    case 3u:
-        v2 = 0u;
-        break;
-    case 4u:
-        v2 = 0u;
-        break;
-    case 5u:
-        v2 = 0u;
-        break;
-    case 6u:
-        v2 = 0u;
-        break;
-    case 7u:
-        v2 = 0u;
-        break;
-    default: /* 8 */
-        v2 = 0u;
-        break;
-    }
-    result = v2;
-    return result;
-}
-
-/* c2_session::step::task_frame */
-static c2_wire__Frame c2_session__step__task_frame(c2_acts__Task a1)
-{
-    c2_wire__Frame result;
-    c2_wire__Frame v2;
-    switch (a1) {
-    case 0u:
-        v2 = 0u;
-        break;
-    case 1u:
-        v2 = 0u;
-        break;
-    case 2u:
-        v2 = 0u;
-        break;
-    case 3u:
-        v2 = 2u;
-        break;
-    case 4u:
-        v2 = 1u;
-        break;
-    case 5u:
-        v2 = 1u;
-        break;
-    case 6u:
-        v2 = 3u;
-        break;
-    case 7u:
-        v2 = 3u;
-        break;
-    default: /* 8 */
-        v2 = 3u;
-        break;
-    }
-    result = v2;
+    result.f0.tag = v10.f0.tag;
+    result.f0.c2_acts__Stage_0 = v10.f0.c2_acts__Stage_0;
+    result.f0.u16_0 = v10.f0.u16_0;
+    result.f0.u32_0 = v10.f0.u32_0;
+    result.f0.u16_1 = v10.f0.u16_1;
+    result.f0.u32_1 = v10.f0.u32_1;
+    result.f0.u32_2 = v10.f0.u32_2;
+    result.f0.u32_3 = v10.f0.u32_3;
+    result.f1 = v10.f1;
+    result.f2 = v10.f2;
     return result;
 }
 
@@ -1590,9 +1209,9 @@ static c2_wire__Frame c2_session__step__task_frame(c2_acts__Task a1)
 static c2_wire__Moved c2_wire__replies__passed(const c2_wire__Place *a1)
 {
     c2_wire__Moved result;
-    uint64_t v2;
+    uint32_t v2;
     c2_wire__Place v3;
-    v2 = a1->f0 + UINT64_C(1);
+    v2 = (uint32_t)(a1->f0 + UINT32_C(1));
     v3.f0 = v2;
     v3.f1 = a1->f1;
     v3.f2 = a1->f2;
@@ -1600,39 +1219,39 @@ static c2_wire__Moved c2_wire__replies__passed(const c2_wire__Place *a1)
     result.c2_wire__Place_0.f0 = v3.f0;
     result.c2_wire__Place_0.f1 = v3.f1;
     result.c2_wire__Place_0.f2 = v3.f2;
-    result.u64_0 = 0;
+    result.u32_0 = 0;
     return result;
 }
 
 /* c2_wire::replies::weight */
-static uint64_t c2_wire__replies__weight(uint64_t a1, _Bool a2)
+static uint32_t c2_wire__replies__weight(uint32_t a1, _Bool a2)
 {
-    uint64_t result;
+    uint32_t result;
     _Bool v3;
     v3 = a2;
     if (v3) {
-        result = UINT64_C(1) << a1;
+        result = (uint32_t)(UINT32_C(1) << a1);
         return result;
     }
-    result = UINT64_C(0);
+    result = UINT32_C(0);
     return result;
 }
 
 /* c2_wire::replies::sampled */
-static c2_wire__Moved c2_wire__replies__sampled(const c2_wire__Place *a1, uint64_t a2, _Bool a3)
+static c2_wire__Moved c2_wire__replies__sampled(const c2_wire__Place *a1, uint32_t a2, _Bool a3)
 {
     c2_wire__Moved result;
-    uint64_t v4;
-    uint64_t v5;
-    uint64_t v6;
-    uint64_t v7;
-    uint64_t v8;
+    uint32_t v4;
+    uint32_t v5;
+    uint32_t v6;
+    uint32_t v7;
+    uint32_t v8;
     c2_wire__Place v9;
-    v4 = a1->f0 + UINT64_C(1);
-    v5 = a1->f2 % UINT64_C(256);
+    v4 = (uint32_t)(a1->f0 + UINT32_C(1));
+    v5 = (uint32_t)(a1->f2 % UINT32_C(256));
     v6 = c2_wire__replies__weight(a2, a3);
-    v7 = v5 + v6;
-    v8 = v7 % UINT64_C(256);
+    v7 = (uint32_t)(v5 + v6);
+    v8 = (uint32_t)(v7 % UINT32_C(256));
     v9.f0 = v4;
     v9.f1 = a1->f1;
     v9.f2 = v8;
@@ -1640,27 +1259,27 @@ static c2_wire__Moved c2_wire__replies__sampled(const c2_wire__Place *a1, uint64
     result.c2_wire__Place_0.f0 = v9.f0;
     result.c2_wire__Place_0.f1 = v9.f1;
     result.c2_wire__Place_0.f2 = v9.f2;
-    result.u64_0 = 0;
+    result.u32_0 = 0;
     return result;
 }
 
 /* c2_wire::replies::waited */
-static c2_wire__Moved c2_wire__replies__waited(const c2_wire__Place *a1, uint64_t a2)
+static c2_wire__Moved c2_wire__replies__waited(const c2_wire__Place *a1, uint32_t a2)
 {
     c2_wire__Moved result;
-    uint64_t v3;
+    uint32_t v3;
     _Bool v4;
-    uint64_t v5;
+    uint32_t v5;
     _Bool v6;
-    uint64_t v7;
+    uint32_t v7;
     c2_wire__Place v8;
     v3 = a1->f1;
     v4 = v3 < a2;
     if (v4) {
-        v5 = v3 + UINT64_C(1);
+        v5 = (uint32_t)(v3 + UINT32_C(1));
         v6 = v5 < a2;
         if (v6) {
-            v7 = v3 + UINT64_C(1);
+            v7 = (uint32_t)(v3 + UINT32_C(1));
             v8.f0 = a1->f0;
             v8.f1 = v7;
             v8.f2 = a1->f2;
@@ -1668,7 +1287,7 @@ static c2_wire__Moved c2_wire__replies__waited(const c2_wire__Place *a1, uint64_
             result.c2_wire__Place_0.f0 = v8.f0;
             result.c2_wire__Place_0.f1 = v8.f1;
             result.c2_wire__Place_0.f2 = v8.f2;
-            result.u64_0 = 0;
+            result.u32_0 = 0;
             return result;
         }
     }
@@ -1676,364 +1295,103 @@ static c2_wire__Moved c2_wire__replies__waited(const c2_wire__Place *a1, uint64_
     result.c2_wire__Place_0.f0 = 0;
     result.c2_wire__Place_0.f1 = 0;
     result.c2_wire__Place_0.f2 = 0;
-    result.u64_0 = 0;
+    result.u32_0 = 0;
     return result;
 }
 
 /* c2_wire::replies::wait_answered */
-static c2_wire__Moved c2_wire__replies__wait_answered(const c2_wire__Place *a1, _Bool a2, uint64_t a3)
+static c2_wire__Moved c2_wire__replies__wait_answered(const c2_wire__Place *a1, _Bool a2, uint32_t a3)
 {
     c2_wire__Moved result;
     _Bool v4;
-    uint64_t v5;
+    uint32_t v5;
     c2_wire__Place v6;
     v4 = a2;
     if (v4) {
-        v5 = a1->f0 + UINT64_C(1);
+        v5 = (uint32_t)(a1->f0 + UINT32_C(1));
         v6.f0 = v5;
-        v6.f1 = UINT64_C(0);
+        v6.f1 = UINT32_C(0);
         v6.f2 = a1->f2;
         result.tag = 0u;
         result.c2_wire__Place_0.f0 = v6.f0;
         result.c2_wire__Place_0.f1 = v6.f1;
         result.c2_wire__Place_0.f2 = v6.f2;
-        result.u64_0 = 0;
+        result.u32_0 = 0;
         return result;
     }
     result = c2_wire__replies__waited(a1, a3);
     return result;
 }
 
-/* c2_wire::replies::role_follow */
-static c2_wire__Moved c2_wire__replies__role_follow(const c2_wire__Role *a1, const c2_wire__Place *a2,
-    _Bool a3, uint64_t a4)
-{
-    c2_wire__Moved result;
-    uint64_t v5;
-    c2_wire__Moved v6;
-    switch (a1->tag) {
-    case 5u:
-        v6 = c2_wire__replies__wait_answered(a2, a3, a4);
-        break;
-    case 4u:
-        v5 = a1->u64_0;
-        v6 = c2_wire__replies__sampled(a2, v5, a3);
-        break;
-    case 6u:
-        v6.tag = 1u;
-        v6.u64_0 = a2->f2;
-        v6.c2_wire__Place_0.f0 = 0;
-        v6.c2_wire__Place_0.f1 = 0;
-        v6.c2_wire__Place_0.f2 = 0;
-        break;
-    case 0u:
-        v6 = c2_wire__replies__passed(a2);
-        break;
-    case 1u:
-        v6 = c2_wire__replies__passed(a2);
-        break;
-    case 2u:
-        v6 = c2_wire__replies__passed(a2);
-        break;
-    default: /* 3 */
-        v6 = c2_wire__replies__passed(a2);
-        break;
-    }
-    result.tag = v6.tag;
-    result.c2_wire__Place_0.f0 = v6.c2_wire__Place_0.f0;
-    result.c2_wire__Place_0.f1 = v6.c2_wire__Place_0.f1;
-    result.c2_wire__Place_0.f2 = v6.c2_wire__Place_0.f2;
-    result.u64_0 = v6.u64_0;
-    return result;
-}
-
-/* c2_wire::steps::address_read_role */
-static c2_wire__Role c2_wire__steps__address_read_role(uint64_t a1)
-{
-    c2_wire__Role result;
-    _Bool v2;
-    v2 = a1 < UINT64_C(8);
-    if (v2) {
-        result.tag = 4u;
-        result.u64_0 = a1;
-        return result;
-    }
-    result.tag = 6u;
-    result.u64_0 = 0;
-    return result;
-}
-
-/* c2_wire::steps::address_write_role */
-static c2_wire__Role c2_wire__steps__address_write_role(uint64_t a1)
-{
-    c2_wire__Role result;
-    _Bool v2;
-    v2 = a1 < UINT64_C(8);
-    if (v2) {
-        result.tag = 3u;
-        result.u64_0 = a1;
-        return result;
-    }
-    result.tag = 6u;
-    result.u64_0 = 0;
-    return result;
-}
-
-/* c2_wire::steps::data_read_role */
-static c2_wire__Role c2_wire__steps__data_read_role(uint64_t a1)
-{
-    c2_wire__Role result;
-    _Bool v2;
-    uint64_t v3;
-    v2 = a1 < UINT64_C(2);
-    if (v2) {
-        result.tag = 2u;
-        result.u64_0 = 0;
-        return result;
-    }
-    v2 = a1 < UINT64_C(3);
-    if (v2) {
-        result.tag = 5u;
-        result.u64_0 = 0;
-        return result;
-    }
-    v2 = a1 < UINT64_C(11);
-    if (v2) {
-        v3 = a1 - UINT64_C(3);
-        result.tag = 4u;
-        result.u64_0 = v3;
-        return result;
-    }
-    result.tag = 6u;
-    result.u64_0 = 0;
-    return result;
-}
-
-/* c2_wire::steps::data_write_role */
-static c2_wire__Role c2_wire__steps__data_write_role(uint64_t a1)
-{
-    c2_wire__Role result;
-    _Bool v2;
-    uint64_t v3;
-    v2 = a1 < UINT64_C(2);
-    if (v2) {
-        result.tag = 2u;
-        result.u64_0 = 0;
-        return result;
-    }
-    v2 = a1 < UINT64_C(10);
-    if (v2) {
-        v3 = a1 - UINT64_C(2);
-        result.tag = 3u;
-        result.u64_0 = v3;
-        return result;
-    }
-    v2 = a1 < UINT64_C(11);
-    if (v2) {
-        result.tag = 5u;
-        result.u64_0 = 0;
-        return result;
-    }
-    result.tag = 6u;
-    result.u64_0 = 0;
-    return result;
-}
-
-/* c2_wire::steps::body_role */
-static c2_wire__Role c2_wire__steps__body_role(c2_wire__Frame a1, uint64_t a2)
-{
-    c2_wire__Role result;
-    c2_wire__Role v3;
-    switch (a1) {
-    case 0u:
-        v3 = c2_wire__steps__address_write_role(a2);
-        break;
-    case 1u:
-        v3 = c2_wire__steps__address_read_role(a2);
-        break;
-    case 2u:
-        v3 = c2_wire__steps__data_write_role(a2);
-        break;
-    default: /* 3 */
-        v3 = c2_wire__steps__data_read_role(a2);
-        break;
-    }
-    result.tag = v3.tag;
-    result.u64_0 = v3.u64_0;
-    return result;
-}
-
-/* c2_wire::steps::role_at */
-static c2_wire__Role c2_wire__steps__role_at(c2_wire__Frame a1, uint64_t a2)
-{
-    c2_wire__Role result;
-    _Bool v3;
-    uint64_t v4;
-    uint64_t v5;
-    v3 = a2 == UINT64_C(0);
-    if (v3) {
-        result.tag = 0u;
-        result.u64_0 = 0;
-        return result;
-    }
-    v3 = a2 < UINT64_C(3);
-    if (v3) {
-        v4 = a2 - UINT64_C(1);
-        result.tag = 1u;
-        result.u64_0 = v4;
-        return result;
-    }
-    v5 = a2 - UINT64_C(3);
-    result = c2_wire__steps__body_role(a1, v5);
-    return result;
-}
-
 /* c2_wire::replies::follow */
-static c2_wire__Moved c2_wire__replies__follow(c2_wire__Frame a1, const c2_wire__Place *a2, _Bool a3,
-    uint64_t a4)
+static c2_wire__Moved c2_wire__replies__follow(uint64_t a1, const c2_wire__Place *a2, _Bool a3, uint32_t a4)
 {
     c2_wire__Moved result;
-    c2_wire__Role v5;
-    v5 = c2_wire__steps__role_at(a1, a2->f0);
-    result = c2_wire__replies__role_follow(&v5, a2, a3, a4);
-    return result;
-}
-
-/* c2_session::Session::task_taken */
-static c2_session__Point c2_session__Session__task_taken(const c2_session__Session *a1, c2_acts__Task a2,
-    const c2_session__At *a3, const c2_wire__Place *a4, _Bool a5, slice_u8 a6)
-{
-    c2_session__Point result;
-    c2_wire__Moved v7;
-    uint8_t v8;
-    _Bool v9;
-    c2_wire__Frame v10;
-    v8 = c2_session__step__alone(a2);
-    v9 = v8 != 0u;
-    if (v9) {
-        result = c2_session__Session__next_act(a1, a3);
-        return result;
-    }
-    v10 = c2_session__step__task_frame(a2);
-    v7 = c2_wire__replies__follow(v10, a4, a5, UINT64_C(20));
-    result = c2_session__Session__frame_answered(a1, &v7, a2, a3, a4->f1, a6);
-    return result;
-}
-
-/* c2_session::Session::taken */
-static c2_session__Point c2_session__Session__taken(const c2_session__Session *a1, c2_acts__Task a2,
-    const c2_session__At *a3, const c2_wire__Place *a4, uint8_t a5, slice_u8 a6)
-{
-    c2_session__Point result;
-    _Bool v7;
-    v7 = 1u < a5;
-    if (v7) {
-        result = c2_session__next__end_point(UINT32_C(9));
-        return result;
-    }
-    v7 = a5 == 1u;
-    result = c2_session__Session__task_taken(a1, a2, a3, a4, v7, a6);
-    return result;
-}
-
-/* c2_session::Session::point_advanced_by */
-static c2_session__Point c2_session__Session__point_advanced_by(const c2_session__Session *a1,
-    c2_acts__Task a2, const c2_session__Point *a3, uint8_t a4, slice_u8 a5)
-{
-    c2_session__Point result;
-    c2_acts__Stage v6;
-    uint16_t v7;
+    uint64_t v5;
+    _Bool v6;
+    uint64_t v7;
     uint32_t v8;
-    uint16_t v9;
-    uint64_t v10;
-    uint64_t v11;
-    uint64_t v12;
-    uint32_t v13;
-    uint32_t v14;
-    c2_session__Point v15;
-    c2_session__At v16;
-    c2_wire__Place v17;
-    switch (a3->tag) {
-    case 0u:
-        v6 = a3->c2_acts__Stage_0;
-        v7 = a3->u16_0;
-        v8 = a3->u32_0;
-        v9 = a3->u16_1;
-        v10 = a3->u64_0;
-        v11 = a3->u64_1;
-        v12 = a3->u64_2;
-        v16.f0 = v6;
-        v16.f1 = v7;
-        v16.f2 = v8;
-        v16.f3 = v9;
-        v17.f0 = v10;
-        v17.f1 = v11;
-        v17.f2 = v12;
-        v15 = c2_session__Session__taken(a1, a2, &v16, &v17, a4, a5);
-        break;
-    default: /* 1 */
-        v13 = a3->u32_0;
-        v14 = a3->u32_1;
-        v15.tag = 1u;
-        v15.u32_0 = v13;
-        v15.u32_1 = v14;
-        v15.c2_acts__Stage_0 = 0;
-        v15.u16_0 = 0;
-        v15.u16_1 = 0;
-        v15.u64_0 = 0;
-        v15.u64_1 = 0;
-        v15.u64_2 = 0;
-        break;
+    v5 = a1 % UINT64_C(16);
+    v6 = UINT32_C(14) <= a2->f0;
+    if (v6) {
+        result.tag = 1u;
+        result.u32_0 = a2->f2;
+        result.c2_wire__Place_0.f0 = 0;
+        result.c2_wire__Place_0.f1 = 0;
+        result.c2_wire__Place_0.f2 = 0;
+        return result;
     }
-    result.tag = v15.tag;
-    result.c2_acts__Stage_0 = v15.c2_acts__Stage_0;
-    result.u16_0 = v15.u16_0;
-    result.u32_0 = v15.u32_0;
-    result.u16_1 = v15.u16_1;
-    result.u64_0 = v15.u64_0;
-    result.u64_1 = v15.u64_1;
-    result.u64_2 = v15.u64_2;
-    result.u32_1 = v15.u32_1;
+    v6 = v5 < UINT64_C(4);
+    if (v6) {
+        result = c2_wire__replies__passed(a2);
+        return result;
+    }
+    v6 = UINT64_C(8) <= v5;
+    if (v6) {
+        v7 = v5 - UINT64_C(8);
+        v8 = (uint32_t)v7;
+        result = c2_wire__replies__sampled(a2, v8, a3);
+        return result;
+    }
+    v6 = v5 == UINT64_C(6);
+    if (v6) {
+        result = c2_wire__replies__wait_answered(a2, a3, a4);
+        return result;
+    }
+    result.tag = 1u;
+    result.u32_0 = a2->f2;
+    result.c2_wire__Place_0.f0 = 0;
+    result.c2_wire__Place_0.f1 = 0;
+    result.c2_wire__Place_0.f2 = 0;
     return result;
 }
 
-/* c2_session::Session::advance_by */
-static c2_session__Session c2_session__Session__advance_by(const c2_session__Session *a1, c2_acts__Task a2,
-    uint8_t a3, slice_u8 a4)
+/* c2_session::Session::replied */
+static c2_session__Runner c2_session__Session__replied(const c2_session__Session *a1, c2_acts__Task a2,
+    uint64_t a3, const c2_session__At *a4, const c2_wire__Place *a5, uint8_t a6, slice_u8 a7)
 {
-    c2_session__Session result;
-    c2_settings v5;
-    c2_session__Point v6;
-    c2_session__Point v7;
-    v5.device_id = a1->f0.device_id;
-    v5.fpdat = a1->f0.fpdat;
-    v5.page_size = a1->f0.page_size;
-    v5.page_count = a1->f0.page_count;
-    v6.tag = a1->f3.tag;
-    v6.c2_acts__Stage_0 = a1->f3.c2_acts__Stage_0;
-    v6.u16_0 = a1->f3.u16_0;
-    v6.u32_0 = a1->f3.u32_0;
-    v6.u16_1 = a1->f3.u16_1;
-    v6.u64_0 = a1->f3.u64_0;
-    v6.u64_1 = a1->f3.u64_1;
-    v6.u64_2 = a1->f3.u64_2;
-    v6.u32_1 = a1->f3.u32_1;
-    v7 = c2_session__Session__point_advanced_by(a1, a2, &v6, a3, a4);
-    result.f0.device_id = v5.device_id;
-    result.f0.fpdat = v5.fpdat;
-    result.f0.page_size = v5.page_size;
-    result.f0.page_count = v5.page_count;
-    result.f1 = a1->f1;
-    result.f2 = a1->f2;
-    result.f3.tag = v7.tag;
-    result.f3.c2_acts__Stage_0 = v7.c2_acts__Stage_0;
-    result.f3.u16_0 = v7.u16_0;
-    result.f3.u32_0 = v7.u32_0;
-    result.f3.u16_1 = v7.u16_1;
-    result.f3.u64_0 = v7.u64_0;
-    result.f3.u64_1 = v7.u64_1;
-    result.f3.u64_2 = v7.u64_2;
-    result.f3.u32_1 = v7.u32_1;
+    c2_session__Runner result;
+    c2_wire__Moved v8;
+    _Bool v9;
+    c2_session__Point v10;
+    v9 = 1u < a6;
+    if (v9) {
+        v10 = c2_session__next__end_point(UINT32_C(9));
+        result.f0.tag = v10.tag;
+        result.f0.c2_acts__Stage_0 = v10.c2_acts__Stage_0;
+        result.f0.u16_0 = v10.u16_0;
+        result.f0.u32_0 = v10.u32_0;
+        result.f0.u16_1 = v10.u16_1;
+        result.f0.u32_1 = v10.u32_1;
+        result.f0.u32_2 = v10.u32_2;
+        result.f0.u32_3 = v10.u32_3;
+        result.f1 = a2;
+        result.f2 = UINT64_C(0);
+        return result;
+    }
+    v9 = a6 == 1u;
+    v8 = c2_wire__replies__follow(a3, a5, v9, UINT32_C(20));
+    result = c2_session__Session__settled(a1, &v8, a2, a3, a4, a5, a7);
     return result;
 }
 
@@ -2230,8 +1588,8 @@ static uint8_t c2_session__Session__stage_byte(const c2_session__Session *a1, c2
     return result;
 }
 
-/* c2_session::step::task_sends */
-static _Bool c2_session__step__task_sends(c2_acts__Task a1)
+/* c2_session::script::task_sends */
+static _Bool c2_session__script__task_sends(c2_acts__Task a1)
 {
     _Bool result;
     _Bool v2;
@@ -2276,7 +1634,7 @@ static uint8_t c2_session__Session__task_byte(const c2_session__Session *a1, c2_
     c2_acts__Stage v5;
     _Bool v6;
     v5 = a3->f0;
-    v6 = c2_session__step__task_sends(a2);
+    v6 = c2_session__script__task_sends(a2);
     if (v6) {
         result = c2_session__Session__stage_byte(a1, v5, a3, a4);
         return result;
@@ -2285,42 +1643,75 @@ static uint8_t c2_session__Session__task_byte(const c2_session__Session *a1, c2_
     return result;
 }
 
-/* c2_wire::steps::driven */
-static uint8_t c2_wire__steps__driven(uint8_t a1, uint64_t a2)
-{
-    uint8_t result;
-    _Bool v3;
-    uint8_t v4;
-    uint8_t v5;
-    uint8_t v6;
-    v3 = a2 < UINT64_C(8);
-    if (v3) {
-        v4 = (uint8_t)a2;
-        v5 = (uint8_t)((unsigned)a1 >> v4);
-        v6 = (uint8_t)((unsigned)v5 % 2u);
-        result = (uint8_t)((unsigned)2u + v6);
-        return result;
-    }
-    result = 2u;
-    return result;
-}
-
-/* c2_wire::steps::ins */
-static uint8_t c2_wire__steps__ins(c2_wire__Frame a1)
+/* c2_session::script::alone */
+static uint8_t c2_session__script__alone(c2_acts__Task a1)
 {
     uint8_t result;
     uint8_t v2;
     switch (a1) {
+    case 0u:
+        v2 = 4u;
+        break;
+    case 1u:
+        v2 = 5u;
+        break;
+    case 2u:
+        v2 = 0u;
+        break;
     case 3u:
         v2 = 0u;
         break;
-    case 2u:
-        v2 = 1u;
+    case 4u:
+        v2 = 0u;
+        break;
+    case 5u:
+        v2 = 0u;
+        break;
+    case 6u:
+        v2 = 0u;
+        break;
+    case 7u:
+        v2 = 0u;
+        break;
+    default: /* 8 */
+        v2 = 0u;
+        break;
+    }
+    result = v2;
+    return result;
+}
+
+/* c2_session::script::task_frame */
+static c2_wire__Frame c2_session__script__task_frame(c2_acts__Task a1)
+{
+    c2_wire__Frame result;
+    c2_wire__Frame v2;
+    switch (a1) {
+    case 0u:
+        v2 = 0u;
         break;
     case 1u:
+        v2 = 0u;
+        break;
+    case 2u:
+        v2 = 0u;
+        break;
+    case 3u:
         v2 = 2u;
         break;
-    default: /* 0 */
+    case 4u:
+        v2 = 1u;
+        break;
+    case 5u:
+        v2 = 1u;
+        break;
+    case 6u:
+        v2 = 3u;
+        break;
+    case 7u:
+        v2 = 3u;
+        break;
+    default: /* 8 */
         v2 = 3u;
         break;
     }
@@ -2328,123 +1719,621 @@ static uint8_t c2_wire__steps__ins(c2_wire__Frame a1)
     return result;
 }
 
-/* c2_wire::steps::role_step */
-static uint8_t c2_wire__steps__role_step(c2_wire__Frame a1, uint8_t a2, const c2_wire__Role *a3)
+/* c2_wire::script::driven */
+static uint64_t c2_wire__script__driven(uint8_t a1)
 {
-    uint8_t result;
+    uint64_t result;
+    uint64_t v2;
+    uint64_t v3;
     uint64_t v4;
     uint64_t v5;
-    uint8_t v6;
-    uint8_t v7;
-    switch (a3->tag) {
-    case 1u:
-        v4 = a3->u64_0;
-        v7 = c2_wire__steps__ins(a1);
-        v6 = c2_wire__steps__driven(v7, v4);
+    uint64_t v6;
+    uint64_t v7;
+    uint64_t v8;
+    uint64_t v9;
+    uint64_t v10;
+    uint64_t v11;
+    uint64_t v12;
+    uint64_t v13;
+    uint64_t v14;
+    uint64_t v15;
+    uint64_t v16;
+    uint64_t v17;
+    uint64_t v18;
+    uint64_t v19;
+    uint64_t v20;
+    v2 = (uint64_t)a1;
+    v3 = v2 / UINT64_C(2);
+    v4 = v3 / UINT64_C(2);
+    v5 = v4 / UINT64_C(2);
+    v6 = v5 / UINT64_C(2);
+    v7 = v6 / UINT64_C(2);
+    v8 = v7 / UINT64_C(2);
+    v9 = v8 / UINT64_C(2);
+    v12 = v2 % UINT64_C(2);
+    v13 = v3 % UINT64_C(2);
+    v14 = v13 * UINT64_C(16);
+    v15 = v12 + v14;
+    v16 = v4 % UINT64_C(2);
+    v17 = v16 * UINT64_C(256);
+    v18 = v15 + v17;
+    v19 = v5 % UINT64_C(2);
+    v20 = v19 * UINT64_C(4096);
+    v10 = v18 + v20;
+    v12 = v6 % UINT64_C(2);
+    v20 = v7 % UINT64_C(2);
+    v19 = v20 * UINT64_C(16);
+    v18 = v12 + v19;
+    v17 = v8 % UINT64_C(2);
+    v16 = v17 * UINT64_C(256);
+    v15 = v18 + v16;
+    v14 = v9 % UINT64_C(2);
+    v13 = v14 * UINT64_C(4096);
+    v11 = v15 + v13;
+    v12 = UINT64_C(572662306) + v10;
+    v13 = v11 * UINT64_C(65536);
+    result = v12 + v13;
+    return result;
+}
+
+/* c2_wire::script::script_of */
+static uint64_t c2_wire__script__script_of(c2_wire__Frame a1, uint8_t a2)
+{
+    uint64_t result;
+    uint64_t v3;
+    uint64_t v4;
+    uint64_t v5;
+    uint64_t v6;
+    uint64_t v7;
+    switch (a1) {
+    case 0u:
+        v4 = c2_wire__script__driven(a2);
+        v5 = v4 * UINT64_C(4096);
+        v3 = UINT64_C(8608472358044304176) + v5;
         break;
-    case 3u:
-        v5 = a3->u64_0;
-        v6 = c2_wire__steps__driven(a2, v5);
+    case 1u:
+        v3 = UINT64_C(8608489872042853152);
         break;
     case 2u:
-        v6 = 2u;
+        v6 = c2_wire__script__driven(a2);
+        v7 = v6 * UINT64_C(1048576);
+        v3 = UINT64_C(8601875288277787184) + v7;
         break;
+    default: /* 3 */
+        v3 = UINT64_C(8646591028576526880);
+        break;
+    }
+    result = v3;
+    return result;
+}
+
+/* c2_session::script::act_script */
+static uint64_t c2_session__script__act_script(c2_acts__Task a1, uint8_t a2)
+{
+    uint64_t result;
+    uint8_t v3;
+    _Bool v4;
+    c2_wire__Frame v5;
+    v3 = c2_session__script__alone(a1);
+    v4 = v3 == 4u;
+    if (v4) {
+        result = UINT64_C(4919131752989213764);
+        return result;
+    }
+    v4 = v3 == 5u;
+    if (v4) {
+        result = UINT64_C(6148914691236517205);
+        return result;
+    }
+    v5 = c2_session__script__task_frame(a1);
+    result = c2_wire__script__script_of(v5, a2);
+    return result;
+}
+
+/* c2_wire::script::script_from */
+static uint64_t c2_wire__script__script_from(uint64_t a1, uint32_t a2)
+{
+    uint64_t result;
+    _Bool v3;
+    uint32_t v4;
+    uint64_t v5;
+    v3 = a2 < UINT32_C(15);
+    if (v3) {
+        v4 = (uint32_t)(UINT32_C(4) * a2);
+        v5 = (uint64_t)v4;
+        result = a1 >> v5;
+        return result;
+    }
+    result = a1 >> UINT64_C(60);
+    return result;
+}
+
+/* c2_session::Session::script_at */
+static uint64_t c2_session__Session__script_at(const c2_session__Session *a1, c2_acts__Task a2,
+    const c2_session__At *a3, uint32_t a4, slice_u8 a5)
+{
+    uint64_t result;
+    uint64_t v6;
+    uint8_t v7;
+    v7 = c2_session__Session__task_byte(a1, a2, a3, a5);
+    v6 = c2_session__script__act_script(a2, v7);
+    result = c2_wire__script__script_from(v6, a4);
+    return result;
+}
+
+/* c2_session::run::is_known */
+static _Bool c2_session__run__is_known(uint32_t a1, uint64_t a2)
+{
+    _Bool result;
+    _Bool v3;
+    v3 = a1 == UINT32_C(0);
+    if (v3) {
+        result = 0;
+        return result;
+    }
+    result = a2 != UINT64_C(0);
+    return result;
+}
+
+/* c2_session::Session::script_now */
+static uint64_t c2_session__Session__script_now(const c2_session__Session *a1, c2_acts__Task a2, uint64_t a3,
+    const c2_session__At *a4, uint32_t a5, slice_u8 a6)
+{
+    uint64_t result;
+    _Bool v7;
+    v7 = c2_session__run__is_known(a5, a3);
+    if (v7) {
+        result = a3;
+        return result;
+    }
+    result = c2_session__Session__script_at(a1, a2, a4, a5, a6);
+    return result;
+}
+
+/* c2_acts::erase_task */
+static c2_acts__Task c2_acts__erase_task(uint16_t a1)
+{
+    c2_acts__Task result;
+    _Bool v2;
+    uint16_t v3;
+    v2 = a1 == 0u;
+    if (v2) {
+        result = 2u;
+        return result;
+    }
+    v3 = (uint16_t)((unsigned)a1 % 4u);
+    v2 = v3 == 1u;
+    if (v2) {
+        result = 3u;
+        return result;
+    }
+    v3 = (uint16_t)((unsigned)a1 % 4u);
+    v2 = v3 == 2u;
+    if (v2) {
+        result = 4u;
+        return result;
+    }
+    v3 = (uint16_t)((unsigned)a1 % 4u);
+    v2 = v3 == 3u;
+    if (v2) {
+        result = 5u;
+        return result;
+    }
+    result = 7u;
+    return result;
+}
+
+/* c2_acts::lead_task */
+static c2_acts__Task c2_acts__lead_task(uint16_t a1)
+{
+    c2_acts__Task result;
+    _Bool v2;
+    v2 = a1 == 0u;
+    if (v2) {
+        result = 0u;
+        return result;
+    }
+    v2 = a1 == 1u;
+    if (v2) {
+        result = 6u;
+        return result;
+    }
+    v2 = a1 == 2u;
+    if (v2) {
+        result = 0u;
+        return result;
+    }
+    v2 = a1 == 3u;
+    if (v2) {
+        result = 2u;
+        return result;
+    }
+    v2 = a1 < 7u;
+    if (v2) {
+        result = 3u;
+        return result;
+    }
+    result = 1u;
+    return result;
+}
+
+/* c2_acts::put_task */
+static c2_acts__Task c2_acts__put_task(uint16_t a1)
+{
+    c2_acts__Task result;
+    uint16_t v2;
+    _Bool v3;
+    v2 = (uint16_t)((unsigned)a1 % 2u);
+    v3 = v2 == 1u;
+    if (v3) {
+        result = 3u;
+        return result;
+    }
+    result = 4u;
+    return result;
+}
+
+/* c2_acts::read_task */
+static c2_acts__Task c2_acts__read_task(uint16_t a1)
+{
+    c2_acts__Task result;
+    _Bool v2;
+    uint16_t v3;
+    v2 = a1 == 0u;
+    if (v2) {
+        result = 2u;
+        return result;
+    }
+    v2 = a1 == 3u;
+    if (v2) {
+        result = 5u;
+        return result;
+    }
+    v2 = a1 == 4u;
+    if (v2) {
+        result = 7u;
+        return result;
+    }
+    v2 = a1 < 11u;
+    if (v2) {
+        result = c2_acts__put_task(a1);
+        return result;
+    }
+    v3 = (uint16_t)((unsigned)a1 % 2u);
+    v2 = v3 == 1u;
+    if (v2) {
+        result = 5u;
+        return result;
+    }
+    v2 = a1 == 12u;
+    if (v2) {
+        result = 7u;
+        return result;
+    }
+    result = 8u;
+    return result;
+}
+
+/* c2_acts::write_task */
+static c2_acts__Task c2_acts__write_task(uint16_t a1)
+{
+    c2_acts__Task result;
+    _Bool v2;
+    v2 = a1 == 0u;
+    if (v2) {
+        result = 2u;
+        return result;
+    }
+    v2 = a1 == 3u;
+    if (v2) {
+        result = 5u;
+        return result;
+    }
+    v2 = a1 == 4u;
+    if (v2) {
+        result = 7u;
+        return result;
+    }
+    v2 = a1 < 523u;
+    if (v2) {
+        result = c2_acts__put_task(a1);
+        return result;
+    }
+    v2 = a1 == 523u;
+    if (v2) {
+        result = 5u;
+        return result;
+    }
+    result = 7u;
+    return result;
+}
+
+/* c2_acts::task_of */
+static c2_acts__Task c2_acts__task_of(c2_acts__Stage a1, uint16_t a2)
+{
+    c2_acts__Task result;
+    c2_acts__Task v3;
+    switch (a1) {
     case 0u:
-        v6 = 0u;
+        v3 = c2_acts__lead_task(a2);
         break;
-    case 4u:
-        v6 = 0u;
+    case 1u:
+        v3 = c2_acts__erase_task(a2);
         break;
-    case 5u:
-        v6 = 0u;
+    case 2u:
+        v3 = c2_acts__write_task(a2);
         break;
-    default: /* 6 */
-        v6 = 0u;
+    case 3u:
+        v3 = c2_acts__read_task(a2);
+        break;
+    default: /* 4 */
+        v3 = 0u;
+        break;
+    }
+    result = v3;
+    return result;
+}
+
+/* c2_session::run::task_now */
+static c2_acts__Task c2_session__run__task_now(c2_acts__Task a1, uint64_t a2, const c2_session__At *a3,
+    uint32_t a4)
+{
+    c2_acts__Task result;
+    c2_acts__Stage v5;
+    _Bool v6;
+    v5 = a3->f0;
+    v6 = c2_session__run__is_known(a4, a2);
+    if (v6) {
+        result = a1;
+        return result;
+    }
+    result = c2_acts__task_of(v5, a3->f3);
+    return result;
+}
+
+/* c2_session::Session::taken */
+static c2_session__Runner c2_session__Session__taken(const c2_session__Session *a1, c2_acts__Task a2,
+    uint64_t a3, const c2_session__At *a4, const c2_wire__Place *a5, uint8_t a6, slice_u8 a7)
+{
+    c2_session__Runner result;
+    c2_acts__Task v8;
+    uint64_t v9;
+    v8 = c2_session__run__task_now(a2, a3, a4, a5->f0);
+    v9 = c2_session__Session__script_now(a1, v8, a3, a4, a5->f0, a7);
+    result = c2_session__Session__replied(a1, v8, v9, a4, a5, a6, a7);
+    return result;
+}
+
+/* c2_session::Runner::advance */
+static c2_session__Runner c2_session__Runner__advance(const c2_session__Runner *a1,
+    const c2_session__Session *a2, uint8_t a3, slice_u8 a4)
+{
+    c2_session__Runner result;
+    c2_acts__Task v5;
+    c2_session__Point v6;
+    c2_acts__Stage v7;
+    uint16_t v8;
+    uint32_t v9;
+    uint16_t v10;
+    uint32_t v11;
+    uint32_t v12;
+    uint32_t v13;
+    uint32_t v14;
+    uint32_t v15;
+    c2_session__Runner v16;
+    c2_session__At v17;
+    c2_wire__Place v18;
+    c2_session__Point v19;
+    v5 = a1->f1;
+    v6.tag = a1->f0.tag;
+    v6.c2_acts__Stage_0 = a1->f0.c2_acts__Stage_0;
+    v6.u16_0 = a1->f0.u16_0;
+    v6.u32_0 = a1->f0.u32_0;
+    v6.u16_1 = a1->f0.u16_1;
+    v6.u32_1 = a1->f0.u32_1;
+    v6.u32_2 = a1->f0.u32_2;
+    v6.u32_3 = a1->f0.u32_3;
+    switch (v6.tag) {
+    case 0u:
+        v7 = v6.c2_acts__Stage_0;
+        v8 = v6.u16_0;
+        v9 = v6.u32_0;
+        v10 = v6.u16_1;
+        v11 = v6.u32_1;
+        v12 = v6.u32_2;
+        v13 = v6.u32_3;
+        v17.f0 = v7;
+        v17.f1 = v8;
+        v17.f2 = v9;
+        v17.f3 = v10;
+        v18.f0 = v11;
+        v18.f1 = v12;
+        v18.f2 = v13;
+        v16 = c2_session__Session__taken(a2, v5, a1->f2, &v17, &v18, a3, a4);
+        break;
+    default: /* 1 */
+        v14 = v6.u32_0;
+        v15 = v6.u32_1;
+        v19.tag = 1u;
+        v19.u32_0 = v14;
+        v19.u32_1 = v15;
+        v19.c2_acts__Stage_0 = 0;
+        v19.u16_0 = 0;
+        v19.u16_1 = 0;
+        v19.u32_2 = 0;
+        v19.u32_3 = 0;
+        v16.f0.tag = v19.tag;
+        v16.f0.c2_acts__Stage_0 = v19.c2_acts__Stage_0;
+        v16.f0.u16_0 = v19.u16_0;
+        v16.f0.u32_0 = v19.u32_0;
+        v16.f0.u16_1 = v19.u16_1;
+        v16.f0.u32_1 = v19.u32_1;
+        v16.f0.u32_2 = v19.u32_2;
+        v16.f0.u32_3 = v19.u32_3;
+        v16.f1 = v5;
+        v16.f2 = UINT64_C(0);
+        break;
+    }
+    result.f0.tag = v16.f0.tag;
+    result.f0.c2_acts__Stage_0 = v16.f0.c2_acts__Stage_0;
+    result.f0.u16_0 = v16.f0.u16_0;
+    result.f0.u32_0 = v16.f0.u32_0;
+    result.f0.u16_1 = v16.f0.u16_1;
+    result.f0.u32_1 = v16.f0.u32_1;
+    result.f0.u32_2 = v16.f0.u32_2;
+    result.f0.u32_3 = v16.f0.u32_3;
+    result.f1 = v16.f1;
+    result.f2 = v16.f2;
+    return result;
+}
+
+/* c2_session::script::lead_step */
+static uint8_t c2_session__script__lead_step(uint16_t a1)
+{
+    uint8_t result;
+    _Bool v2;
+    v2 = a1 == 0u;
+    if (v2) {
+        result = 4u;
+        return result;
+    }
+    v2 = a1 == 2u;
+    if (v2) {
+        result = 4u;
+        return result;
+    }
+    v2 = a1 < 7u;
+    if (v2) {
+        result = 0u;
+        return result;
+    }
+    result = 5u;
+    return result;
+}
+
+/* c2_session::script::first_step */
+static uint8_t c2_session__script__first_step(c2_acts__Stage a1, uint16_t a2)
+{
+    uint8_t result;
+    uint8_t v3;
+    switch (a1) {
+    case 0u:
+        v3 = c2_session__script__lead_step(a2);
+        break;
+    case 1u:
+        v3 = 0u;
+        break;
+    case 2u:
+        v3 = 0u;
+        break;
+    case 3u:
+        v3 = 0u;
+        break;
+    default: /* 4 */
+        v3 = 4u;
+        break;
+    }
+    result = v3;
+    return result;
+}
+
+/* c2_wire::script::step */
+static uint8_t c2_wire__script__step(uint64_t a1)
+{
+    uint8_t result;
+    uint64_t v2;
+    _Bool v3;
+    v2 = a1 % UINT64_C(16);
+    v3 = v2 < UINT64_C(6);
+    if (v3) {
+        result = (uint8_t)v2;
+        return result;
+    }
+    result = 0u;
+    return result;
+}
+
+/* c2_session::Runner::step */
+static uint8_t c2_session__Runner__step(const c2_session__Runner *a1)
+{
+    uint8_t result;
+    c2_session__Point v2;
+    c2_acts__Stage v3;
+    uint16_t v4;
+    uint32_t v5;
+    uint8_t v6;
+    _Bool v7;
+    v2.tag = a1->f0.tag;
+    v2.c2_acts__Stage_0 = a1->f0.c2_acts__Stage_0;
+    v2.u16_0 = a1->f0.u16_0;
+    v2.u32_0 = a1->f0.u32_0;
+    v2.u16_1 = a1->f0.u16_1;
+    v2.u32_1 = a1->f0.u32_1;
+    v2.u32_2 = a1->f0.u32_2;
+    v2.u32_3 = a1->f0.u32_3;
+    switch (v2.tag) {
+    case 0u:
+        v3 = v2.c2_acts__Stage_0;
+        v4 = v2.u16_1;
+        v5 = v2.u32_1;
+        v7 = v5 == UINT32_C(0);
+        if (v7) {
+            result = c2_session__script__first_step(v3, v4);
+            return result;
+        }
+        v6 = c2_wire__script__step(a1->f2);
+        break;
+    default: /* 1 */
+        v6 = 6u;
         break;
     }
     result = v6;
     return result;
 }
 
-/* c2_wire::steps::step */
-static uint8_t c2_wire__steps__step(c2_wire__Frame a1, uint8_t a2, uint64_t a3)
+/* c2_session::run::at_point */
+static c2_session__Session c2_session__run__at_point(const c2_session__Session *a1,
+    const c2_session__Point *a2)
 {
-    uint8_t result;
-    c2_wire__Role v4;
-    v4 = c2_wire__steps__role_at(a1, a3);
-    result = c2_wire__steps__role_step(a1, a2, &v4);
+    c2_session__Session result;
+    c2_settings v3;
+    v3.device_id = a1->f0.device_id;
+    v3.fpdat = a1->f0.fpdat;
+    v3.page_size = a1->f0.page_size;
+    v3.page_count = a1->f0.page_count;
+    result.f0.device_id = v3.device_id;
+    result.f0.fpdat = v3.fpdat;
+    result.f0.page_size = v3.page_size;
+    result.f0.page_count = v3.page_count;
+    result.f1 = a1->f1;
+    result.f2 = a1->f2;
+    result.f3.tag = a2->tag;
+    result.f3.c2_acts__Stage_0 = a2->c2_acts__Stage_0;
+    result.f3.u16_0 = a2->u16_0;
+    result.f3.u32_0 = a2->u32_0;
+    result.f3.u16_1 = a2->u16_1;
+    result.f3.u32_1 = a2->u32_1;
+    result.f3.u32_2 = a2->u32_2;
+    result.f3.u32_3 = a2->u32_3;
     return result;
 }
 
-/* c2_session::Session::task_step */
-static uint8_t c2_session__Session__task_step(const c2_session__Session *a1, c2_acts__Task a2,
-    const c2_session__At *a3, uint64_t a4, slice_u8 a5)
+/* c2_session::run::set_off */
+static c2_session__Runner c2_session__run__set_off(const c2_session__Point *a1)
 {
-    uint8_t result;
-    uint8_t v6;
-    _Bool v7;
-    c2_wire__Frame v8;
-    uint8_t v9;
-    v6 = c2_session__step__alone(a2);
-    v7 = v6 != 0u;
-    if (v7) {
-        result = v6;
-        return result;
-    }
-    v8 = c2_session__step__task_frame(a2);
-    v9 = c2_session__Session__task_byte(a1, a2, a3, a5);
-    result = c2_wire__steps__step(v8, v9, a4);
-    return result;
-}
-
-/* c2_session::Session::point_step_by */
-static uint8_t c2_session__Session__point_step_by(const c2_session__Session *a1, c2_acts__Task a2,
-    const c2_session__Point *a3, slice_u8 a4)
-{
-    uint8_t result;
-    c2_acts__Stage v5;
-    uint16_t v6;
-    uint32_t v7;
-    uint16_t v8;
-    uint64_t v9;
-    uint8_t v10;
-    c2_session__At v11;
-    switch (a3->tag) {
-    case 0u:
-        v5 = a3->c2_acts__Stage_0;
-        v6 = a3->u16_0;
-        v7 = a3->u32_0;
-        v8 = a3->u16_1;
-        v9 = a3->u64_0;
-        v11.f0 = v5;
-        v11.f1 = v6;
-        v11.f2 = v7;
-        v11.f3 = v8;
-        v10 = c2_session__Session__task_step(a1, a2, &v11, v9, a4);
-        break;
-    default: /* 1 */
-        v10 = 6u;
-        break;
-    }
-    result = v10;
-    return result;
-}
-
-/* c2_session::Session::step_by */
-static uint8_t c2_session__Session__step_by(const c2_session__Session *a1, c2_acts__Task a2, slice_u8 a3)
-{
-    uint8_t result;
-    c2_session__Point v4;
-    v4.tag = a1->f3.tag;
-    v4.c2_acts__Stage_0 = a1->f3.c2_acts__Stage_0;
-    v4.u16_0 = a1->f3.u16_0;
-    v4.u32_0 = a1->f3.u32_0;
-    v4.u16_1 = a1->f3.u16_1;
-    v4.u64_0 = a1->f3.u64_0;
-    v4.u64_1 = a1->f3.u64_1;
-    v4.u64_2 = a1->f3.u64_2;
-    v4.u32_1 = a1->f3.u32_1;
-    result = c2_session__Session__point_step_by(a1, a2, &v4, a3);
+    c2_session__Runner result;
+    c2_acts__Task v2;
+    v2 = 0u;
+    result.f0.tag = a1->tag;
+    result.f0.c2_acts__Stage_0 = a1->c2_acts__Stage_0;
+    result.f0.u16_0 = a1->u16_0;
+    result.f0.u32_0 = a1->u32_0;
+    result.f0.u16_1 = a1->u16_1;
+    result.f0.u32_1 = a1->u32_1;
+    result.f0.u32_2 = a1->u32_2;
+    result.f0.u32_3 = a1->u32_3;
+    result.f1 = v2;
+    result.f2 = UINT64_C(0);
     return result;
 }
 
@@ -2452,116 +2341,96 @@ static uint8_t c2_session__Session__step_by(const c2_session__Session *a1, c2_ac
 static c2__Ran c2__advance__run(const c2_session__Session *a1, slice_u8 a2, slice_u8 a3, slice_mut_u8 a4)
 {
     c2__Ran result;
-    c2_session__Session v5;
-    c2_session__Point v6;
-    c2_acts__Task v7;
-    uint64_t v8;
+    c2_session__Point v5;
+    c2_session__Runner v6;
+    uint64_t v7;
+    c2_session__Point v8;
     c2_session__Point v9;
-    c2_session__Point v10;
-    uint64_t v11;
+    uint64_t v10;
+    _Bool v11;
     _Bool v12;
-    _Bool v13;
-    c2_session__Session v14;
-    const uint8_t *v15;
-    uint8_t v16;
-    uint8_t *v17;
-    v5.f0.device_id = a1->f0.device_id;
-    v5.f0.fpdat = a1->f0.fpdat;
-    v5.f0.page_size = a1->f0.page_size;
-    v5.f0.page_count = a1->f0.page_count;
-    v5.f1 = a1->f1;
-    v5.f2 = a1->f2;
-    v5.f3.tag = a1->f3.tag;
-    v5.f3.c2_acts__Stage_0 = a1->f3.c2_acts__Stage_0;
-    v5.f3.u16_0 = a1->f3.u16_0;
-    v5.f3.u32_0 = a1->f3.u32_0;
-    v5.f3.u16_1 = a1->f3.u16_1;
-    v5.f3.u64_0 = a1->f3.u64_0;
-    v5.f3.u64_1 = a1->f3.u64_1;
-    v5.f3.u64_2 = a1->f3.u64_2;
-    v5.f3.u32_1 = a1->f3.u32_1;
-    v6.tag = a1->f3.tag;
-    v6.c2_acts__Stage_0 = a1->f3.c2_acts__Stage_0;
-    v6.u16_0 = a1->f3.u16_0;
-    v6.u32_0 = a1->f3.u32_0;
-    v6.u16_1 = a1->f3.u16_1;
-    v6.u64_0 = a1->f3.u64_0;
-    v6.u64_1 = a1->f3.u64_1;
-    v6.u64_2 = a1->f3.u64_2;
-    v6.u32_1 = a1->f3.u32_1;
-    v7 = c2_outcome__task_at(&v6);
-    v8 = UINT64_C(0);
+    c2_session__Session v13;
+    const uint8_t *v14;
+    uint8_t v15;
+    uint8_t *v16;
+    c2_session__Session v17;
+    v5.tag = a1->f3.tag;
+    v5.c2_acts__Stage_0 = a1->f3.c2_acts__Stage_0;
+    v5.u16_0 = a1->f3.u16_0;
+    v5.u32_0 = a1->f3.u32_0;
+    v5.u16_1 = a1->f3.u16_1;
+    v5.u32_1 = a1->f3.u32_1;
+    v5.u32_2 = a1->f3.u32_2;
+    v5.u32_3 = a1->f3.u32_3;
+    v6 = c2_session__run__set_off(&v5);
+    v7 = UINT64_C(0);
     for (;;) {
-        v11 = a3.length;
-        v12 = v8 < v11;
-        if (!v12) {
+        v10 = a3.length;
+        v11 = v7 < v10;
+        if (!v11) {
             break;
         }
-        v9.tag = v5.f3.tag;
-        v9.c2_acts__Stage_0 = v5.f3.c2_acts__Stage_0;
-        v9.u16_0 = v5.f3.u16_0;
-        v9.u32_0 = v5.f3.u32_0;
-        v9.u16_1 = v5.f3.u16_1;
-        v9.u64_0 = v5.f3.u64_0;
-        v9.u64_1 = v5.f3.u64_1;
-        v9.u64_2 = v5.f3.u64_2;
-        v9.u32_1 = v5.f3.u32_1;
-        v12 = c2_outcome__is_running(&v9);
-        v13 = !v12;
-        if (v13) {
-            result.f0.f0.device_id = v5.f0.device_id;
-            result.f0.f0.fpdat = v5.f0.fpdat;
-            result.f0.f0.page_size = v5.f0.page_size;
-            result.f0.f0.page_count = v5.f0.page_count;
-            result.f0.f1 = v5.f1;
-            result.f0.f2 = v5.f2;
-            result.f0.f3.tag = v5.f3.tag;
-            result.f0.f3.c2_acts__Stage_0 = v5.f3.c2_acts__Stage_0;
-            result.f0.f3.u16_0 = v5.f3.u16_0;
-            result.f0.f3.u32_0 = v5.f3.u32_0;
-            result.f0.f3.u16_1 = v5.f3.u16_1;
-            result.f0.f3.u64_0 = v5.f3.u64_0;
-            result.f0.f3.u64_1 = v5.f3.u64_1;
-            result.f0.f3.u64_2 = v5.f3.u64_2;
-            result.f0.f3.u32_1 = v5.f3.u32_1;
-            result.f1 = v8;
+        v8.tag = v6.f0.tag;
+        v8.c2_acts__Stage_0 = v6.f0.c2_acts__Stage_0;
+        v8.u16_0 = v6.f0.u16_0;
+        v8.u32_0 = v6.f0.u32_0;
+        v8.u16_1 = v6.f0.u16_1;
+        v8.u32_1 = v6.f0.u32_1;
+        v8.u32_2 = v6.f0.u32_2;
+        v8.u32_3 = v6.f0.u32_3;
+        v11 = c2_outcome__is_running(&v8);
+        v12 = !v11;
+        if (v12) {
+            v13 = c2_session__run__at_point(a1, &v8);
+            result.f0.f0.device_id = v13.f0.device_id;
+            result.f0.f0.fpdat = v13.f0.fpdat;
+            result.f0.f0.page_size = v13.f0.page_size;
+            result.f0.f0.page_count = v13.f0.page_count;
+            result.f0.f1 = v13.f1;
+            result.f0.f2 = v13.f2;
+            result.f0.f3.tag = v13.f3.tag;
+            result.f0.f3.c2_acts__Stage_0 = v13.f3.c2_acts__Stage_0;
+            result.f0.f3.u16_0 = v13.f3.u16_0;
+            result.f0.f3.u32_0 = v13.f3.u32_0;
+            result.f0.f3.u16_1 = v13.f3.u16_1;
+            result.f0.f3.u32_1 = v13.f3.u32_1;
+            result.f0.f3.u32_2 = v13.f3.u32_2;
+            result.f0.f3.u32_3 = v13.f3.u32_3;
+            result.f1 = v7;
             return result;
         }
-        v15 = a3.at + (size_t)v8;
-        v16 = *v15;
-        v14 = c2_session__Session__advance_by(&v5, v7, v16, a2);
-        v5 = c2_outcome__same_session(&v14);
-        v10.tag = v5.f3.tag;
-        v10.c2_acts__Stage_0 = v5.f3.c2_acts__Stage_0;
-        v10.u16_0 = v5.f3.u16_0;
-        v10.u32_0 = v5.f3.u32_0;
-        v10.u16_1 = v5.f3.u16_1;
-        v10.u64_0 = v5.f3.u64_0;
-        v10.u64_1 = v5.f3.u64_1;
-        v10.u64_2 = v5.f3.u64_2;
-        v10.u32_1 = v5.f3.u32_1;
-        v7 = c2_outcome__task_next(&v10, v7);
-        v16 = c2_session__Session__step_by(&v5, v7, a2);
-        v17 = a4.at + (size_t)v8;
-        *v17 = v16;
-        v8 = v8 + UINT64_C(1);
+        v14 = a3.at + (size_t)v7;
+        v15 = *v14;
+        v6 = c2_session__Runner__advance(&v6, a1, v15, a2);
+        v15 = c2_session__Runner__step(&v6);
+        v16 = a4.at + (size_t)v7;
+        *v16 = v15;
+        v7 = v7 + UINT64_C(1);
     }
-    result.f0.f0.device_id = v5.f0.device_id;
-    result.f0.f0.fpdat = v5.f0.fpdat;
-    result.f0.f0.page_size = v5.f0.page_size;
-    result.f0.f0.page_count = v5.f0.page_count;
-    result.f0.f1 = v5.f1;
-    result.f0.f2 = v5.f2;
-    result.f0.f3.tag = v5.f3.tag;
-    result.f0.f3.c2_acts__Stage_0 = v5.f3.c2_acts__Stage_0;
-    result.f0.f3.u16_0 = v5.f3.u16_0;
-    result.f0.f3.u32_0 = v5.f3.u32_0;
-    result.f0.f3.u16_1 = v5.f3.u16_1;
-    result.f0.f3.u64_0 = v5.f3.u64_0;
-    result.f0.f3.u64_1 = v5.f3.u64_1;
-    result.f0.f3.u64_2 = v5.f3.u64_2;
-    result.f0.f3.u32_1 = v5.f3.u32_1;
-    result.f1 = v8;
+    v9.tag = v6.f0.tag;
+    v9.c2_acts__Stage_0 = v6.f0.c2_acts__Stage_0;
+    v9.u16_0 = v6.f0.u16_0;
+    v9.u32_0 = v6.f0.u32_0;
+    v9.u16_1 = v6.f0.u16_1;
+    v9.u32_1 = v6.f0.u32_1;
+    v9.u32_2 = v6.f0.u32_2;
+    v9.u32_3 = v6.f0.u32_3;
+    v17 = c2_session__run__at_point(a1, &v9);
+    result.f0.f0.device_id = v17.f0.device_id;
+    result.f0.f0.fpdat = v17.f0.fpdat;
+    result.f0.f0.page_size = v17.f0.page_size;
+    result.f0.f0.page_count = v17.f0.page_count;
+    result.f0.f1 = v17.f1;
+    result.f0.f2 = v17.f2;
+    result.f0.f3.tag = v17.f3.tag;
+    result.f0.f3.c2_acts__Stage_0 = v17.f3.c2_acts__Stage_0;
+    result.f0.f3.u16_0 = v17.f3.u16_0;
+    result.f0.f3.u32_0 = v17.f3.u32_0;
+    result.f0.f3.u16_1 = v17.f3.u16_1;
+    result.f0.f3.u32_1 = v17.f3.u32_1;
+    result.f0.f3.u32_2 = v17.f3.u32_2;
+    result.f0.f3.u32_3 = v17.f3.u32_3;
+    result.f1 = v7;
     return result;
 }
 
@@ -2617,41 +2486,41 @@ static _Bool c2_range__range__ended_in_range(uint64_t a1, uint32_t a2, uint32_t 
 }
 
 /* c2_range::bounds::sampled_from */
-static uint64_t c2_range__bounds__sampled_from(uint64_t a1, uint64_t a2)
+static uint32_t c2_range__bounds__sampled_from(uint32_t a1, uint32_t a2)
 {
-    uint64_t result;
+    uint32_t result;
     _Bool v3;
-    uint64_t v4;
+    uint32_t v4;
     v3 = a2 < a1;
     if (v3) {
-        result = UINT64_C(0);
+        result = UINT32_C(0);
         return result;
     }
-    v4 = a2 - a1;
-    v3 = v4 < UINT64_C(8);
+    v4 = (uint32_t)(a2 - a1);
+    v3 = v4 < UINT32_C(8);
     if (v3) {
-        result = a2 - a1;
+        result = (uint32_t)(a2 - a1);
         return result;
     }
-    result = UINT64_C(8);
+    result = UINT32_C(8);
     return result;
 }
 
 /* c2_range::bounds::bits_limit */
-static uint64_t c2_range__bounds__bits_limit(uint64_t a1)
+static uint32_t c2_range__bounds__bits_limit(uint32_t a1)
 {
-    uint64_t result;
-    result = UINT64_C(1) << a1;
+    uint32_t result;
+    result = (uint32_t)(UINT32_C(1) << a1);
     return result;
 }
 
 /* c2_range::bounds::within */
-static _Bool c2_range__bounds__within(uint64_t a1, uint64_t a2, uint64_t a3, const c2_wire__Place *a4)
+static _Bool c2_range__bounds__within(uint32_t a1, uint32_t a2, uint32_t a3, const c2_wire__Place *a4)
 {
     _Bool result;
     _Bool v5;
     _Bool v6;
-    uint64_t v7;
+    uint32_t v7;
     v5 = a4->f0 < a1;
     if (v5) {
         v6 = a4->f1 < a2;
@@ -2666,61 +2535,61 @@ static _Bool c2_range__bounds__within(uint64_t a1, uint64_t a2, uint64_t a3, con
 }
 
 /* c2_range::bounds::address_read */
-static _Bool c2_range__bounds__address_read(uint64_t a1, const c2_wire__Place *a2)
+static _Bool c2_range__bounds__address_read(uint32_t a1, const c2_wire__Place *a2)
 {
     _Bool result;
-    uint64_t v3;
-    v3 = c2_range__bounds__sampled_from(UINT64_C(3), a2->f0);
-    result = c2_range__bounds__within(UINT64_C(12), a1, v3, a2);
+    uint32_t v3;
+    v3 = c2_range__bounds__sampled_from(UINT32_C(3), a2->f0);
+    result = c2_range__bounds__within(UINT32_C(12), a1, v3, a2);
     return result;
 }
 
 /* c2_range::bounds::limit_from */
-static uint64_t c2_range__bounds__limit_from(uint64_t a1, uint64_t a2, uint64_t a3)
+static uint32_t c2_range__bounds__limit_from(uint32_t a1, uint32_t a2, uint32_t a3)
 {
-    uint64_t result;
+    uint32_t result;
     _Bool v4;
     v4 = a3 == a1;
     if (v4) {
         result = a2;
         return result;
     }
-    result = UINT64_C(1);
+    result = UINT32_C(1);
     return result;
 }
 
 /* c2_range::bounds::data_read */
-static _Bool c2_range__bounds__data_read(uint64_t a1, const c2_wire__Place *a2)
+static _Bool c2_range__bounds__data_read(uint32_t a1, const c2_wire__Place *a2)
 {
     _Bool result;
-    uint64_t v3;
-    uint64_t v4;
-    v3 = c2_range__bounds__limit_from(UINT64_C(5), a1, a2->f0);
-    v4 = c2_range__bounds__sampled_from(UINT64_C(6), a2->f0);
-    result = c2_range__bounds__within(UINT64_C(15), v3, v4, a2);
+    uint32_t v3;
+    uint32_t v4;
+    v3 = c2_range__bounds__limit_from(UINT32_C(5), a1, a2->f0);
+    v4 = c2_range__bounds__sampled_from(UINT32_C(6), a2->f0);
+    result = c2_range__bounds__within(UINT32_C(15), v3, v4, a2);
     return result;
 }
 
 /* c2_range::bounds::place_in_range */
-static _Bool c2_range__bounds__place_in_range(uint64_t a1, uint64_t a2, c2_acts__Task a3,
+static _Bool c2_range__bounds__place_in_range(uint32_t a1, uint32_t a2, c2_acts__Task a3,
     const c2_wire__Place *a4)
 {
     _Bool result;
     _Bool v5;
-    uint64_t v6;
+    uint32_t v6;
     switch (a3) {
     case 0u:
-        v5 = c2_range__bounds__within(UINT64_C(1), UINT64_C(1), UINT64_C(0), a4);
+        v5 = c2_range__bounds__within(UINT32_C(1), UINT32_C(1), UINT32_C(0), a4);
         break;
     case 1u:
-        v5 = c2_range__bounds__within(UINT64_C(1), UINT64_C(1), UINT64_C(0), a4);
+        v5 = c2_range__bounds__within(UINT32_C(1), UINT32_C(1), UINT32_C(0), a4);
         break;
     case 2u:
-        v5 = c2_range__bounds__within(UINT64_C(12), UINT64_C(1), UINT64_C(0), a4);
+        v5 = c2_range__bounds__within(UINT32_C(12), UINT32_C(1), UINT32_C(0), a4);
         break;
     case 3u:
-        v6 = c2_range__bounds__limit_from(UINT64_C(13), a1, a4->f0);
-        v5 = c2_range__bounds__within(UINT64_C(15), v6, UINT64_C(0), a4);
+        v6 = c2_range__bounds__limit_from(UINT32_C(13), a1, a4->f0);
+        v5 = c2_range__bounds__within(UINT32_C(15), v6, UINT32_C(0), a4);
         break;
     case 4u:
         v5 = c2_range__bounds__address_read(a2, a4);
@@ -2797,7 +2666,7 @@ static _Bool c2_range__range__act_in_range(uint32_t a1, uint16_t a2, const c2_se
 }
 
 /* c2_range::range::running_in_range */
-static _Bool c2_range__range__running_in_range(uint64_t a1, uint64_t a2, uint32_t a3, uint16_t a4,
+static _Bool c2_range__range__running_in_range(uint32_t a1, uint32_t a2, uint32_t a3, uint16_t a4,
     const c2_session__At *a5, const c2_wire__Place *a6)
 {
     _Bool result;
@@ -2828,7 +2697,7 @@ static uint64_t settings__opening__image_bytes(uint32_t a1, uint16_t a2)
 }
 
 /* c2_range::range::point_in_range */
-static _Bool c2_range__range__point_in_range(uint64_t a1, uint64_t a2, uint32_t a3, uint16_t a4,
+static _Bool c2_range__range__point_in_range(uint32_t a1, uint32_t a2, uint32_t a3, uint16_t a4,
     const c2_session__Point *a5)
 {
     _Bool result;
@@ -2836,9 +2705,9 @@ static _Bool c2_range__range__point_in_range(uint64_t a1, uint64_t a2, uint32_t 
     uint16_t v7;
     uint32_t v8;
     uint16_t v9;
-    uint64_t v10;
-    uint64_t v11;
-    uint64_t v12;
+    uint32_t v10;
+    uint32_t v11;
+    uint32_t v12;
     uint32_t v13;
     uint32_t v14;
     _Bool v15;
@@ -2851,9 +2720,9 @@ static _Bool c2_range__range__point_in_range(uint64_t a1, uint64_t a2, uint32_t 
         v7 = a5->u16_0;
         v8 = a5->u32_0;
         v9 = a5->u16_1;
-        v10 = a5->u64_0;
-        v11 = a5->u64_1;
-        v12 = a5->u64_2;
+        v10 = a5->u32_1;
+        v11 = a5->u32_2;
+        v12 = a5->u32_3;
         v16.f0 = v6;
         v16.f1 = v7;
         v16.f2 = v8;
@@ -2893,16 +2762,15 @@ static _Bool c2_range__range__in_range(const c2_session__Session *a1)
     v3.u16_0 = a1->f3.u16_0;
     v3.u32_0 = a1->f3.u32_0;
     v3.u16_1 = a1->f3.u16_1;
-    v3.u64_0 = a1->f3.u64_0;
-    v3.u64_1 = a1->f3.u64_1;
-    v3.u64_2 = a1->f3.u64_2;
     v3.u32_1 = a1->f3.u32_1;
+    v3.u32_2 = a1->f3.u32_2;
+    v3.u32_3 = a1->f3.u32_3;
     v5 = (uint32_t)a1->f1;
     v6 = settings__opening__image_bytes(v2.page_size, a1->f2);
     v4 = settings__opening__opening_refusal(&v2, v5, v6);
     v7 = v4 == UINT32_C(0);
     if (v7) {
-        result = c2_range__range__point_in_range(UINT64_C(20), UINT64_C(256), v2.page_size, a1->f2, &v3);
+        result = c2_range__range__point_in_range(UINT32_C(20), UINT32_C(256), v2.page_size, a1->f2, &v3);
         return result;
     }
     result = 0;
@@ -3080,10 +2948,9 @@ static c2_record__Unpacked c2_record__held__checked(const c2_session__Session *a
                 result.c2_session__Session_0.f3.u16_0 = a1->f3.u16_0;
                 result.c2_session__Session_0.f3.u32_0 = a1->f3.u32_0;
                 result.c2_session__Session_0.f3.u16_1 = a1->f3.u16_1;
-                result.c2_session__Session_0.f3.u64_0 = a1->f3.u64_0;
-                result.c2_session__Session_0.f3.u64_1 = a1->f3.u64_1;
-                result.c2_session__Session_0.f3.u64_2 = a1->f3.u64_2;
                 result.c2_session__Session_0.f3.u32_1 = a1->f3.u32_1;
+                result.c2_session__Session_0.f3.u32_2 = a1->f3.u32_2;
+                result.c2_session__Session_0.f3.u32_3 = a1->f3.u32_3;
                 return result;
             }
         }
@@ -3100,10 +2967,9 @@ static c2_record__Unpacked c2_record__held__checked(const c2_session__Session *a
     result.c2_session__Session_0.f3.u16_0 = 0;
     result.c2_session__Session_0.f3.u32_0 = 0;
     result.c2_session__Session_0.f3.u16_1 = 0;
-    result.c2_session__Session_0.f3.u64_0 = 0;
-    result.c2_session__Session_0.f3.u64_1 = 0;
-    result.c2_session__Session_0.f3.u64_2 = 0;
     result.c2_session__Session_0.f3.u32_1 = 0;
+    result.c2_session__Session_0.f3.u32_2 = 0;
+    result.c2_session__Session_0.f3.u32_3 = 0;
     return result;
 }
 
@@ -3124,10 +2990,9 @@ static c2_record__Reached c2_record__read__running_at(const c2_record__Named *a1
         result.c2_session__Point_0.u16_0 = 0;
         result.c2_session__Point_0.u32_0 = 0;
         result.c2_session__Point_0.u16_1 = 0;
-        result.c2_session__Point_0.u64_0 = 0;
-        result.c2_session__Point_0.u64_1 = 0;
-        result.c2_session__Point_0.u64_2 = 0;
         result.c2_session__Point_0.u32_1 = 0;
+        result.c2_session__Point_0.u32_2 = 0;
+        result.c2_session__Point_0.u32_3 = 0;
         return result;
     }
     v4.tag = 0u;
@@ -3135,20 +3000,18 @@ static c2_record__Reached c2_record__read__running_at(const c2_record__Named *a1
     v4.u16_0 = a2->f3;
     v4.u32_0 = a2->f4;
     v4.u16_1 = a2->f5;
-    v4.u64_0 = a2->f6;
-    v4.u64_1 = a2->f7;
-    v4.u64_2 = a2->f8;
-    v4.u32_1 = 0;
+    v4.u32_1 = a2->f6;
+    v4.u32_2 = a2->f7;
+    v4.u32_3 = a2->f8;
     result.tag = 0u;
     result.c2_session__Point_0.tag = v4.tag;
     result.c2_session__Point_0.c2_acts__Stage_0 = v4.c2_acts__Stage_0;
     result.c2_session__Point_0.u16_0 = v4.u16_0;
     result.c2_session__Point_0.u32_0 = v4.u32_0;
     result.c2_session__Point_0.u16_1 = v4.u16_1;
-    result.c2_session__Point_0.u64_0 = v4.u64_0;
-    result.c2_session__Point_0.u64_1 = v4.u64_1;
-    result.c2_session__Point_0.u64_2 = v4.u64_2;
     result.c2_session__Point_0.u32_1 = v4.u32_1;
+    result.c2_session__Point_0.u32_2 = v4.u32_2;
+    result.c2_session__Point_0.u32_3 = v4.u32_3;
     return result;
 }
 
@@ -3221,19 +3084,17 @@ static c2_record__Reached c2_record__read__point_of(const c2_record__Fields *a1)
     v4.c2_acts__Stage_0 = 0;
     v4.u16_0 = 0;
     v4.u16_1 = 0;
-    v4.u64_0 = 0;
-    v4.u64_1 = 0;
-    v4.u64_2 = 0;
+    v4.u32_2 = 0;
+    v4.u32_3 = 0;
     result.tag = 0u;
     result.c2_session__Point_0.tag = v4.tag;
     result.c2_session__Point_0.c2_acts__Stage_0 = v4.c2_acts__Stage_0;
     result.c2_session__Point_0.u16_0 = v4.u16_0;
     result.c2_session__Point_0.u32_0 = v4.u32_0;
     result.c2_session__Point_0.u16_1 = v4.u16_1;
-    result.c2_session__Point_0.u64_0 = v4.u64_0;
-    result.c2_session__Point_0.u64_1 = v4.u64_1;
-    result.c2_session__Point_0.u64_2 = v4.u64_2;
     result.c2_session__Point_0.u32_1 = v4.u32_1;
+    result.c2_session__Point_0.u32_2 = v4.u32_2;
+    result.c2_session__Point_0.u32_3 = v4.u32_3;
     return result;
 }
 
@@ -3248,14 +3109,6 @@ static uint16_t c2_record__words__pair16(uint8_t a1, uint8_t a2)
     v4 = (uint16_t)a2;
     v5 = (uint16_t)((unsigned)v4 * 256u);
     result = (uint16_t)((unsigned)v3 + v5);
-    return result;
-}
-
-/* c2_record::words::wide */
-static uint64_t c2_record__words__wide(uint8_t a1)
-{
-    uint64_t result;
-    result = (uint64_t)a1;
     return result;
 }
 
@@ -3300,13 +3153,13 @@ static c2_record__Fields c2_record__read__read_fields(slice_u8 a1)
     uint8_t v20;
     const uint8_t *v21;
     uint8_t v22;
-    uint64_t v23;
+    uint32_t v23;
     const uint8_t *v24;
     uint8_t v25;
-    uint64_t v26;
+    uint32_t v26;
     const uint8_t *v27;
     uint8_t v28;
-    uint64_t v29;
+    uint32_t v29;
     const uint8_t *v30;
     uint8_t v31;
     v3 = a1.at + (size_t)UINT64_C(7);
@@ -3332,13 +3185,13 @@ static c2_record__Fields c2_record__read__read_fields(slice_u8 a1)
     v18 = c2_record__words__pair16(v20, v22);
     v24 = a1.at + (size_t)UINT64_C(15);
     v25 = *v24;
-    v23 = c2_record__words__wide(v25);
+    v23 = c2_record__words__wide32(v25);
     v27 = a1.at + (size_t)UINT64_C(16);
     v28 = *v27;
-    v26 = c2_record__words__wide(v28);
+    v26 = c2_record__words__wide32(v28);
     v30 = a1.at + (size_t)UINT64_C(17);
     v31 = *v30;
-    v29 = c2_record__words__wide(v31);
+    v29 = c2_record__words__wide32(v31);
     result.f0 = v2;
     result.f1 = v5;
     result.f2 = v11;
@@ -3418,10 +3271,9 @@ static c2_record__Unpacked c2_record__held__unpack(slice_u8 a1)
         result.c2_session__Session_0.f3.u16_0 = 0;
         result.c2_session__Session_0.f3.u32_0 = 0;
         result.c2_session__Session_0.f3.u16_1 = 0;
-        result.c2_session__Session_0.f3.u64_0 = 0;
-        result.c2_session__Session_0.f3.u64_1 = 0;
-        result.c2_session__Session_0.f3.u64_2 = 0;
         result.c2_session__Session_0.f3.u32_1 = 0;
+        result.c2_session__Session_0.f3.u32_2 = 0;
+        result.c2_session__Session_0.f3.u32_3 = 0;
         return result;
     }
     v7 = c2_record__read__read_fields(a1);
@@ -3433,10 +3285,9 @@ static c2_record__Unpacked c2_record__held__unpack(slice_u8 a1)
         v2.u16_0 = v6.c2_session__Point_0.u16_0;
         v2.u32_0 = v6.c2_session__Point_0.u32_0;
         v2.u16_1 = v6.c2_session__Point_0.u16_1;
-        v2.u64_0 = v6.c2_session__Point_0.u64_0;
-        v2.u64_1 = v6.c2_session__Point_0.u64_1;
-        v2.u64_2 = v6.c2_session__Point_0.u64_2;
         v2.u32_1 = v6.c2_session__Point_0.u32_1;
+        v2.u32_2 = v6.c2_session__Point_0.u32_2;
+        v2.u32_3 = v6.c2_session__Point_0.u32_3;
         break;
     default: /* 1 */
         result.tag = 1u;
@@ -3451,10 +3302,9 @@ static c2_record__Unpacked c2_record__held__unpack(slice_u8 a1)
         result.c2_session__Session_0.f3.u16_0 = 0;
         result.c2_session__Session_0.f3.u32_0 = 0;
         result.c2_session__Session_0.f3.u16_1 = 0;
-        result.c2_session__Session_0.f3.u64_0 = 0;
-        result.c2_session__Session_0.f3.u64_1 = 0;
-        result.c2_session__Session_0.f3.u64_2 = 0;
         result.c2_session__Session_0.f3.u32_1 = 0;
+        result.c2_session__Session_0.f3.u32_2 = 0;
+        result.c2_session__Session_0.f3.u32_3 = 0;
         return result;
     }
     v3 = c2_record__read__read_settings(a1);
@@ -3475,10 +3325,9 @@ static c2_record__Unpacked c2_record__held__unpack(slice_u8 a1)
     v14.f3.u16_0 = v2.u16_0;
     v14.f3.u32_0 = v2.u32_0;
     v14.f3.u16_1 = v2.u16_1;
-    v14.f3.u64_0 = v2.u64_0;
-    v14.f3.u64_1 = v2.u64_1;
-    v14.f3.u64_2 = v2.u64_2;
     v14.f3.u32_1 = v2.u32_1;
+    v14.f3.u32_2 = v2.u32_2;
+    v14.f3.u32_3 = v2.u32_3;
     result = c2_record__held__checked(&v14, a1);
     return result;
 }
@@ -3525,10 +3374,9 @@ static c2_advanced c2__advance__c2_advance(slice_mut_u8 a1, slice_u8 a2, slice_u
         v6.f3.u16_0 = v11.c2_session__Session_0.f3.u16_0;
         v6.f3.u32_0 = v11.c2_session__Session_0.f3.u32_0;
         v6.f3.u16_1 = v11.c2_session__Session_0.f3.u16_1;
-        v6.f3.u64_0 = v11.c2_session__Session_0.f3.u64_0;
-        v6.f3.u64_1 = v11.c2_session__Session_0.f3.u64_1;
-        v6.f3.u64_2 = v11.c2_session__Session_0.f3.u64_2;
         v6.f3.u32_1 = v11.c2_session__Session_0.f3.u32_1;
+        v6.f3.u32_2 = v11.c2_session__Session_0.f3.u32_2;
+        v6.f3.u32_3 = v11.c2_session__Session_0.f3.u32_3;
         break;
     default: /* 1 */
         result = c2__advance__refused(UINT32_C(6));
@@ -3576,10 +3424,9 @@ static c2_advanced c2__advance__c2_advance(slice_mut_u8 a1, slice_u8 a2, slice_u
     v9.f3.u16_0 = v8.f0.f3.u16_0;
     v9.f3.u32_0 = v8.f0.f3.u32_0;
     v9.f3.u16_1 = v8.f0.f3.u16_1;
-    v9.f3.u64_0 = v8.f0.f3.u64_0;
-    v9.f3.u64_1 = v8.f0.f3.u64_1;
-    v9.f3.u64_2 = v8.f0.f3.u64_2;
     v9.f3.u32_1 = v8.f0.f3.u32_1;
+    v9.f3.u32_2 = v8.f0.f3.u32_2;
+    v9.f3.u32_3 = v8.f0.f3.u32_3;
     v21 = c2_record__write__pack(&v9);
     v10 = v21;
     v22 = v10.at;
@@ -3980,28 +3827,32 @@ static uint64_t c2_figure__left__point_left(const c2_session__Point *a1, const c
     uint16_t v4;
     uint32_t v5;
     uint16_t v6;
-    uint64_t v7;
-    uint64_t v8;
+    uint32_t v7;
+    uint32_t v8;
     uint64_t v9;
     uint64_t v10;
     c2_acts__Task v11;
     uint64_t v12;
     uint64_t v13;
     uint64_t v14;
+    uint64_t v15;
+    uint64_t v16;
     switch (a1->tag) {
     case 0u:
         v3 = a1->c2_acts__Stage_0;
         v4 = a1->u16_0;
         v5 = a1->u32_0;
         v6 = a1->u16_1;
-        v7 = a1->u64_0;
-        v8 = a1->u64_1;
+        v7 = a1->u32_1;
+        v8 = a1->u32_2;
         v11 = c2_acts__task_of(v3, v6);
-        v10 = c2_figure__left__act_left(v11, v7, v8);
-        v12 = c2_figure__left__stage_left(v3, v6);
-        v13 = v10 + v12;
-        v14 = c2_figure__left__after_left(v3, a2, v4, v5);
-        v9 = v13 + v14;
+        v12 = (uint64_t)v7;
+        v13 = (uint64_t)v8;
+        v10 = c2_figure__left__act_left(v11, v12, v13);
+        v14 = c2_figure__left__stage_left(v3, v6);
+        v15 = v10 + v14;
+        v16 = c2_figure__left__after_left(v3, a2, v4, v5);
+        v9 = v15 + v16;
         break;
     default: /* 1 */
         v9 = UINT64_C(0);
@@ -4021,10 +3872,9 @@ static uint64_t c2_figure__left__steps_left(const c2_session__Session *a1)
     v2.u16_0 = a1->f3.u16_0;
     v2.u32_0 = a1->f3.u32_0;
     v2.u16_1 = a1->f3.u16_1;
-    v2.u64_0 = a1->f3.u64_0;
-    v2.u64_1 = a1->f3.u64_1;
-    v2.u64_2 = a1->f3.u64_2;
     v2.u32_1 = a1->f3.u32_1;
+    v2.u32_2 = a1->f3.u32_2;
+    v2.u32_3 = a1->f3.u32_3;
     result = c2_figure__left__point_left(&v2, a1);
     return result;
 }
@@ -4053,10 +3903,9 @@ static c2_remaining c2__left__c2_steps_left(slice_u8 a1)
         v2.f3.u16_0 = v5.c2_session__Session_0.f3.u16_0;
         v2.f3.u32_0 = v5.c2_session__Session_0.f3.u32_0;
         v2.f3.u16_1 = v5.c2_session__Session_0.f3.u16_1;
-        v2.f3.u64_0 = v5.c2_session__Session_0.f3.u64_0;
-        v2.f3.u64_1 = v5.c2_session__Session_0.f3.u64_1;
-        v2.f3.u64_2 = v5.c2_session__Session_0.f3.u64_2;
         v2.f3.u32_1 = v5.c2_session__Session_0.f3.u32_1;
+        v2.f3.u32_2 = v5.c2_session__Session_0.f3.u32_2;
+        v2.f3.u32_3 = v5.c2_session__Session_0.f3.u32_3;
         break;
     default: /* 1 */
         result.number = UINT32_C(6);
@@ -4068,10 +3917,9 @@ static c2_remaining c2__left__c2_steps_left(slice_u8 a1)
     v3.u16_0 = v2.f3.u16_0;
     v3.u32_0 = v2.f3.u32_0;
     v3.u16_1 = v2.f3.u16_1;
-    v3.u64_0 = v2.f3.u64_0;
-    v3.u64_1 = v2.f3.u64_1;
-    v3.u64_2 = v2.f3.u64_2;
     v3.u32_1 = v2.f3.u32_1;
+    v3.u32_2 = v2.f3.u32_2;
+    v3.u32_3 = v2.f3.u32_3;
     v4 = c2_outcome__outcome_of(&v3);
     v6 = c2_figure__left__steps_left(&v2);
     v7 = v6;

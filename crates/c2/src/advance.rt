@@ -12,11 +12,10 @@ use crate::Ran;
 use c2_calls::Advanced;
 use c2_outcome::is_running;
 use c2_outcome::outcome_of;
-use c2_outcome::same_session;
-use c2_outcome::task_at;
-use c2_outcome::task_next;
 use c2_record::Unpacked;
 use c2_session::Session;
+use c2_session::at_point;
+use c2_session::set_off;
 use numbers::BAD_RECORD;
 use numbers::NO_ROOM;
 use numbers::OTHER_IMAGE;
@@ -28,26 +27,24 @@ fn run(start: Session, image: &[u8], replies: &[u8], steps: &mut [u8]) -> Ran
     ensures { λ r. ⌜ r .taken ≡ length (wrote (now (image .entry)) start (now (replies .entry))) ⌝ }
     ensures { λ r. ⌜ now (steps .exit) ≡ wrote (now (image .entry)) start (now (replies .entry)) ++ drop (r .taken) (now (steps .entry)) ⌝ }
 {
-    let mut s = start;
     let begun = start.point;
-    let mut task = task_at(begun);
+    let mut r = set_off(begun);
     let mut i = 0;
     while i < replies.len() {
-        let point = s.point;
+        let point = r.point;
         if !is_running(point) {
             return Ran {
-                session: s,
+                session: at_point(start, point),
                 taken: i,
             };
         }
-        s = same_session(s.advance_by(task, replies[i], image));
-        let next = s.point;
-        task = task_next(next, task);
-        steps[i] = s.step_by(task, image);
+        r = r.advance(start, replies[i], image);
+        steps[i] = r.step();
         i += 1;
     }
+    let end = r.point;
     Ran {
-        session: s,
+        session: at_point(start, end),
         taken: i,
     }
 }

@@ -2,12 +2,13 @@
 ghost use mathlib.Core.Path.{_≡_};
 ghost use Prim.Native.Nat.{_+_, _-_, _*_, _/_, _<_, _≤_};
 ghost use Rattle.c2_figure.specs.Code.Left.{task-cost, page-cost, blocks-by-size};
+use crate::ADDRESS_FRAME;
 use crate::BLOCK;
 use crate::ERASE;
 use crate::OTHER_STROBES;
+use crate::POLL_LIMIT;
+use crate::WAIT_LIMIT;
 use c2_acts::Task;
-use c2_session::Session;
-use c2_wire::ADDRESS_STROBES;
 
 pub(crate) fn less(a: usize, b: usize) -> usize
     ensures { λ r. ⌜ r ≡ a - b ⌝ }
@@ -25,13 +26,13 @@ pub(crate) fn task_cost(task: Task) -> usize
     match task {
         Task::Reset => 1,
         Task::Pause => 1,
-        Task::Address => ADDRESS_STROBES,
-        Task::Send => OTHER_STROBES + Session::WAIT_LIMIT,
-        Task::Input => Session::POLL_LIMIT * ADDRESS_STROBES,
-        Task::Output => Session::POLL_LIMIT * ADDRESS_STROBES,
-        Task::Ident => OTHER_STROBES + Session::WAIT_LIMIT,
-        Task::Status => OTHER_STROBES + Session::WAIT_LIMIT,
-        Task::Compare => OTHER_STROBES + Session::WAIT_LIMIT,
+        Task::Address => ADDRESS_FRAME,
+        Task::Send => OTHER_STROBES + WAIT_LIMIT,
+        Task::Input => POLL_LIMIT * ADDRESS_FRAME,
+        Task::Output => POLL_LIMIT * ADDRESS_FRAME,
+        Task::Ident => OTHER_STROBES + WAIT_LIMIT,
+        Task::Status => OTHER_STROBES + WAIT_LIMIT,
+        Task::Compare => OTHER_STROBES + WAIT_LIMIT,
     }
 }
 

@@ -2,11 +2,17 @@
 ghost use mathlib.Core.Path.{_≡_};
 ghost use Prim.Native.Nat.{_<_, _≤_};
 ghost use Rattle.c2_figure.specs.Code.Left.{wait-left, poll-left, act-left, lead-left, bytes-left, stage-left, pages-left, blocks-left, after-left, point-left, steps-left};
+use crate::ADDRESS_FRAME;
 use crate::BLOCK;
 use crate::BYTE;
+use crate::DATA_FRAME;
 use crate::LAST_OF_BLOCK;
 use crate::LAST_OF_ERASE;
 use crate::OTHER_STROBES;
+use crate::POLL_LIMIT;
+use crate::READS_WAIT;
+use crate::WAIT_LIMIT;
+use crate::WRITES_WAIT;
 use crate::cost::less;
 use crate::cost::page_blocks;
 use crate::cost::pages_cost;
@@ -16,10 +22,6 @@ use c2_acts::Task;
 use c2_acts::task_of;
 use c2_session::Point;
 use c2_session::Session;
-use c2_wire::ADDRESS_STROBES;
-use c2_wire::DATA_STROBES;
-use c2_wire::READ_WAIT;
-use c2_wire::WRITE_WAIT;
 
 // What is left of a frame with data and a WAIT at this one.
 fn wait_left(waits: usize, strobe: usize, count: usize) -> usize
@@ -27,12 +29,12 @@ fn wait_left(waits: usize, strobe: usize, count: usize) -> usize
     ensures { λ r. ⌜ r ≤ 34 ⌝ }
 {
     if strobe < waits {
-        return less(OTHER_STROBES, strobe) + Session::WAIT_LIMIT;
+        return less(OTHER_STROBES, strobe) + WAIT_LIMIT;
     }
     if strobe == waits {
-        return less(OTHER_STROBES, strobe) + less(Session::WAIT_LIMIT, count);
+        return less(OTHER_STROBES, strobe) + less(WAIT_LIMIT, count);
     }
-    less(DATA_STROBES, strobe)
+    less(DATA_FRAME, strobe)
 }
 
 // What is left of a poll.
@@ -40,7 +42,7 @@ fn poll_left(strobe: usize, count: usize) -> usize
     ensures { λ r. ⌜ r ≡ poll-left 256 strobe count ⌝ }
     ensures { λ r. ⌜ r ≤ 3072 ⌝ }
 {
-    less(ADDRESS_STROBES, strobe) + less(less(Session::POLL_LIMIT, count), 1) * ADDRESS_STROBES
+    less(ADDRESS_FRAME, strobe) + less(less(POLL_LIMIT, count), 1) * ADDRESS_FRAME
 }
 
 fn act_left(task: Task, strobe: usize, count: usize) -> usize
@@ -50,13 +52,13 @@ fn act_left(task: Task, strobe: usize, count: usize) -> usize
     match task {
         Task::Reset => less(1, strobe),
         Task::Pause => less(1, strobe),
-        Task::Address => less(ADDRESS_STROBES, strobe),
-        Task::Send => wait_left(WRITE_WAIT, strobe, count),
+        Task::Address => less(ADDRESS_FRAME, strobe),
+        Task::Send => wait_left(WRITES_WAIT, strobe, count),
         Task::Input => poll_left(strobe, count),
         Task::Output => poll_left(strobe, count),
-        Task::Ident => wait_left(READ_WAIT, strobe, count),
-        Task::Status => wait_left(READ_WAIT, strobe, count),
-        Task::Compare => wait_left(READ_WAIT, strobe, count),
+        Task::Ident => wait_left(READS_WAIT, strobe, count),
+        Task::Status => wait_left(READS_WAIT, strobe, count),
+        Task::Compare => wait_left(READS_WAIT, strobe, count),
     }
 }
 
@@ -66,22 +68,22 @@ fn lead_left(act: u16) -> usize
     ensures { λ r. ⌜ r ≤ 150 ⌝ }
 {
     if act == 0 {
-        return 70 + 4 * Session::WAIT_LIMIT;
+        return 70 + 4 * WAIT_LIMIT;
     }
     if act == 1 {
-        return 56 + 3 * Session::WAIT_LIMIT;
+        return 56 + 3 * WAIT_LIMIT;
     }
     if act == 2 {
-        return 55 + 3 * Session::WAIT_LIMIT;
+        return 55 + 3 * WAIT_LIMIT;
     }
     if act == 3 {
-        return 43 + 3 * Session::WAIT_LIMIT;
+        return 43 + 3 * WAIT_LIMIT;
     }
     if act == 4 {
-        return 29 + 2 * Session::WAIT_LIMIT;
+        return 29 + 2 * WAIT_LIMIT;
     }
     if act == 5 {
-        return 15 + Session::WAIT_LIMIT;
+        return 15 + WAIT_LIMIT;
     }
     if act == 6 {
         return 1;
@@ -162,7 +164,7 @@ fn point_left(point: Point, s: Session) -> usize
             count,
             bits: _,
         } => {
-            act_left(task_of(stage, act), strobe, count)
+            act_left(task_of(stage, act), strobe as usize, count as usize)
                 + stage_left(stage, act)
                 + after_left(stage, s, page, block)
         }

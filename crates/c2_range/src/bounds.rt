@@ -16,7 +16,7 @@ use c2_wire::READ_WAIT;
 use c2_wire::WRITE_WAIT;
 
 // What a count is below at a strobe: in the WAIT its limit; elsewhere there is nothing to count, so 1.
-fn limit_from(waits: usize, wait: usize, strobe: usize) -> usize
+fn limit_from(waits: u32, wait: u32, strobe: u32) -> u32
     ensures { λ r. ⌜ r ≡ limit-from waits wait strobe ⌝ }
 {
     if strobe == waits {
@@ -26,7 +26,7 @@ fn limit_from(waits: usize, wait: usize, strobe: usize) -> usize
 }
 
 // How many of the eight strobes from this first one on are passed.
-fn sampled_from(first: usize, strobe: usize) -> usize
+fn sampled_from(first: u32, strobe: u32) -> u32
     ensures { λ r. ⌜ r ≡ sampled-from first strobe ⌝ }
     ensures { λ r. ⌜ r ≤ 8 ⌝ }
 {
@@ -40,15 +40,15 @@ fn sampled_from(first: usize, strobe: usize) -> usize
 }
 
 // What the value of the sampled bits is below, where so many are sampled.
-fn bits_limit(sampled: usize) -> usize
+fn bits_limit(sampled: u32) -> u32
     requires { ⌜ sampled ≤ 8 ⌝ }
     ensures { λ r. ⌜ r ≡ 2 ^ sampled ⌝ }
 {
-    1usize << sampled
+    1u32 << sampled
 }
 
 // Whether a place is one of so many strobes, with its count below a limit and no bit beyond those sampled.
-fn within(strobes: usize, limit: usize, sampled: usize, place: Place) -> bool
+fn within(strobes: u32, limit: u32, sampled: u32, place: Place) -> bool
     requires { ⌜ sampled ≤ 8 ⌝ }
     ensures { λ r. ⌜ r ≡ below-bounds strobes limit sampled (place .strobe) (place .count) (place .bits) ⌝ }
 {
@@ -61,7 +61,7 @@ fn within(strobes: usize, limit: usize, sampled: usize, place: Place) -> bool
 }
 
 // Whether a place is one of an Address Read (`address_read`), or of a Data Read (`data_read`).
-fn address_read(reads: usize, place: Place) -> bool
+fn address_read(reads: u32, place: Place) -> bool
     ensures { λ r. ⌜ r ≡ below-bounds 12 reads (sampled-from 3 (place .strobe)) (place .strobe) (place .count) (place .bits) ⌝ }
 {
     within(
@@ -72,7 +72,7 @@ fn address_read(reads: usize, place: Place) -> bool
     )
 }
 
-fn data_read(wait: usize, place: Place) -> bool
+fn data_read(wait: u32, place: Place) -> bool
     ensures { λ r. ⌜ r ≡ below-bounds 15 (limit-from 5 wait (place .strobe)) (sampled-from 6 (place .strobe)) (place .strobe) (place .count) (place .bits) ⌝ }
 {
     let limit = limit_from(READ_WAIT, wait, place.strobe);
@@ -84,7 +84,7 @@ fn data_read(wait: usize, place: Place) -> bool
     )
 }
 
-pub(crate) fn place_in_range(wait: usize, reads: usize, task: Task, place: Place) -> bool
+pub(crate) fn place_in_range(wait: u32, reads: u32, task: Task, place: Place) -> bool
     ensures { λ r. ⌜ r ≡ place-in-range wait (reads-in reads task) (strobes-in task) (place .strobe) (place .count) (place .bits) ⌝ }
 {
     match task {

@@ -31,7 +31,7 @@ fn act_in_range(size: u32, pages: u16, at: At) -> bool
 }
 
 // Whether a running point exists in the order of a session over this many pages of this size.
-fn running_in_range(wait: usize, reads: usize, size: u32, pages: u16, at: At, place: Place) -> bool
+fn running_in_range(wait: u32, reads: u32, size: u32, pages: u16, at: At, place: Place) -> bool
     ensures { λ r. ⌜ r ≡ running-in-range wait reads size pages (at .stage) (at .page) (at .block) (at .act) (place .strobe) (place .count) (place .bits) ⌝ }
 {
     let stage = at.stage;
@@ -72,7 +72,7 @@ fn ended_in_range(bytes: usize, number: u32, offset: u32) -> bool
     false
 }
 
-fn point_in_range(wait: usize, reads: usize, size: u32, pages: u16, point: Point) -> bool
+fn point_in_range(wait: u32, reads: u32, size: u32, pages: u16, point: Point) -> bool
     ensures { λ r. ⌜ r ≡ point-in-range wait reads size pages point ⌝ }
 {
     match point {

@@ -70,9 +70,9 @@ struct Fields {
     page: u16,
     block: u32,
     act: u16,
-    strobe: usize,
-    count: usize,
-    bits: usize,
+    strobe: u32,
+    count: u32,
+    bits: u32,
 }
 
 // The stage of a number, if it has one.

@@ -23,7 +23,6 @@ use crate::STAGE;
 use crate::STROBE;
 use crate::words::pair16;
 use crate::words::pair32;
-use crate::words::wide;
 use crate::words::wide16;
 use crate::words::wide32;
 use c2_acts::Stage;
@@ -53,9 +52,9 @@ pub(crate) fn read_fields(r: &[u8]) -> Fields
         page: wide16(r[PAGE]),
         block: wide32(r[BLOCK]),
         act: pair16(r[ACT], r[ACT_HIGH]),
-        strobe: wide(r[STROBE]),
-        count: wide(r[COUNT]),
-        bits: wide(r[BITS]),
+        strobe: wide32(r[STROBE]),
+        count: wide32(r[COUNT]),
+        bits: wide32(r[BITS]),
     }
 }
 

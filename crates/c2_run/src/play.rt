@@ -3,16 +3,17 @@ ghost use mathlib.Core.Path.{_≡_};
 ghost use Prim.Native.Nat.{_*_};
 ghost use lib.ListN.{length};
 ghost use Rattle.settings.specs.Accepted.{settings-refusal};
+ghost use Rattle.c2_acts.specs.declared.Stage.the-variants.{Lead};
+ghost use Rattle.c2_session.specs.declared.Point.the-variants.{Running};
 ghost use Rattle.c2_target.specs.Target.{fresh};
 ghost use Rattle.c2_run.specs.Code.Closed.{closed};
 use crate::Ran;
 use crate::program::low;
 use crate::same::same_target;
 use c2_outcome::is_running;
-use c2_outcome::same_session;
-use c2_outcome::task_at;
-use c2_outcome::task_next;
 use c2_session::Session;
+use c2_session::at_point;
+use c2_session::set_off;
 use c2_target::Command;
 use c2_target::Device;
 use c2_target::Link;
@@ -53,6 +54,7 @@ pub(crate) fn play(
     delays: &[u8],
     budget: usize,
 ) -> Ran
+    requires { ⌜ start .point ≡ Running Lead 0 0 0 0 0 0 ⌝ }
     requires { ⌜ settings-refusal t ≡ 0 ⌝ }
     requires { ⌜ length (now flash) ≡ t .size * t .count ⌝ }
     ensures { λ r. ⌜ r .session ≡ closed budget 0 t (now (delays .entry)) (now (image .entry)) start fresh (now (flash .entry)) .session ⌝ }
@@ -60,30 +62,28 @@ pub(crate) fn play(
     ensures { λ r. ⌜ r .replies ≡ closed budget 0 t (now (delays .entry)) (now (image .entry)) start fresh (now (flash .entry)) .replies ⌝ }
     ensures { λ _. ⌜ now (flash .exit) ≡ closed budget 0 t (now (delays .entry)) (now (image .entry)) start fresh (now (flash .entry)) .flash ⌝ }
 {
-    let mut s = start;
     let begun = start.point;
-    let mut task = task_at(begun);
+    let mut r = set_off(begun);
     let mut target = fresh();
     let mut n = 0;
     while n < budget {
-        let point = s.point;
+        let point = r.point;
         if !is_running(point) {
             return Ran {
-                session: s,
+                session: at_point(start, point),
                 target: target,
                 replies: n,
             };
         }
-        let replied = c2_target_step::step_on(t, target, flash, delays, s.step_by(task, image));
+        let replied = c2_target_step::step_on(t, target, flash, delays, r.step());
         let after = replied.target;
         target = same_target(after);
-        s = same_session(s.advance_by(task, low(replied.reply), image));
-        let next = s.point;
-        task = task_next(next, task);
+        r = r.advance(start, low(replied.reply), image);
         n += 1;
     }
+    let end = r.point;
     Ran {
-        session: s,
+        session: at_point(start, end),
         target: target,
         replies: n,
     }

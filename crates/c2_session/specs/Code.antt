@@ -5,3 +5,5 @@ pub mod Next
 pub mod Judge
 pub mod Step
 pub mod Advance
+pub mod Script
+pub mod Run

@@ -2,7 +2,7 @@
 ghost use mathlib.Core.Path.{_≡_};
 ghost use mathlib.Core.Bool.{cond};
 ghost use Rattle.c2_session.specs.Code.Next.{end-point, next-act};
-ghost use Rattle.c2_session.specs.Code.Judge.{read-again, differs, compared, frame-judged, frame-answered};
+ghost use Rattle.c2_session.specs.Code.Judge.{read-again, differs, compared, frame-judged};
 use crate::At;
 use crate::Point;
 use crate::Session;
@@ -11,19 +11,17 @@ use crate::next::end_point;
 use crate::next::strobe_point;
 use c2_acts::Task;
 use c2_order::OKAY;
-use c2_wire::Moved;
 use c2_wire::Place;
 use numbers::BAD_STATUS;
 use numbers::COMPARE_DIFFERS;
 use numbers::OTHER_DEVICE;
 use numbers::POLL_LIMIT_REACHED;
-use numbers::WAIT_LIMIT_REACHED;
 
 // The status that passes, as the sampled bits give it.
-const PASSED: usize = OKAY as usize;
+const PASSED: u32 = OKAY as u32;
 
 // An unsatisfied read of a poll: the one that reaches the limit refuses.
-fn read_again(limit: usize, at: At, reads: usize) -> Point
+fn read_again(limit: u32, at: At, reads: u32) -> Point
     ensures { λ r. ⌜ r ≡ read-again limit at reads ⌝ }
 {
     if limit <= reads {
@@ -52,10 +50,10 @@ impl Session {
         }
     }
 
-    fn compared(self, wanted: u8, at: At, byte: usize) -> Point
+    fn compared(self, wanted: u8, at: At, byte: u32) -> Point
         ensures { λ r. ⌜ r ≡ compared wanted self at byte ⌝ }
     {
-        if byte == (wanted as usize) {
+        if byte == (wanted as u32) {
             return self.next_act(at);
         }
         self.differs(at)
@@ -70,7 +68,7 @@ impl Session {
         end_point(number)
     }
 
-    fn polled(self, passes: bool, at: At, reads: usize) -> Point
+    fn polled(self, passes: bool, at: At, reads: u32) -> Point
         ensures { λ r. ⌜ r ≡ cond passes (next-act self at) (read-again 256 at reads) ⌝ }
     {
         if passes {
@@ -80,7 +78,14 @@ impl Session {
     }
 
     // The point after the reply to a frame's STOP; the frame has given this byte.
-    fn frame_judged(self, task: Task, at: At, reads: usize, byte: usize, image: &[u8]) -> Point
+    pub(crate) fn frame_judged(
+        self,
+        task: Task,
+        at: At,
+        reads: u32,
+        byte: u32,
+        image: &[u8],
+    ) -> Point
         ensures { λ r. ⌜ r ≡ frame-judged 256 task self at reads byte (now (image .entry)) ⌝ }
     {
         let settings = self.settings;
@@ -91,28 +96,11 @@ impl Session {
             Task::Compare => {
                 self.compared(image_byte(image, self.compared_offset(at)), at, byte)
             }
-            Task::Ident => self.expects(byte == (settings.id as usize), OTHER_DEVICE, at),
+            Task::Ident => self.expects(byte == (settings.id as u32), OTHER_DEVICE, at),
             Task::Reset => self.next_act(at),
             Task::Pause => self.next_act(at),
             Task::Address => self.next_act(at),
             Task::Send => self.next_act(at),
-        }
-    }
-
-    pub(crate) fn frame_answered(
-        self,
-        moved: Moved,
-        task: Task,
-        at: At,
-        reads: usize,
-        image: &[u8],
-    ) -> Point
-        ensures { λ r. ⌜ r ≡ frame-answered 256 moved task self at reads (now (image .entry)) ⌝ }
-    {
-        match moved {
-            Moved::Within(place) => strobe_point(at, place),
-            Moved::Stopped(byte) => self.frame_judged(task, at, reads, byte, image),
-            Moved::WaitLimit => end_point(WAIT_LIMIT_REACHED),
         }
     }
 }

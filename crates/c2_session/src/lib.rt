@@ -1,13 +1,17 @@
-// A programming session as a value: settings, pages and the point reached in the session's order. Each reply
-// turns a session into its successor.
+// A programming session as a value: settings, pages and the point reached in the session's order. A runner
+// takes a session's point through the order, reply by reply.
 use c2_acts::Stage;
+use c2_acts::Task;
 use settings::Settings;
 
-mod advance;
 mod bytes;
 mod judge;
 mod next;
-mod step;
+mod run;
+mod script;
+
+pub use run::at_point;
+pub use run::set_off;
 
 // An act of the order: its stage, the page of the image and the block of the page, and its number in the
 // stage.
@@ -26,9 +30,9 @@ pub enum Point {
         page: u16,
         block: u32,
         act: u16,
-        strobe: usize,
-        count: usize,
-        bits: usize,
+        strobe: u32,
+        count: u32,
+        bits: u32,
     },
     Ended {
         number: u32,
@@ -43,10 +47,18 @@ pub struct Session {
     pub point: Point,
 }
 
+// A session's point on its way, what the act there does, and what is left of the act's script; the script is 0
+// as long as it is not known. The session itself stands beside its runner and stays as it is.
+pub struct Runner {
+    pub point: Point,
+    pub task: Task,
+    pub script: u64,
+}
+
 impl Session {
     // The limit of a WAIT: so many zeros refuse.
-    pub const WAIT_LIMIT: usize = 20;
+    pub const WAIT_LIMIT: u32 = 20;
 
     // The limit of a poll: so many unsatisfied reads refuse.
-    pub const POLL_LIMIT: usize = 256;
+    pub const POLL_LIMIT: u32 = 256;
 }

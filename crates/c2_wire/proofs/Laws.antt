@@ -3,4 +3,4 @@ pub mod Bits
 pub mod Exchange
 pub mod Place
 pub mod Frames
-pub mod Role
+pub mod Script

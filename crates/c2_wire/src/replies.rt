@@ -1,16 +1,12 @@
 // What a reply makes of a place in a frame.
 ghost use mathlib.Core.Path.{_≡_};
 ghost use mathlib.Core.Bool.{false};
-ghost use Prim.Native.Nat.{ℕ, _*_, _^_, _<_, _≤_};
+ghost use Prim.Native.Nat.{_*_, _%_, _^_, _<_, _≤_};
 ghost use Rattle.c2_wire.specs.Bits.{bit};
-ghost use Rattle.c2_wire.specs.Frames.{frame};
-ghost use Rattle.c2_wire.specs.Place.{followed, passes, takes-bit, waits-on};
-ghost use Rattle.c2_wire.specs.Code.Role.{role-follows, Role-fits};
-use crate::Frame;
+ghost use Rattle.c2_wire.specs.Place.{passes, takes-bit, waits-on};
+ghost use Rattle.c2_wire.specs.Code.Script.{code-follows};
 use crate::Moved;
 use crate::Place;
-use crate::Role;
-use crate::steps::role_at;
 
 fn passed(place: Place) -> Moved
     requires { ⌜ place .strobe < 14 ⌝ }
@@ -24,18 +20,18 @@ fn passed(place: Place) -> Moved
 }
 
 // The value of a sampled bit in its byte.
-fn weight(i: usize, one: bool) -> usize
+fn weight(i: u32, one: bool) -> u32
     requires { ⌜ i < 8 ⌝ }
     ensures { λ r. ⌜ r ≡ bit one * 2 ^ i ⌝ }
     ensures { λ r. ⌜ r ≤ 128 ⌝ }
 {
     if one {
-        return 1usize << i;
+        return 1u32 << i;
     }
     0
 }
 
-fn sampled(place: Place, i: usize, one: bool) -> Moved
+fn sampled(place: Place, i: u32, one: bool) -> Moved
     requires { ⌜ place .strobe < 14 ⌝ }
     requires { ⌜ i < 8 ⌝ }
     ensures { λ r. ⌜ r ≡ takes-bit i place one ⌝ }
@@ -48,7 +44,7 @@ fn sampled(place: Place, i: usize, one: bool) -> Moved
 }
 
 // A zero in a WAIT: the one that reaches the limit refuses.
-fn waited(place: Place, limit: usize) -> Moved
+fn waited(place: Place, limit: u32) -> Moved
     ensures { λ r. ⌜ r ≡ waits-on limit place false ⌝ }
 {
     let count = place.count;
@@ -64,7 +60,7 @@ fn waited(place: Place, limit: usize) -> Moved
     Moved::WaitLimit
 }
 
-fn wait_answered(place: Place, one: bool, limit: usize) -> Moved
+fn wait_answered(place: Place, one: bool, limit: u32) -> Moved
     requires { ⌜ place .strobe < 14 ⌝ }
     ensures { λ r. ⌜ r ≡ waits-on limit place one ⌝ }
 {
@@ -78,24 +74,23 @@ fn wait_answered(place: Place, one: bool, limit: usize) -> Moved
     waited(place, limit)
 }
 
-fn role_follow(role: Role, place: Place, one: bool, limit: usize) -> Moved
-    requires { ⌜ Role-fits role (place .strobe) ⌝ }
-    ensures { λ r. ⌜ r ≡ role-follows limit role place one ⌝ }
+// What a reply makes of a place whose strobe is a script's first one. The limit is that of a WAIT. No frame
+// has a strobe past the fifteenth.
+pub fn follow(script: u64, place: Place, one: bool, limit: u32) -> Moved
+    ensures { λ r. ⌜ r ≡ code-follows limit (script % 16) place one ⌝ }
 {
-    match role {
-        Role::Wait => wait_answered(place, one, limit),
-        Role::Sampled(i) => sampled(place, i, one),
-        Role::Stop => Moved::Stopped(place.bits),
-        Role::Released => passed(place),
-        Role::Ins(_) => passed(place),
-        Role::Length => passed(place),
-        Role::Sent(_) => passed(place),
+    let code = script % 16;
+    if 14 <= place.strobe {
+        return Moved::Stopped(place.bits);
     }
-}
-
-// What a reply makes of a place in a frame, whatever byte the frame writes. The limit is that of its WAIT.
-pub fn follow(kind: Frame, place: Place, one: bool, limit: usize) -> Moved
-    ensures { λ r. ⌜ ((byte : ℕ) → r ≡ followed limit (frame kind byte) place one) ⌝ }
-{
-    role_follow(role_at(kind, place.strobe), place, one, limit)
+    if code < 4 {
+        return passed(place);
+    }
+    if 8 <= code {
+        return sampled(place, (code - 8) as u32, one);
+    }
+    if code == 6 {
+        return wait_answered(place, one, limit);
+    }
+    Moved::Stopped(place.bits)
 }

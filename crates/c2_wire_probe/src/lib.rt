@@ -2,10 +2,11 @@
 // frames by INS code, places and moves as numbers.
 ghost use mathlib.Core.Path.{_≡_};
 ghost use mathlib.Core.Bool.{not};
-ghost use Prim.Native.Nat.{ℕ};
+ghost use Prim.Native.Nat.{ℕ, _/_, _^_};
 ghost use lib.Dec.{eqb};
 ghost use Rattle.c2_wire.specs.Frames.{frame};
 ghost use Rattle.c2_wire.specs.Place.{place, step-at, followed};
+ghost use Rattle.c2_wire.specs.Code.Script.{code-word, frame-codes, kept};
 ghost use Rattle.c2_wire.specs.declared.Moved.the-variants.{Within};
 ghost use Rattle.c2_wire_probe.specs.Probe.{frame-of, moved-numbers};
 use c2_wire::Frame;
@@ -33,10 +34,10 @@ fn frame_of(ins: u8) -> Frame
 // WAIT; what is not in use is 0.
 #[repr(C)]
 pub struct Followed {
-    pub kind: usize,
-    pub strobe: usize,
-    pub count: usize,
-    pub bits: usize,
+    pub kind: u32,
+    pub strobe: u32,
+    pub count: u32,
+    pub bits: u32,
 }
 
 fn within(place: Place) -> Followed
@@ -70,22 +71,29 @@ fn numbers_of(moved: Moved) -> Followed
     }
 }
 
+// What is left of the script of the frame with this INS code, from a strobe on.
+fn script_at(ins: u8, byte: u8, strobe: u32) -> u64
+    ensures { λ r. ⌜ r ≡ code-word (frame-codes (frame-of ins) byte) / 16 ^ kept strobe ⌝ }
+{
+    c2_wire::script_from(c2_wire::script_of(frame_of(ins), byte), strobe)
+}
+
 // `step` and `follow` of c2_wire for callers in other languages, with the frame by its INS code.
 #[no_mangle]
-pub extern "C" fn wire_step(ins: u8, byte: u8, strobe: usize) -> u8
+pub extern "C" fn wire_step(ins: u8, byte: u8, strobe: u32) -> u8
     ensures { λ r. ⌜ r ≡ step-at (frame (frame-of ins) byte) strobe ⌝ }
 {
-    c2_wire::step(frame_of(ins), byte, strobe)
+    c2_wire::step(script_at(ins, byte, strobe))
 }
 
 #[no_mangle]
 pub extern "C" fn wire_follow(
     ins: u8,
-    strobe: usize,
-    count: usize,
-    bits: usize,
+    strobe: u32,
+    count: u32,
+    bits: u32,
     reply: u8,
-    limit: usize,
+    limit: u32,
 ) -> Followed
     ensures { λ r. ⌜ ((byte : ℕ) → r ≡ moved-numbers (followed limit (frame (frame-of ins) byte) (place strobe count bits) (not (eqb reply 0)))) ⌝ }
 {
@@ -95,7 +103,7 @@ pub extern "C" fn wire_follow(
         bits: bits,
     };
     if reply == 0 {
-        return numbers_of(c2_wire::follow(frame_of(ins), place, false, limit));
+        return numbers_of(c2_wire::follow(script_at(ins, 0, strobe), place, false, limit));
     }
-    numbers_of(c2_wire::follow(frame_of(ins), place, true, limit))
+    numbers_of(c2_wire::follow(script_at(ins, 0, strobe), place, true, limit))
 }

@@ -245,15 +245,16 @@ fn wide_numbers(run: &mut Run) -> Checked {
     Ok(cases)
 }
 
-/// Numbers at the edges of every width, and some between.
+/// Numbers at the edges of every width up to 32 bits, and some between.
 fn huge_numbers(run: &mut Run) -> Vec<usize> {
+    const MOST: usize = u32::MAX as usize;
     let mut numbers = Vec::new();
-    for width in [8, 15, 16, 31, 32, 63] {
+    for width in [8, 15, 16, 31] {
         let edge = 1usize << width;
         numbers.extend([edge - 1, edge, edge + 1]);
     }
-    numbers.extend([usize::MAX / 2, usize::MAX - 2, usize::MAX - 1, usize::MAX]);
-    numbers.extend((0..10).map(|_| run.random.next() as usize));
+    numbers.extend([MOST - 2, MOST - 1, MOST]);
+    numbers.extend((0..10).map(|_| run.random.next() as u32 as usize));
     numbers
 }
 

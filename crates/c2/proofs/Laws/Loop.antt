@@ -9,12 +9,12 @@ use native.Mathlib.Omega.{arith}
 use lib.ListN.{length, getD, set, take, drop, length-set, take-append-drop, drop-of-length-le, length-drop}
 use lib.Seq.{drop-cons, take-suc-set, drop-set-lt, drop-drop, length-take-le, take-all}
 use Rattle.c2_session.specs.declared.Session.{Session}
-use Rattle.c2_acts.specs.declared.Task.{Task}
-use Rattle.c2_session.specs.Code.Step.{session-step, step-by}
-use Rattle.c2_session.specs.Code.Advance.{advanced, advanced-by}
+use Rattle.c2_session.specs.declared.Runner.{Runner}
+use Rattle.c2_session.specs.Code.Step.{session-step}
+use Rattle.c2_session.specs.Code.Advance.{advanced}
+use Rattle.c2_session.specs.Code.Run.{runner-advanced, runner-step}
+use Rattle.c2_session.proofs.Laws.Run.{Knows, Ready, goes-on-ready, runner-goes, session-of, session-goes, session-waits}
 use Rattle.c2_outcome.specs.Outcome.{is-running}
-use Rattle.c2_outcome.specs.Code.Task.{task-next}
-use Rattle.c2_outcome.proofs.Laws.Task.{Knows, advanced-known, step-known, known-next}
 use Rattle.c2.specs.Code.Loop.{ran, wrote}
 
 -- a session that has ended takes nothing
@@ -60,18 +60,6 @@ module _ (image replies steps₀ : List ℕ) (s₀ : Session) where
           rest = rw (add-one, drop-set-lt (suc i) steps i v, ← add-one, ← drop-drop 1 i steps, k .rest, drop-drop 1 i steps₀);
         }
 
-    -- a turn of the loop for a caller that knows what the session's act does
-    pub goes-known : (t : Task) → Knows t (s .point) → i < length replies → is-running (s .point) ≡ true
-        → (s₁ : Session) → s₁ ≡ advanced-by 20 256 t s (getD replies i 0) image → (t₁ : Task) → t₁ ≡ task-next (s₁ .point) t
-        → (v : ℕ) → v ≡ step-by t₁ s₁ image → Sofar image replies steps₀ s₀ (set steps i v) s₁ (i + 1) × Knows t₁ (s₁ .point)
-    goes-known t m h run s₁ es t₁ et v ev =
-        let e : s₁ ≡ advanced 20 256 s (getD replies i 0) image = es ∙ advanced-known 20 256 s t image (getD replies i 0) m in
-        let n : Knows (task-next (advanced 20 256 s (getD replies i 0) image .point) t) (advanced 20 256 s (getD replies i 0) image .point)
-        = known-next 20 256 s t image (getD replies i 0) m in
-        let k₁ : Knows t₁ (s₁ .point) = rw (et, e) n in
-        let f : v ≡ session-step (advanced 20 256 s (getD replies i 0) image) image = ev ∙ step-known 20 256 s₁ t₁ image k₁ ∙ ap (λ (z : Session). session-step z image) e in
-        (rw (f, e) (goes h run), k₁)
-
     -- the loop is left: the steps written so far are all
     ends : wrote image s (drop i replies) ≡ [] → s ≡ ran image s (drop i replies) → Due image replies steps₀ s₀ steps s i
     ends e f =
@@ -90,6 +78,19 @@ module _ (image replies steps₀ : List ℕ) (s₀ : Session) where
 
     pub stops : is-running (s .point) ≡ false → Due image replies steps₀ s₀ steps s i
     stops p = ends (wrote-stops image s (drop i replies) p) (sym (ran-stops image s (drop i replies) p))
+
+-- a turn of the loop with a runner
+pub goes-running : (image replies steps₀ : List ℕ) (s₀ : Session) (steps : List ℕ) (r : Runner) (i : ℕ)
+    → Sofar image replies steps₀ s₀ steps (session-of s₀ r) i → Ready s₀ image r → i < length replies → is-running (r .point) ≡ true
+    → (r₁ : Runner) → r₁ ≡ runner-advanced s₀ r (getD replies i 0) image → (v : ℕ) → v ≡ runner-step r₁
+    → Sofar image replies steps₀ s₀ (set steps i v) (session-of s₀ r₁) (i + 1) × Ready s₀ image r₁
+goes-running image replies steps₀ s₀ steps r i k ready h run r₁ er v ev =
+    let x : ℕ = getD replies i 0 in
+    let knows : Knows s₀ image r₁ = rw er (runner-goes s₀ image r x ready .1) in
+    let e : session-of s₀ r₁ ≡ advanced 20 256 (session-of s₀ r) x image = ap (session-of s₀) er ∙ session-goes s₀ image r x ready in
+    let f : v ≡ session-step (advanced 20 256 (session-of s₀ r) x image) image
+    = ev ∙ session-waits s₀ image r₁ knows ∙ ap (λ (z : Session). session-step z image) e in
+    (rw (f, e) (goes image replies steps₀ s₀ steps (session-of s₀ r) i k h run), goes-on-ready s₀ image r₁ knows)
 
 -- a part of the step buffer that was written, put back: what stood before the place, what was written, and
 -- what stood after it

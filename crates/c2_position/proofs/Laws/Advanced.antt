@@ -20,7 +20,7 @@ use Rattle.c2_wire.specs.declared.Frame.the-variants.{AddressWrite, DataWrite}
 use Rattle.c2_wire.specs.declared.Place.{Place}
 use Rattle.c2_wire.specs.declared.Moved.{Moved}
 use Rattle.c2_wire.specs.declared.Moved.the-variants.{Within, Stopped, WaitLimit}
-use Rattle.c2_wire.proofs.Laws.Role.{followed-any-byte}
+use Rattle.c2_wire.proofs.Laws.Script.{followed-any-byte}
 use Rattle.c2_order.specs.Acts.{Act, input-taken, output-ready}
 use Rattle.c2_order.specs.Conversation.{limits}
 use Rattle.c2_order.specs.Point.{begin, strobes-of}

@@ -9,7 +9,7 @@ use Rattle.c2_wire.specs.Place.{place}
 use Rattle.c2_wire.specs.declared.Frame.the-variants.{AddressWrite, DataWrite}
 use Rattle.c2_wire.specs.declared.Place.{Place}
 use Rattle.c2_wire.proofs.Laws.Place.{Exists}
-use Rattle.c2_wire.proofs.Laws.Role.{exists-any-byte}
+use Rattle.c2_wire.proofs.Laws.Script.{exists-any-byte}
 use Rattle.c2_order.specs.Acts.{Act}
 use Rattle.c2_order.specs.Order.{session-order}
 use Rattle.c2_order.specs.Conversation.{limits}

@@ -11,7 +11,7 @@ use Rattle.c2_wire.specs.declared.Frame.the-variants.{AddressWrite, DataWrite}
 use Rattle.c2_wire.specs.declared.Place.{Place}
 use Rattle.c2_wire.proofs.Laws.Bits.{bytes-take, bytes-drop}
 use Rattle.c2_wire.proofs.Laws.Place.{Exists}
-use Rattle.c2_wire.proofs.Laws.Role.{exists-any-byte}
+use Rattle.c2_wire.proofs.Laws.Script.{exists-any-byte}
 use Rattle.settings.specs.declared.Settings.{Settings}
 use Rattle.c2_order.specs.Acts.{Act, Block, block-write, block-read}
 use Rattle.c2_order.specs.Order.{Page, pages, rising, blocks, joined, page-acts}

@@ -16,7 +16,7 @@ use Rattle.c2_wire.specs.Place.{place, step-at}
 use Rattle.c2_wire.specs.declared.Frame.the-variants.{AddressWrite, DataWrite}
 use Rattle.c2_wire.specs.declared.Place.{Place}
 use Rattle.c2_wire.proofs.Laws.Place.{Exists, remaining-asks}
-use Rattle.c2_wire.proofs.Laws.Role.{exists-any-byte}
+use Rattle.c2_wire.proofs.Laws.Script.{exists-any-byte}
 use Rattle.c2_order.specs.Acts.{Act}
 use Rattle.c2_order.specs.Conversation.{limits}
 use Rattle.c2_order.specs.Point.{strobes-of, follow-up, left-to-say}

@@ -8,12 +8,12 @@ use lib.ListN.{length}
 use Rattle.settings.specs.declared.Settings.{Settings}
 use Rattle.settings.specs.Accepted.{settings-refusal}
 use Rattle.c2_session.specs.declared.Session.{Session}
-use Rattle.c2_acts.specs.declared.Task.{Task}
-use Rattle.c2_session.specs.Code.Step.{session-step, step-by}
-use Rattle.c2_session.specs.Code.Advance.{advanced, advanced-by}
+use Rattle.c2_session.specs.declared.Runner.{Runner}
+use Rattle.c2_session.specs.Code.Step.{session-step}
+use Rattle.c2_session.specs.Code.Advance.{advanced}
+use Rattle.c2_session.specs.Code.Run.{runner-advanced, runner-step}
+use Rattle.c2_session.proofs.Laws.Run.{Knows, Ready, goes-on-ready, runner-goes, session-of, session-goes, session-waits}
 use Rattle.c2_outcome.specs.Outcome.{is-running}
-use Rattle.c2_outcome.specs.Code.Task.{task-next}
-use Rattle.c2_outcome.proofs.Laws.Task.{Knows, advanced-known, step-known, known-next}
 use Rattle.c2_target.specs.declared.Target.{Target}
 use Rattle.c2_target.specs.Delays.{setup}
 use Rattle.c2_target.specs.declared.Replied.{Replied}
@@ -42,21 +42,6 @@ module _ (t : Settings) (image f₀ ds : List ℕ) (budget : ℕ) (s₀ : Sessio
         let z : budget - n ≡ suc (budget - (n + 1)) = omega arith in
         record { small = omega arith; long = l ∙ k .long; same = k .same ∙ rw (z, run) }
 
-    -- a turn of the loop for a caller that knows what the session's act does and that the target exists
-    pub goes-known : Lent (setup t ds) → settings-refusal t ≡ 0 → Lasts (setup t ds) y f → (task : Task) → Knows task (s .point) → n < budget
-        → is-running (s .point) ≡ true → (x : ℕ) → x ≡ step-by task s image → (a : Replied) → a ≡ answer-on (setup t ds) y f x
-        → (f₁ : List ℕ) → f₁ ≡ flash-on (setup t ds) y f x → length f₁ ≡ length f → (r : ℕ) → r ≡ a .reply % 256
-        → (s₁ : Session) → s₁ ≡ advanced-by 20 256 task s r image → (task₁ : Task) → task₁ ≡ task-next (s₁ .point) task
-        → Sofar t image f₀ ds budget s₀ f₁ s₁ (a .target) (n + 1) × (Knows task₁ (s₁ .point) × Lasts (setup t ds) (a .target) f₁)
-    goes-known lent accepted lasts task m h run x ex a ea f₁ ef l r er s₁ es task₁ et =
-        let on = same-on (setup t ds) y f x accepted (lasts .exists) in
-        let gives : a ≡ answer (setup t ds) y f x = ea ∙ on .0 in
-        let leaves : f₁ ≡ flash-after (setup t ds) y f x = ef ∙ on .1 in
-        let asked : x ≡ session-step s image = ex ∙ step-known 20 256 s task image m in
-        let e : s₁ ≡ advanced 20 256 s r image = es ∙ advanced-known 20 256 s task image r m in
-        let knows : Knows task₁ (s₁ .point) = rw (et, e) (known-next 20 256 s task image r m) in
-        (rw (e, er, gives, leaves, asked) (goes h run (rw (leaves, asked) at l)), (knows, rw (gives, leaves) (answer-lasts (setup t ds) lent y f x lasts)))
-
     pub done : budget ≤ n → closed budget 0 t ds image s₀ fresh f₀ ≡ stops-at n s y f
     unfolding closed
     done h = let z : budget - n ≡ 0 = omega arith in k .same ∙ rw z
@@ -68,6 +53,25 @@ module _ (t : Settings) (image f₀ ds : List ℕ) (budget : ℕ) (s₀ : Sessio
         go : (m : ℕ) → closed m n t ds image s y f ≡ stops-at n s y f
         go zero = refl
         go (suc m) = rw p
+
+-- a turn of the loop with a runner, where the target exists
+pub goes-running : (t : Settings) (image f₀ ds : List ℕ) (budget : ℕ) (s₀ : Session) (f : List ℕ) (r : Runner) (y : Target) (n : ℕ)
+    → Sofar t image f₀ ds budget s₀ f (session-of s₀ r) y n → Lent (setup t ds) → settings-refusal t ≡ 0 → Lasts (setup t ds) y f → Knows s₀ image r
+    → n < budget → is-running (r .point) ≡ true → (x : ℕ) → x ≡ runner-step r → (a : Replied) → a ≡ answer-on (setup t ds) y f x
+    → (f₁ : List ℕ) → f₁ ≡ flash-on (setup t ds) y f x → length f₁ ≡ length f → (v : ℕ) → v ≡ a .reply % 256
+    → (r₁ : Runner) → r₁ ≡ runner-advanced s₀ r v image
+    → Sofar t image f₀ ds budget s₀ f₁ (session-of s₀ r₁) (a .target) (n + 1) × (Knows s₀ image r₁ × Lasts (setup t ds) (a .target) f₁)
+goes-running t image f₀ ds budget s₀ f r y n k lent accepted lasts m h run x ex a ea f₁ ef l v ev r₁ er =
+    let on = same-on (setup t ds) y f x accepted (lasts .exists) in
+    let gives : a ≡ answer (setup t ds) y f x = ea ∙ on .0 in
+    let leaves : f₁ ≡ flash-after (setup t ds) y f x = ef ∙ on .1 in
+    let asked : x ≡ session-step (session-of s₀ r) image = ex ∙ session-waits s₀ image r m in
+    let ready : Ready s₀ image r = goes-on-ready s₀ image r m in
+    let e : session-of s₀ r₁ ≡ advanced 20 256 (session-of s₀ r) v image = ap (session-of s₀) er ∙ session-goes s₀ image r v ready in
+    let knows : Knows s₀ image r₁ = rw er (runner-goes s₀ image r v ready .1) in (
+      rw (e, ev, gives, leaves, asked) (goes t image f₀ ds budget s₀ f (session-of s₀ r) y n k h run (rw (leaves, asked) at l)),
+      (knows, rw (gives, leaves) (answer-lasts (setup t ds) lent y f x lasts)),
+    )
 
 -- what is due where the loop is left
 module _ {x : Closed} {s : Session} {y : Target} {f : List ℕ} {n : ℕ} (e : x ≡ stops-at n s y f) where

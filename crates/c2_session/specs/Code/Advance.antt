@@ -36,18 +36,10 @@ abbrev pub point-advanced : (wait-limit poll-limit : ℕ) → Point → Session 
 point-advanced w r (Running g i j k q c v) s reply image = point-replied w r s (act-at g i j k) (place q c v) reply image
 point-advanced w r (Ended n o) s reply image = Ended n o
 
+-- a session at another point
+abbrev pub with-point : Session → Point → Session
+with-point s y = record { settings = s .settings; first = s .first; pages = s .pages; point = y }
+
 -- the session after a reply
 unfoldable pub advanced : (wait-limit poll-limit : ℕ) → Session → (reply : ℕ) → List ℕ → Session
-advanced w r s reply image =
-    record { settings = s .settings; first = s .first; pages = s .pages; point = point-advanced w r (s .point) s reply image }
-
--- the point after a reply for a caller that knows what the act does; `advanced-known` of proofs/Laws/Task in
--- c2_outcome is the law that it is the same
-abbrev pub point-advanced-by : (wait-limit poll-limit : ℕ) → Task → Point → Session → (reply : ℕ) → List ℕ → Point
-point-advanced-by w r t (Running g i j k q c v) s reply image = replied-by w r t s (act-at g i j k) (place q c v) reply image
-point-advanced-by w r t (Ended n o) s reply image = Ended n o
-
--- the session after a reply for a caller that knows what the act does
-unfoldable pub advanced-by : (wait-limit poll-limit : ℕ) → Task → Session → (reply : ℕ) → List ℕ → Session
-advanced-by w r t s reply image =
-    record { settings = s .settings; first = s .first; pages = s .pages; point = point-advanced-by w r t (s .point) s reply image }
+advanced w r s reply image = with-point s (point-advanced w r (s .point) s reply image)

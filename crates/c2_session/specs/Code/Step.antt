@@ -70,12 +70,3 @@ point-step (Ended n o) s image = 6
 -- the step that a session waits at
 unfoldable pub session-step : Session → List ℕ → ℕ
 session-step s image = point-step (s .point) s image
-
--- the step for a caller that knows what the act does; `step-known` of proofs/Laws/Task in c2_outcome is the
--- law that it is the same
-abbrev pub point-step-by : Task → Point → Session → List ℕ → ℕ
-point-step-by t (Running g i j k q c v) s image = task-step t s (act-at g i j k) q image
-point-step-by t (Ended n o) s image = 6
-
-unfoldable pub step-by : Task → Session → List ℕ → ℕ
-step-by t s image = point-step-by t (s .point) s image

@@ -35,12 +35,20 @@ returns c =
 returns-2 : tie.Need-returns-2
 returns-2 c = search needs
 
+cast-act-left : tie.Need-cast-act-left
+cast-act-left c = search needs
+
+cast-act-left-2 : tie.Need-cast-act-left-2
+cast-act-left-2 c = search needs
+
 pub point-left-spec : {M : Type 1} → statement M
 point-left-spec =
     tie.close
     (tie.spec
     enum-known-point
     task-of-requires
+    cast-act-left
+    cast-act-left-2
     act-left-requires
     stage-left-requires
     add-result

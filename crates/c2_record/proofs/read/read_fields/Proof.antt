@@ -42,27 +42,27 @@ shared-slice-read-pair16-2 c = search needs
 pair16-requires : tie.Need-pair16-requires
 pair16-requires c κs = search needs
 
-shared-slice-read-wide : tie.Need-shared-slice-read-wide
-shared-slice-read-wide c = search needs
+shared-slice-read-wide32-3 : tie.Need-shared-slice-read-wide32-3
+shared-slice-read-wide32-3 c = search needs
 
-wide-requires : tie.Need-wide-requires
-wide-requires c κs = search needs
+wide32-requires-3 : tie.Need-wide32-requires-3
+wide32-requires-3 c κs = search needs
 
-shared-slice-read-wide-2 : tie.Need-shared-slice-read-wide-2
-shared-slice-read-wide-2 c = search needs
+shared-slice-read-wide32-4 : tie.Need-shared-slice-read-wide32-4
+shared-slice-read-wide32-4 c = search needs
 
-wide-requires-2 : tie.Need-wide-requires-2
-wide-requires-2 c κs = search needs
+wide32-requires-4 : tie.Need-wide32-requires-4
+wide32-requires-4 c κs = search needs
 
-shared-slice-read-wide-3 : tie.Need-shared-slice-read-wide-3
-shared-slice-read-wide-3 c = search needs
+shared-slice-read-wide32-5 : tie.Need-shared-slice-read-wide32-5
+shared-slice-read-wide32-5 c = search needs
 
-wide-requires-3 : tie.Need-wide-requires-3
-wide-requires-3 c κs = search needs
+wide32-requires-5 : tie.Need-wide32-requires-5
+wide32-requires-5 c κs = search needs
 
 returns : tie.Need-returns
 unfolding fields-read
-returns c = rw (c .wide3 .ensures, c .before .before .wide2 .ensures, c .before .before .before .before .wide .ensures, c .before .before .before .before .before .before .pair16 .ensures, c .before .before .before .before .before .before .before .before .before .wide322 .ensures, c .before .before .before .before .before .before .before .before .before .before .before .wide16 .ensures, c .before .before .before .before .before .before .before .before .before .before .before .before .before .before .pair32 .ensures, c .before .before .before .before .before .before .before .before .before .before .before .before .before .before .before .before .before .wide32 .ensures)
+returns c = rw (c .wide325 .ensures, c .before .before .wide324 .ensures, c .before .before .before .before .wide323 .ensures, c .before .before .before .before .before .before .pair16 .ensures, c .before .before .before .before .before .before .before .before .before .wide322 .ensures, c .before .before .before .before .before .before .before .before .before .before .before .wide16 .ensures, c .before .before .before .before .before .before .before .before .before .before .before .before .before .before .pair32 .ensures, c .before .before .before .before .before .before .before .before .before .before .before .before .before .before .before .before .before .wide32 .ensures)
 
 pub read-fields-spec : {M : Type 1} → statement M
 read-fields-spec =
@@ -81,10 +81,10 @@ read-fields-spec =
     shared-slice-read-pair16
     shared-slice-read-pair16-2
     pair16-requires
-    shared-slice-read-wide
-    wide-requires
-    shared-slice-read-wide-2
-    wide-requires-2
-    shared-slice-read-wide-3
-    wide-requires-3
+    shared-slice-read-wide32-3
+    wide32-requires-3
+    shared-slice-read-wide32-4
+    wide32-requires-4
+    shared-slice-read-wide32-5
+    wide32-requires-5
     returns)

@@ -45,44 +45,23 @@ cast-low-5 c = search needs
 low-requires-7 : tie.Need-low-requires-7
 low-requires-7 c κs = search needs
 
-cast-low-6 : tie.Need-cast-low-6
-cast-low-6 c = search needs
-
 low-requires-8 : tie.Need-low-requires-8
 low-requires-8 c κs = search needs
-
-cast-high-2 : tie.Need-cast-high-2
-cast-high-2 c = search needs
 
 high-requires-2 : tie.Need-high-requires-2
 high-requires-2 c κs = search needs
 
-cast-low-7 : tie.Need-cast-low-7
-cast-low-7 c = search needs
-
 low-requires-9 : tie.Need-low-requires-9
 low-requires-9 c κs = search needs
-
-cast-low-8 : tie.Need-cast-low-8
-cast-low-8 c = search needs
 
 low-requires-10 : tie.Need-low-requires-10
 low-requires-10 c κs = search needs
 
-cast-low-9 : tie.Need-cast-low-9
-cast-low-9 c = search needs
-
 low-requires-11 : tie.Need-low-requires-11
 low-requires-11 c κs = search needs
 
-cast-low-10 : tie.Need-cast-low-10
-cast-low-10 c = search needs
-
 low-requires-12 : tie.Need-low-requires-12
 low-requires-12 c κs = search needs
-
-cast-high-3 : tie.Need-cast-high-3
-cast-high-3 c = search needs
 
 high-requires-3 : tie.Need-high-requires-3
 high-requires-3 c κs = search needs
@@ -100,18 +79,18 @@ returns : tie.Need-returns
 unfolding laid
 returns c =
     rw (
-      c .before .before .before .before .before .before .before .before .before .before .before .before .before .before .before .before .before .before .before .before .before .before .before .before .before .before .before .before .before .low .ensures,
-      c .before .before .before .before .before .before .before .before .before .before .before .before .before .before .before .before .before .before .before .before .before .before .before .before .before .before .before .low2 .ensures,
-      c .before .before .before .before .before .before .before .before .before .before .before .before .before .before .before .before .before .before .before .before .before .before .before .before .before .low3 .ensures,
-      c .before .before .before .before .before .before .before .before .before .before .before .before .before .before .before .before .before .before .before .before .before .before .before .high .ensures,
-      c .before .before .before .before .before .before .before .before .before .before .before .before .before .before .before .before .before .before .before .before .before .low4 .ensures,
-      c .before .before .before .before .before .before .before .before .before .before .before .before .before .before .before .before .before .before .before .before .low5 .ensures,
-      c .before .before .before .before .before .before .before .before .before .before .before .before .before .before .before .before .before .before .before .low6 .ensures,
-      c .before .before .before .before .before .before .before .before .before .before .before .before .before .before .before .before .before .low7 .ensures,
-      c .before .before .before .before .before .before .before .before .before .before .before .before .before .before .before .low8 .ensures,
-      c .before .before .before .before .before .before .before .before .before .before .before .before .before .high2 .ensures,
-      c .before .before .before .before .before .before .before .before .before .before .before .low9 .ensures,
-      c .before .before .before .before .before .before .before .before .before .low10 .ensures,
+      c .before .before .before .before .before .before .before .before .before .before .before .before .before .before .before .before .before .before .before .before .before .before .low .ensures,
+      c .before .before .before .before .before .before .before .before .before .before .before .before .before .before .before .before .before .before .before .before .low2 .ensures,
+      c .before .before .before .before .before .before .before .before .before .before .before .before .before .before .before .before .before .before .before .low3 .ensures,
+      c .before .before .before .before .before .before .before .before .before .before .before .before .before .before .before .before .before .before .high .ensures,
+      c .before .before .before .before .before .before .before .before .before .before .before .before .before .before .before .before .before .low4 .ensures,
+      c .before .before .before .before .before .before .before .before .before .before .before .before .before .before .before .before .low5 .ensures,
+      c .before .before .before .before .before .before .before .before .before .before .before .before .before .before .before .low6 .ensures,
+      c .before .before .before .before .before .before .before .before .before .before .before .before .before .before .low7 .ensures,
+      c .before .before .before .before .before .before .before .before .before .before .before .before .before .low8 .ensures,
+      c .before .before .before .before .before .before .before .before .before .before .before .before .high2 .ensures,
+      c .before .before .before .before .before .before .before .before .before .before .low9 .ensures,
+      c .before .before .before .before .before .before .before .before .low10 .ensures,
       c .before .before .before .before .before .before .before .low11 .ensures,
       c .before .before .before .before .before .low12 .ensures,
       c .before .before .before .high3 .ensures,
@@ -128,29 +107,22 @@ lay-spec =
     low-requires
     cast-low-2
     low-requires-2
-    cast-low-3
     low-requires-3
-    cast-high
     high-requires
-    cast-low-4
     low-requires-4
     low-requires-5
     low-requires-6
-    cast-low-5
     low-requires-7
-    cast-low-6
     low-requires-8
-    cast-high-2
     high-requires-2
-    cast-low-7
+    cast-low-3
     low-requires-9
-    cast-low-8
+    cast-low-4
     low-requires-10
-    cast-low-9
     low-requires-11
-    cast-low-10
+    cast-low-5
     low-requires-12
-    cast-high-3
+    cast-high
     high-requires-3
     low-requires-13
     low-requires-14

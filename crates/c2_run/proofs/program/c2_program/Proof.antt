@@ -1,7 +1,9 @@
 -- `c2_run::program::c2_program` meets its contract: each return by the laws of Closed.
-use mathlib.Core.Path.{sym, _∙_}
+use mathlib.Core.Path.{sym, ap, _∙_}
 use borrow.Author.Needs.{needs}
 use Rattle.settings.proofs.Laws.Opening.{settings-pass}
+use Rattle.c2_session.specs.declared.Session.{Session}
+use Rattle.c2_opening.specs.Code.Started.{started}
 use Rattle.c2_opening.proofs.Laws.Follows.{bytes-all}
 use Rattle.c2_run.proofs.Laws.Closed.{refuses-opening, refuses-flash, accepts}
 use Rattle.c2_run.proofs.program.c2_program.Statement.{statement}
@@ -33,9 +35,13 @@ start-requires : tie.Need-start-requires
 start-requires c κs = search needs
 
 play-requires : tie.Need-play-requires
+unfolding started
 play-requires c κs = (
-  settings-pass _ _ _ (sym (c .before .before .before .before .before .opening-refusal .ensures) ∙ c .before .before .before .before .if1 .left),
-  c .before .before .if2 .left ∙ c .before .before .before .flash-bytes .ensures,
+  ap (λ (s : Session). s .point) (c .before .start .ensures),
+  (
+    settings-pass _ _ _ (sym (c .before .before .before .before .before .opening-refusal .ensures) ∙ c .before .before .before .before .if1 .left),
+    c .before .before .if2 .left ∙ c .before .before .before .flash-bytes .ensures,
+  ),
 )
 
 outcome-of-requires : tie.Need-outcome-of-requires

@@ -1,20 +1,20 @@
 use borrow.Author.Needs.{needs}
-use Rattle.laws.proofs.Pick.{picks}
+use Rattle.c2_session.specs.Code.Run.{runner-taken}
 use Rattle.c2_session.proofs.Session.taken.Statement.{statement}
 use Rattle.c2_session.proofs.Session.taken.Tie as tie
 
-end-point-requires : tie.Need-end-point-requires
-end-point-requires c κs = search needs
+task-now-requires : tie.Need-task-now-requires
+task-now-requires c κs = search needs
+
+script-now-requires : tie.Need-script-now-requires
+script-now-requires c κs = search needs
+
+replied-requires : tie.Need-replied-requires
+replied-requires c κs = search needs
 
 returns : tie.Need-returns
-returns c = search (needs, picks)
-
-task-taken-requires : tie.Need-task-taken-requires
-task-taken-requires c κs = search needs
-
-returns-2 : tie.Need-returns-2
-returns-2 c = search (needs, picks)
+unfolding runner-taken
+returns c = rw (c .replied .ensures, c .before .script-now .ensures, c .before .before .task-now .ensures)
 
 pub taken-spec : {M : Type 1} → statement M
-taken-spec =
-    tie.close (tie.spec end-point-requires returns task-taken-requires returns-2)
+taken-spec = tie.close (tie.spec task-now-requires script-now-requires replied-requires returns)

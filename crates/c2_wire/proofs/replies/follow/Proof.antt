@@ -1,17 +1,52 @@
--- `c2_wire::replies::follow` meets its contract: by `role-follows-at` of Laws/Role.
+-- `c2_wire::replies::follow` meets its contract: each test of the code is one of the definition.
 use borrow.Author.Needs.{needs}
-use Rattle.c2_wire.proofs.Laws.Role.{role-fits, role-follows-at}
+use Rattle.laws.proofs.Pick.{picks}
+use Rattle.c2_wire.specs.Code.Script.{code-follows}
 use Rattle.c2_wire.proofs.replies.follow.Statement.{statement}
 use Rattle.c2_wire.proofs.replies.follow.Tie as tie
 
-role-at-requires : tie.Need-role-at-requires
-role-at-requires c κs = search needs
-
-role-follow-requires : tie.Need-role-follow-requires
-role-follow-requires c κs = rw (c .role-at .ensures) (role-fits (c .before .args .kind) (c .before .args .place .strobe))
-
 returns : tie.Need-returns
-returns c = λ a. rw (c .role-follow .ensures, c .before .role-at .ensures) (role-follows-at (c .before .before .args .kind) a (c .before .before .args .limit) (c .before .before .args .place) (c .before .before .args .one))
+unfolding code-follows
+returns c = search (needs, picks)
+
+passed-requires : tie.Need-passed-requires
+passed-requires c κs = search needs
+
+returns-2 : tie.Need-returns-2
+unfolding code-follows
+returns-2 c = rw (c .passed .ensures) (search (needs, picks) depth 12 fits 4000)
+
+cast-sampled : tie.Need-cast-sampled
+cast-sampled c = search needs
+
+sampled-requires : tie.Need-sampled-requires
+sampled-requires c κs = search needs
+
+returns-3 : tie.Need-returns-3
+unfolding code-follows
+returns-3 c = rw (c .sampled .ensures) (search (needs, picks) depth 12 fits 4000)
+
+wait-answered-requires : tie.Need-wait-answered-requires
+wait-answered-requires c κs = search needs
+
+returns-4 : tie.Need-returns-4
+unfolding code-follows
+returns-4 c = rw (c .wait-answered .ensures) (search (needs, picks) depth 12 fits 4000)
+
+returns-5 : tie.Need-returns-5
+unfolding code-follows
+returns-5 c = search (needs, picks) depth 12 fits 4000
 
 pub follow-spec : {M : Type 1} → statement M
-follow-spec = tie.close (tie.spec role-at-requires role-follow-requires returns)
+follow-spec =
+    tie.close
+    (tie.spec
+    returns
+    passed-requires
+    returns-2
+    cast-sampled
+    sampled-requires
+    returns-3
+    wait-answered-requires
+    returns-4
+    returns-5)

@@ -1,0 +1,71 @@
+// A frame's script: one word, four bits to a strobe, the first strobe's lowest. A strobe's code is its step
+// where the reply is not looked at (0, 2 or 3), 6 for a WAIT, 8 and the bit's number for a sampled bit, and 7
+// for the STOP and all that is past it. Steps that stand in no frame, 4 and 5, are codes of their own.
+ghost use mathlib.Core.Path.{_≡_};
+ghost use mathlib.Core.Bool.{cond};
+ghost use Prim.Native.Nat.{_+_, _*_, _/_, _%_, _^_, _<_, _≤_};
+ghost use lib.Dec.{eqb};
+ghost use Rattle.c2_wire.specs.Code.Script.{code-word, driven-codes, frame-codes, kept, code-step};
+use crate::Frame;
+use crate::RELEASED;
+
+// The codes of the strobes that drive a byte, each two bits' worth of code and the bit.
+fn driven(byte: u8) -> u64
+    ensures { λ r. ⌜ r ≡ code-word (driven-codes byte) ⌝ }
+    ensures { λ r. ⌜ r ≤ 858993459 ⌝ }
+{
+    let b0 = byte as u64;
+    let b1 = b0 / 2;
+    let b2 = b1 / 2;
+    let b3 = b2 / 2;
+    let b4 = b3 / 2;
+    let b5 = b4 / 2;
+    let b6 = b5 / 2;
+    let b7 = b6 / 2;
+    let low = b0 % 2 + b1 % 2 * 16 + b2 % 2 * 256 + b3 % 2 * 4096;
+    let high = b4 % 2 + b5 % 2 * 16 + b6 % 2 * 256 + b7 % 2 * 4096;
+    0x22222222 + low + high * 65536
+}
+
+// The script of a frame; the byte is the one that a write sends.
+pub fn script_of(kind: Frame, byte: u8) -> u64
+    ensures { λ r. ⌜ r ≡ code-word (frame-codes kind byte) ⌝ }
+{
+    match kind {
+        Frame::AddressWrite => 0x7777700000000330 + driven(byte) * 4096,
+        Frame::AddressRead => 0x77777fedcba98320,
+        Frame::DataWrite => 0x7760000000022230 + driven(byte) * 1048576,
+        Frame::DataRead => 0x77fedcba98622220,
+    }
+}
+
+// What is left of a script from a strobe on. No frame has a strobe past the sixteenth.
+pub fn script_from(script: u64, strobe: u32) -> u64
+    ensures { λ r. ⌜ r ≡ script / 16 ^ kept strobe ⌝ }
+{
+    if strobe < 15 {
+        return script >> (4 * strobe);
+    }
+    script >> 60
+}
+
+// What is left of a script after a reply that leads from one strobe to another: in a WAIT that goes on, all.
+pub fn script_after(script: u64, strobe: u32, next: u32) -> u64
+    ensures { λ r. ⌜ r ≡ cond (eqb next strobe) script (script / 16) ⌝ }
+{
+    if next == strobe {
+        return script;
+    }
+    script / 16
+}
+
+// The step of a script's first strobe.
+pub fn step(script: u64) -> u8
+    ensures { λ r. ⌜ r ≡ code-step (script % 16) ⌝ }
+{
+    let code = script % 16;
+    if code < 6 {
+        return code as u8;
+    }
+    RELEASED
+}
