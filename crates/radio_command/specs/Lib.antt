@@ -1,0 +1,4 @@
+pub mod Numbers
+pub mod Command
+pub mod Building
+pub mod Claims

@@ -1,0 +1,4 @@
+pub mod Deeds
+pub mod Model
+pub mod State
+pub mod Paper
