@@ -1,4 +1,11 @@
 // The radio module's flash, 129 pages of 256 bytes, and the changes that are made to it.
+mod blank;
+mod changes;
+mod pages;
+
+pub use blank::is_blank;
+pub use changes::change;
+pub use pages::put_page;
 
 // What becomes of the flash: nothing; a byte is programmed; a page is erased; program area and configuration
 // are erased.
@@ -8,3 +15,12 @@ pub enum FlashChange {
     Page { page: usize },
     Area,
 }
+
+// The bytes of a page, of program area and configuration together, and of the flash; the configuration page.
+const PAGE_BYTES: usize = 256;
+
+const AREA_BYTES: usize = 32768;
+
+const FLASH_BYTES: usize = 33024;
+
+const CONFIGURATION: usize = 127;

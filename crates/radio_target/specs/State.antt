@@ -58,9 +58,12 @@ found-stepped Nowhere t f m room = radio-refused no-point t f
 unfoldable pub radio-stepped : RadioTarget → (flash message : List ℕ) → (room : ℕ) → RadioStepped
 radio-stepped t f m room = found-stepped (state-point t) t f m room
 
+abbrev pub replied-with : (number bytes : ℕ) → RadioTarget → RadioReplied
+replied-with n b t = record { number = n; reply = b; target = t }
+
 -- what a step gives back
 abbrev pub radio-replied : RadioStepped → RadioReplied
-radio-replied s = record { number = s .number; reply = length (s .reply); target = s .target }
+radio-replied s = replied-with (s .number) (length (s .reply)) (s .target)
 
 -- the reply buffer afterwards: past the reply it stays
 abbrev pub reply-put : (reply out : List ℕ) → List ℕ

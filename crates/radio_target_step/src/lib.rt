@@ -1,0 +1,15 @@
+// One message to the modelled radio module, which is lent its flash and a buffer for the reply. Its state is a
+// struct of plain numbers, handed in and back by value; nothing else is kept between messages.
+mod messages;
+mod points;
+mod steps;
+
+pub use steps::fresh;
+pub use steps::step;
+
+// The bytes of a command, of a page and of the flash.
+const COMMAND_BYTES: usize = 8;
+
+const PAGE_BYTES: usize = 256;
+
+const FLASH_BYTES: usize = 33024;
