@@ -30,22 +30,19 @@ command-byte WrBlankChk = 0x70
 command-byte WrBist = 0x71
 command-byte WrPrgXram = 0x6F
 
--- the command of a command byte, if there is one
+-- the thirteen commands of the list
+abbrev pub command-list : List CommandName
+command-list =
+    RdSwVersion ∷ InfSwVersion ∷ RdFlashByte ∷ WrFlashByte ∷ RdFlashPage ∷ WrFlashPage ∷ RdPrgArea ∷ WrPrgArea
+    ∷ InfOk ∷ InfError ∷ WrBlankChk ∷ WrBist ∷ WrPrgXram ∷ []
+
+-- the command of a list that has this command byte, if there is one
+abbrev pub named-in : List CommandName → ℕ → NameFound
+named-in [] b = Nothing
+named-in (n ∷ ns) b = cond (eqb b (command-byte n)) (Of n) (named-in ns b)
+
 unfoldable pub name-of : ℕ → NameFound
-name-of b =
-    cond (eqb b 0x4B) (Of RdSwVersion)
-    (cond (eqb b 0x8C) (Of InfSwVersion)
-    (cond (eqb b 0x6B) (Of RdFlashByte)
-    (cond (eqb b 0x6C) (Of WrFlashByte)
-    (cond (eqb b 0x69) (Of RdFlashPage)
-    (cond (eqb b 0x6A) (Of WrFlashPage)
-    (cond (eqb b 0x6D) (Of RdPrgArea)
-    (cond (eqb b 0x6E) (Of WrPrgArea)
-    (cond (eqb b 0x58) (Of InfOk)
-    (cond (eqb b 0x99) (Of InfError)
-    (cond (eqb b 0x70) (Of WrBlankChk)
-    (cond (eqb b 0x71) (Of WrBist)
-    (cond (eqb b 0x6F) (Of WrPrgXram) Nothing))))))))))))
+name-of b = named-in command-list b
 
 -- the sum over bytes 2 to 6, modulo 256
 unfoldable pub command-sum : (b2 b3 b4 b5 b6 : ℕ) → ℕ

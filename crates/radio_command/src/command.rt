@@ -1,6 +1,8 @@
 // A command's eight bytes, built and read.
 ghost use mathlib.Core.Path.{_≡_};
-ghost use Rattle.radio_command.specs.Command.{command-byte, name-of, command-sum, built, read-named, read-command};
+ghost use lib.ListN.{drop};
+ghost use Rattle.radio_command.specs.Command.{command-byte, command-list, named-in, name-of, command-sum, built};
+ghost use Rattle.radio_command.specs.Command.{read-named, read-command};
 use crate::CommandName;
 use crate::CommandRead;
 use crate::NameFound;
@@ -25,6 +27,28 @@ pub(crate) fn command_byte(name: CommandName) -> u8
         CommandName::WrBist => 0x71,
         CommandName::WrPrgXram => 0x6F,
     }
+}
+
+// The command of a command byte, of the last five of the list.
+fn later_name_of(b: u8) -> NameFound
+    ensures { λ r. ⌜ r ≡ named-in (drop 8 command-list) b ⌝ }
+{
+    if b == 0x58 {
+        return NameFound::Of(CommandName::InfOk);
+    }
+    if b == 0x99 {
+        return NameFound::Of(CommandName::InfError);
+    }
+    if b == 0x70 {
+        return NameFound::Of(CommandName::WrBlankChk);
+    }
+    if b == 0x71 {
+        return NameFound::Of(CommandName::WrBist);
+    }
+    if b == 0x6F {
+        return NameFound::Of(CommandName::WrPrgXram);
+    }
+    NameFound::Nothing
 }
 
 // The command of a command byte.
@@ -55,22 +79,7 @@ pub fn name_of(b: u8) -> NameFound
     if b == 0x6E {
         return NameFound::Of(CommandName::WrPrgArea);
     }
-    if b == 0x58 {
-        return NameFound::Of(CommandName::InfOk);
-    }
-    if b == 0x99 {
-        return NameFound::Of(CommandName::InfError);
-    }
-    if b == 0x70 {
-        return NameFound::Of(CommandName::WrBlankChk);
-    }
-    if b == 0x71 {
-        return NameFound::Of(CommandName::WrBist);
-    }
-    if b == 0x6F {
-        return NameFound::Of(CommandName::WrPrgXram);
-    }
-    NameFound::Nothing
+    later_name_of(b)
 }
 
 // The sum over bytes 2 to 6, modulo 256.

@@ -39,7 +39,8 @@ fn store(at: usize, to: u8, flash: &mut [u8])
 
 fn erase_page(page: usize, flash: &mut [u8])
     requires { ⌜ length (now flash) ≡ 33024 ⌝ }
-    ensures { λ r. ⌜ now (flash .exit) ≡ cond (ltb page 128) (page-set page (erased-bytes 256) (now (flash .entry))) (now (flash .entry)) ⌝ }
+    ensures { λ r. ⌜ now (flash .exit)
+        ≡ cond (ltb page 128) (page-set page (erased-bytes 256) (now (flash .entry))) (now (flash .entry)) ⌝ }
 {
     if CONFIGURATION < page {
         return;

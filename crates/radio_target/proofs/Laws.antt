@@ -1,2 +1,5 @@
 -- The laws of the definitions.
-pub mod Paper
+pub mod Answers
+pub mod Deeds
+pub mod Model
+pub mod Claims

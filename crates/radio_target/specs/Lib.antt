@@ -1,4 +1,5 @@
 pub mod Deeds
 pub mod Model
 pub mod State
-pub mod Paper
+pub mod Claims
+pub mod Answers

@@ -36,7 +36,8 @@ pub(crate) fn waits(m: &[u8], flash: &mut [u8], reply: &mut [u8]) -> RadioReplie
     requires { ⌜ 256 ≤ length (now reply) ⌝ }
     ensures { λ r. ⌜ r ≡ radio-replied (radio-taken (response ModulePoint.Waits (now (flash .entry)) (now (m .entry)))) ⌝ }
     ensures { λ r. ⌜ now (flash .exit) ≡ response ModulePoint.Waits (now (flash .entry)) (now (m .entry)) .flash ⌝ }
-    ensures { λ r. ⌜ now (reply .exit) ≡ reply-put (response ModulePoint.Waits (now (flash .entry)) (now (m .entry)) .reply) (now (reply .entry)) ⌝ }
+    ensures { λ r. ⌜ now (reply .exit)
+        ≡ reply-put (response ModulePoint.Waits (now (flash .entry)) (now (m .entry)) .reply) (now (reply .entry)) ⌝ }
 {
     let d = commanded(m, flash);
     let c = d.change;

@@ -9,8 +9,9 @@ use lib.Dec.{eqb, ltb}
 use native.Mathlib.Omega.{arith}
 use borrow.Rule.Slice.PartMut.{putMid, midOf, mid-len, post-is}
 use borrow.Author.Tests.{eq-eqb, ne-eqb}
-use Rattle.radio_flash.specs.Flash.{is-erased, is-blank, page-set, mass-erased}
-use lib.ListN.{length, getD, replicate, take, drop, length-drop, take-append-drop, drop-of-length-le}
+use Rattle.laws.proofs.Tests.{by-test}
+use Rattle.radio_flash.specs.Flash.{is-erased, is-blank, page-set, byte-set, mass-erased}
+use lib.ListN.{length, getD, replicate, take, drop, length-append, length-take, length-drop, length-replicate, length-set, take-append-drop, drop-of-length-le}
 
 -- all of a list
 pub take-all : (n : ℕ) (l : List ℕ) → length l ≤ n → take n l ≡ l
@@ -86,3 +87,36 @@ filled-first n f ys h q =
 pub mass-filled : (f ys : List ℕ) → length f ≡ 33024 → ys ≡ replicate (length (midOf 0 (32768 - 0) f)) 0xFF → putMid 0 (32768 - 0) f ys ≡ mass-erased f
 unfolding mass-erased
 mass-filled f ys w q = let h : 32768 ≤ length f = omega arith in filled-first 32768 f ys h q
+
+-- a page that is set, a byte that is set and mass erase leave the flash as long as it is
+part-long : (a k b : ℕ) (bs f : List ℕ) → a ≤ b → b ≤ length f → length bs + a ≡ b + k → k ≤ length bs
+    → length (take a f ++ (drop k bs ++ drop b f)) ≡ length f
+part-long a k b bs f h u w l =
+    let x = length-append (take a f) (drop k bs ++ drop b f) in
+    let y = length-append (drop k bs) (drop b f) in
+    let p = length-take a f in
+    let q = length-drop k bs in
+    let r = length-drop b f in
+    omega arith
+
+pub page-set-long : (p : ℕ) (bs f : List ℕ) → p < 128 → length bs ≡ 256 → length f ≡ 33024 → length (page-set p bs f) ≡ 33024
+unfolding page-set
+page-set-long p bs f h l w =
+    by-test (eqb p 127)
+    (λ t. rw t (part-long (256 * p + 4) 4 (256 * p + 256) bs f (omega arith) (omega arith) (omega arith) (omega arith) ∙ w))
+    (λ t. rw t (part-long (256 * p + 0) 0 (256 * p + 256) bs f (omega arith) (omega arith) (omega arith) (omega arith) ∙ w))
+
+first-long : (n : ℕ) (f : List ℕ) → n ≤ length f → length (replicate n 0xFF ++ drop n f) ≡ length f
+first-long n f h =
+    let x = length-append (replicate n 0xFF) (drop n f) in
+    let y = length-replicate {A = ℕ} n 0xFF in
+    let z = length-drop n f in
+    omega arith
+
+pub mass-erased-long : (f : List ℕ) → length f ≡ 33024 → length (mass-erased f) ≡ 33024
+unfolding mass-erased
+mass-erased-long f w = let h : 32768 ≤ length f = omega arith in first-long 32768 f h ∙ w
+
+pub byte-set-long : (a b : ℕ) (f : List ℕ) → length f ≡ 33024 → length (byte-set a b f) ≡ 33024
+unfolding byte-set
+byte-set-long a b f w = length-set {A = ℕ} f a b ∙ w

@@ -1,5 +1,6 @@
--- `radio_command::command::name_of` meets its contract: by the tests on the way and what the calls give.
+-- `radio_command::command::name_of` meets its contract: by the tests on the way and what the call gives.
 use borrow.Author.Tests.{ne-eqb}
+use borrow.Author.Needs.{needs}
 use Rattle.radio_command.specs.Command.{name-of}
 use Rattle.radio_command.proofs.command.name_of.Statement.{statement}
 use Rattle.radio_command.proofs.command.name_of.Tie as tie
@@ -36,45 +37,14 @@ returns-8 : tie.Need-returns-8
 unfolding name-of
 returns-8 c = rw (c .if8 .taken)
 
+later-name-of-requires : tie.Need-later-name-of-requires
+later-name-of-requires c κs = search needs
+
 returns-9 : tie.Need-returns-9
 unfolding name-of
-returns-9 c = rw (c .if9 .taken)
-
-returns-10 : tie.Need-returns-10
-unfolding name-of
-returns-10 c = rw (c .if10 .taken)
-
-returns-11 : tie.Need-returns-11
-unfolding name-of
-returns-11 c = rw (c .if11 .taken)
-
-returns-12 : tie.Need-returns-12
-unfolding name-of
-returns-12 c = rw (c .if12 .taken)
-
-returns-13 : tie.Need-returns-13
-unfolding name-of
-returns-13 c = rw (c .if13 .taken)
-
-returns-14 : tie.Need-returns-14
-unfolding name-of
-returns-14 c = rw (ne-eqb _ _ (c .before .before .before .before .before .before .before .before .before .before .before .before .if1 .left), ne-eqb _ _ (c .before .before .before .before .before .before .before .before .before .before .before .if2 .left), ne-eqb _ _ (c .before .before .before .before .before .before .before .before .before .before .if3 .left), ne-eqb _ _ (c .before .before .before .before .before .before .before .before .before .if4 .left), ne-eqb _ _ (c .before .before .before .before .before .before .before .before .if5 .left), ne-eqb _ _ (c .before .before .before .before .before .before .before .if6 .left), ne-eqb _ _ (c .before .before .before .before .before .before .if7 .left), ne-eqb _ _ (c .before .before .before .before .before .if8 .left), ne-eqb _ _ (c .before .before .before .before .if9 .left), ne-eqb _ _ (c .before .before .before .if10 .left), ne-eqb _ _ (c .before .before .if11 .left), ne-eqb _ _ (c .before .if12 .left), ne-eqb _ _ (c .if13 .left))
+returns-9 c = rw (ne-eqb _ _ (c .before .before .before .before .before .before .before .before .if1 .left), ne-eqb _ _ (c .before .before .before .before .before .before .before .if2 .left), ne-eqb _ _ (c .before .before .before .before .before .before .if3 .left), ne-eqb _ _ (c .before .before .before .before .before .if4 .left), ne-eqb _ _ (c .before .before .before .before .if5 .left), ne-eqb _ _ (c .before .before .before .if6 .left), ne-eqb _ _ (c .before .before .if7 .left), ne-eqb _ _ (c .before .if8 .left)) (c .later-name-of .ensures)
 
 pub name-of-spec : {M : Type 1} → statement M
 name-of-spec =
     tie.close
-    (tie.spec
-    returns
-    returns-2
-    returns-3
-    returns-4
-    returns-5
-    returns-6
-    returns-7
-    returns-8
-    returns-9
-    returns-10
-    returns-11
-    returns-12
-    returns-13
-    returns-14)
+    (tie.spec returns returns-2 returns-3 returns-4 returns-5 returns-6 returns-7 returns-8 later-name-of-requires returns-9)

@@ -1,4 +1,4 @@
--- `radio_deeds::commands::commanded` meets its contract: the sum by the bytes that it is of, the command by its name.
+-- `radio_deeds::commands::commanded` meets its contract: the sum by its bytes, the command by its name.
 use mathlib.Core.Path.{sym, _∙_}
 use borrow.Author.Tests.{eq-eqb, ne-eqb}
 use Rattle.radio_target.specs.Model.{commanded}

@@ -1,7 +1,7 @@
 -- `radio_target_step::messages::acknowledge` meets its contract: the bytes that are built are copied.
 use mathlib.Core.Path.{_∙_}
 use Rattle.radio_target.specs.Deeds.{inf-ok}
-use Rattle.radio_target_step.proofs.Laws.Model.{built-put}
+use Rattle.radio_target.proofs.Laws.Model.{built-put}
 use Rattle.radio_command.proofs.Laws.Claims.{copied}
 use Rattle.radio_command.specs.Command.{built}
 use borrow.Author.Needs.{needs}

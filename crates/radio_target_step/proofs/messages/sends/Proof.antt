@@ -1,7 +1,7 @@
 -- `radio_target_step::messages::sends` meets its contract: the page is copied, and the next point taken.
 use mathlib.Core.Path.{ap, _∙_}
 use Rattle.radio_target.specs.State.{module-state, replied-with}
-use Rattle.radio_target_step.proofs.Laws.Model.{page-copied}
+use Rattle.radio_target.proofs.Laws.Model.{page-copied}
 use borrow.Author.Needs.{needs}
 use Rattle.radio_target_step.proofs.messages.sends.Statement.{statement}
 use Rattle.radio_target_step.proofs.messages.sends.Tie as tie

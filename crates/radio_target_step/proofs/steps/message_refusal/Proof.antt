@@ -1,4 +1,4 @@
--- `radio_target_step::steps::message_refusal` meets its contract: by the tests on the way and what the calls give.
+-- `radio_target_step::steps::message_refusal` meets its contract: by the tests and what the calls give.
 use mathlib.Core.Path.{sym, _∙_}
 use borrow.Author.Tests.{eq-eqb, ne-eqb, lt-ltb, le-ltb}
 use Rattle.radio_target.specs.Model.{message-refusal}

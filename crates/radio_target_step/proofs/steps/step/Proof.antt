@@ -1,4 +1,4 @@
--- `radio_target_step::steps::step` meets its contract: by the state's point, the refusal, and what the calls give.
+-- `radio_target_step::steps::step` meets its contract: by the state's point, the refusal, and the calls.
 use mathlib.Core.Path.{refl, sym, _∙_}
 use borrow.Author.Tests.{ne-eqb}
 use Rattle.radio_target.specs.State.{radio-stepped}

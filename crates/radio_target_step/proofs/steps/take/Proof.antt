@@ -1,7 +1,7 @@
--- `radio_target_step::steps::take` meets its contract: each arm by its call, which may be made since the message is not refused.
+-- `radio_target_step::steps::take` meets its contract: each arm by its call; the message is not refused.
 use mathlib.Core.Path.{refl}
 use native.Mathlib.Omega.{arith}
-use Rattle.radio_target_step.proofs.Laws.Model.{waits-fit, takes-fit, loads-fit, sends-fit, page-told}
+use Rattle.radio_target.proofs.Laws.Model.{waits-fit, takes-fit, loads-fit, sends-fit, page-told}
 use borrow.Author.Needs.{needs}
 use Rattle.radio_target_step.proofs.steps.take.Statement.{statement}
 use Rattle.radio_target_step.proofs.steps.take.Tie as tie

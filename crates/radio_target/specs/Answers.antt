@@ -12,10 +12,12 @@ use Rattle.radio_command.specs.Command.{built}
 use Rattle.radio_target.specs.declared.ModulePoint.{ModulePoint}
 use Rattle.radio_target.specs.declared.ModulePoint.the-variants.{Waits, Takes, Loads, Sends}
 use Rattle.radio_flash.specs.declared.FlashChange.the-variants.{Nothing, Byte, Page, Area}
+use Rattle.radio_target.specs.declared.PointFound.the-variants.{At, Nowhere}
 use Rattle.radio_target.specs.declared.Deed.{Deed}
 use Rattle.radio_flash.specs.Flash.{erased-bytes, byte-set, page-set, mass-erased, flash-page}
 use Rattle.radio_target.specs.Deeds.{radio-command, inf-ok, answers-error, answers-ok, performs}
-use Rattle.radio_target.specs.Model.{commanded, response}
+use Rattle.radio_target.specs.Model.{commanded, response, message-refusal}
+use Rattle.radio_target.specs.State.{RadioStepped, radio-target, state-point, radio-stepped}
 
 -- a flash that is erased
 abbrev pub blank-flash : List ℕ
@@ -123,3 +125,66 @@ Page-sent =
 -- the program for XRAM is taken and dropped
 abbrev pub Program-dropped : Type 0
 Program-dropped = response (Loads 1) blank-flash (replicate 256 0) ≡ record { reply = []; flash = blank-flash; point = Waits }
+
+-- a program of more than one page for XRAM
+abbrev pub Program-goes-on : Type 0
+Program-goes-on = response (Loads 2) blank-flash (replicate 256 0) ≡ record { reply = []; flash = blank-flash; point = Loads 1 }
+
+-- RD_SW_VERSION, byte by byte
+abbrev pub version-asked : List ℕ
+version-asked = 0xA5 ∷ 0x5A ∷ 0xA5 ∷ 0x4B ∷ 0 ∷ 0 ∷ 0 ∷ 0xF0 ∷ []
+
+-- messages by their refusals: 17 first, then 26, then 28
+abbrev pub Refusals : Type 0
+Refusals =
+    message-refusal Waits (erased-bytes 33023) version-asked 0
+    ∷ message-refusal (Takes 0 0) blank-flash [] 0
+    ∷ message-refusal (Takes 127 2) blank-flash (replicate 256 0) 256
+    ∷ message-refusal (Loads 0) blank-flash [] 0
+    ∷ message-refusal (Loads 5) blank-flash (replicate 256 0) 256
+    ∷ message-refusal (Sends 0 0) blank-flash [] 256
+    ∷ message-refusal (Sends 128 2) blank-flash [] 256
+    ∷ message-refusal Waits blank-flash [] 255
+    ∷ message-refusal Waits blank-flash [] 256
+    ∷ message-refusal Waits blank-flash (replicate 8 0xA5) 256
+    ∷ message-refusal (Takes 0 1) blank-flash (replicate 255 0) 256
+    ∷ message-refusal (Loads 1) blank-flash version-asked 256
+    ∷ message-refusal (Sends 0 1) blank-flash (0 ∷ []) 256
+    ∷ []
+    ≡ 17 ∷ 17 ∷ 17 ∷ 17 ∷ 17 ∷ 17 ∷ 17 ∷ 26 ∷ 28 ∷ 28 ∷ 28 ∷ 28 ∷ 28 ∷ []
+
+-- messages that are taken, each point at its last page
+abbrev pub Not-refused : Type 0
+Not-refused =
+    message-refusal Waits blank-flash version-asked 256
+    ∷ message-refusal (Takes 127 1) blank-flash (replicate 256 0) 256
+    ∷ message-refusal (Loads 4) blank-flash (replicate 256 0) 256
+    ∷ message-refusal (Sends 0 129) blank-flash [] 256
+    ∷ []
+    ≡ 0 ∷ 0 ∷ 0 ∷ 0 ∷ []
+
+-- numbers that are a state, and others
+abbrev pub States : Type 0
+States =
+    state-point (radio-target 0 0 0)
+    ∷ state-point (radio-target 1 5 2)
+    ∷ state-point (radio-target 2 0 3)
+    ∷ state-point (radio-target 3 128 1)
+    ∷ state-point (radio-target 0 1 0)
+    ∷ state-point (radio-target 0 0 1)
+    ∷ state-point (radio-target 2 1 1)
+    ∷ state-point (radio-target 4 0 0)
+    ∷ []
+    ≡ At Waits ∷ At (Takes 5 2) ∷ At (Loads 3) ∷ At (Sends 128 1) ∷ Nowhere ∷ Nowhere ∷ Nowhere ∷ Nowhere ∷ []
+
+-- a refused message has no reply and gives the state back as it came
+abbrev pub Refused-stays : Type 0
+Refused-stays =
+    radio-stepped (radio-target 1 7 9) blank-flash version-asked 256
+    ≡ record { number = 28; reply = []; target = radio-target 1 7 9; flash = blank-flash }
+
+-- a version that is asked for is told; the module then waits for a command
+abbrev pub Version-told : Type 0
+Version-told =
+    radio-stepped (radio-target 0 0 0) blank-flash version-asked 256
+    ≡ record { number = 0; reply = built (radio-command InfSwVersion 0 0 0); target = radio-target 0 0 0; flash = blank-flash }

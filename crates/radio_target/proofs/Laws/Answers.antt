@@ -1,10 +1,12 @@
--- The worked examples of `Paper`, by computing.
+-- The worked examples of `Answers`, by computing.
 use mathlib.Core.Path.{refl}
 use Rattle.radio_command.specs.Command.{name-of, command-sum, built}
 use Rattle.radio_flash.specs.Flash.{flash-page, is-protected, is-erased, page-set, byte-set, mass-erased}
 use Rattle.radio_target.specs.Deeds.{rd-flash-byte, wr-flash-byte, rd-flash-page, wr-flash-page, rd-prg-area, wr-prg-area, wr-blank-chk, wr-prg-xram}
-use Rattle.radio_target.specs.Model.{commanded}
-use Rattle.radio_target.specs.Paper.{blank-flash, protected-flash, all-done, on-blank, on-protected, Sum-first, Not-listed, Configuration-data, Data-go-on, Area-erased, Page-sent, Program-dropped}
+use Rattle.radio_target.specs.Model.{commanded, message-refusal}
+use Rattle.radio_target.specs.State.{module-state, state-point, radio-stepped}
+use Rattle.radio_target.specs.Answers.{blank-flash, protected-flash, all-done, on-blank, on-protected, Sum-first, Not-listed, Configuration-data, Data-go-on, Area-erased, Page-sent, Program-dropped}
+use Rattle.radio_target.specs.Answers.{Program-goes-on, Refusals, Not-refused, States, Refused-stays, Version-told}
 
 pub done-on-blank : all-done blank-flash on-blank
 unfolding is-protected flash-page commanded built name-of command-sum is-erased byte-set rd-flash-byte wr-flash-byte rd-flash-page wr-flash-page rd-prg-area wr-prg-area wr-blank-chk wr-prg-xram
@@ -40,3 +42,26 @@ page-sent = refl
 
 pub program-dropped : Program-dropped
 program-dropped = refl
+
+pub program-goes-on : Program-goes-on
+program-goes-on = refl
+
+pub refusals : Refusals
+unfolding message-refusal
+refusals = refl
+
+pub not-refused : Not-refused
+unfolding message-refusal
+not-refused = refl
+
+pub states : States
+unfolding state-point
+states = refl
+
+pub refused-stays : Refused-stays
+unfolding radio-stepped state-point message-refusal
+refused-stays = refl
+
+pub version-told : Version-told
+unfolding radio-stepped state-point module-state message-refusal commanded command-sum name-of built
+version-told = refl

@@ -1,3 +1,0 @@
--- The laws of the definitions.
-pub mod Deeds
-pub mod Model
