@@ -6,7 +6,7 @@ use Prim.Native.Nat.{ℕ, suc, _+_, _-_, _*_, _≤_, _<_}
 use native.Mathlib.Omega.{arith}
 use lib.Dec.{eqb, ltb, leb}
 use lib.ListN.{length}
-use borrow.Author.Tests.{eqb-true, eqb-false, le-leb, leb-true}
+use borrow.Author.Tests.{eq-eqb, eqb-true, eqb-false, le-leb, leb-true}
 use Rattle.laws.proofs.Tests.{by-test, both}
 use Rattle.radio_command.specs.Command.{built}
 use Rattle.radio_flash.specs.Flash.{flash-bytes, changed}
@@ -16,9 +16,9 @@ use Rattle.radio_target.specs.declared.ModulePoint.the-variants.{Waits, 
 use Rattle.radio_target.specs.declared.RadioTarget.{RadioTarget}
 use Rattle.radio_target.specs.declared.PointFound.{PointFound}
 use Rattle.radio_target.specs.declared.PointFound.the-variants.{At, Nowhere}
-use Rattle.radio_target.specs.Model.{commanded, is-point, response, message-refusal}
-use Rattle.radio_target.specs.State.{module-state, state-point, radio-target}
-use Rattle.radio_target.specs.Claims.{Point-back, Point-state, Stays-module}
+use Rattle.radio_target.specs.Model.{commanded, is-point, is-taken, response, message-refusal}
+use Rattle.radio_target.specs.State.{module-state, state-point, radio-target, found-stepped, radio-stepped}
+use Rattle.radio_target.specs.Claims.{Point-back, Point-state, Stays-module, Never-lost}
 use Rattle.radio_target.proofs.Laws.Deeds.{commanded-stays, spans}
 use Rattle.radio_target.proofs.Laws.Model.{page-long, waits-fit, takes-fit, loads-fit, sends-fit, fits}
 
@@ -93,3 +93,37 @@ stays-module (Sends p n) f m room e =
     by-test (eqb n 1)
     (λ t. rw t (refl, (k .1 .1 .0, short)))
     (λ t. let y = eqb-false n 1 t in rw t (spans (suc p) (n - 1) 129 (omega (arith, k .0)) (omega (arith, k .0, k .1 .0)), (k .1 .1 .0, short)))
+
+-- the number that a step gives at a point
+number-at : (p : ModulePoint) (t : RadioTarget) (f m : List ℕ) (room : ℕ)
+    → found-stepped (At p) t f m room .number ≡ message-refusal p f m room
+number-at p t f m room =
+    by-test (eqb (message-refusal p f m room) 0) (λ e. rw e (sym (eqb-true (message-refusal p f m room) 0 e))) (λ e. rw e)
+
+-- 26, 0 or 28 are not 17
+other-number : (x y : Bool) → _≡_ {A = ℕ} (cond x 26 (cond y 0 28)) 17 → ⊥
+other-number true y e = omega arith
+other-number false true e = omega arith
+other-number false false e = omega arith
+
+-- a point that there is, over a flash of its length, is never refused by 17
+there : (p : ModulePoint) (f m : List ℕ) (room : ℕ) → is-point p ≡ true → length f ≡ 33024 → message-refusal p f m room ≡ 17 → ⊥
+unfolding message-refusal
+there p f m room h w e = other-number (ltb room 256) (is-taken p m) (rw (eq-eqb (length f) 33024 w, h) at e)
+
+never-after : (q : PointFound) (t : RadioTarget) (f m : List ℕ) (room : ℕ) → found-stepped q t f m room .number ≡ 0 → (n : List ℕ) (space : ℕ)
+    → radio-stepped (found-stepped q t f m room .target) (found-stepped q t f m room .flash) n space .number ≡ 17 → ⊥
+unfolding radio-stepped
+never-after Nowhere t f m room e n space x = let z : _≡_ {A = ℕ} 17 0 = e in omega arith
+never-after (At p) t f m room e n space x =
+    let z : message-refusal p f m room ≡ 0 = sym (number-at p t f m room) ∙ e in
+    let s = stays-module p f m room z in
+    let g = response p f m .flash in
+    let q = response p f m .point in
+    let y : found-stepped (state-point (module-state q)) (module-state q) g n space .number ≡ 17 = rw (eq-eqb (message-refusal p f m room) 0 z) at x in
+    let u : found-stepped (At q) (module-state q) g n space .number ≡ 17 = rw (point-back q) at y in
+    there q g n space (s .0) (s .1 .0) (sym (number-at q (module-state q) g n space) ∙ u)
+
+pub never-lost : Never-lost
+unfolding radio-stepped
+never-lost t f m room e n space x = never-after (state-point t) t f m room e n space x
