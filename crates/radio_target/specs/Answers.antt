@@ -3,21 +3,20 @@
 use mathlib.Core.Path.{_≡_}
 use mathlib.Core.List.{List, [], _∷_, _++_, map}
 use Prim.Native.Nat.{ℕ}
-use lib.ListN.{take, drop, getD, length, replicate}
+use lib.ListN.{replicate}
 use Rattle.radio_command.specs.declared.CommandName.the-variants.{RdSwVersion, InfSwVersion, RdFlashByte, WrFlashByte}
 use Rattle.radio_command.specs.declared.CommandName.the-variants.{RdFlashPage, WrFlashPage, RdPrgArea, WrPrgArea}
 use Rattle.radio_command.specs.declared.CommandName.the-variants.{InfOk, InfError, WrBlankChk, WrBist, WrPrgXram}
 use Rattle.radio_command.specs.declared.RadioCommand.{RadioCommand}
 use Rattle.radio_command.specs.Command.{built}
-use Rattle.radio_target.specs.declared.ModulePoint.{ModulePoint}
 use Rattle.radio_target.specs.declared.ModulePoint.the-variants.{Waits, Takes, Loads, Sends}
 use Rattle.radio_flash.specs.declared.FlashChange.the-variants.{Nothing, Byte, Page, Area}
 use Rattle.radio_target.specs.declared.PointFound.the-variants.{At, Nowhere}
 use Rattle.radio_target.specs.declared.Deed.{Deed}
-use Rattle.radio_flash.specs.Flash.{erased-bytes, byte-set, page-set, mass-erased, flash-page}
+use Rattle.radio_flash.specs.Flash.{erased-bytes, byte-set, mass-erased}
 use Rattle.radio_target.specs.Deeds.{radio-command, inf-ok, answers-error, answers-ok, performs}
 use Rattle.radio_target.specs.Model.{commanded, response, message-refusal}
-use Rattle.radio_target.specs.State.{RadioStepped, radio-target, state-point, radio-stepped}
+use Rattle.radio_target.specs.State.{radio-target, state-point, radio-stepped}
 
 -- a flash that is erased
 abbrev pub blank-flash : List ℕ

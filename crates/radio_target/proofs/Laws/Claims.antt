@@ -1,26 +1,25 @@
 -- The claims of specs/Claims.antt, each proved under its name.
 use mathlib.Core.Path.{_≡_, refl, sym, ap, _∙_}
-use mathlib.Core.Bool.{Bool, true, false, cond, _&&_, _||_}
-use mathlib.Core.List.{List, [], _∷_, _++_}
-use Prim.Native.Nat.{ℕ, suc, _+_, _-_, _*_, _≤_, _<_}
+use mathlib.Core.Bool.{Bool, true, false, cond, _&&_}
+use mathlib.Core.List.{List}
+use Prim.Native.Nat.{ℕ, suc, _-_, _≤_, _<_}
 use native.Mathlib.Omega.{arith}
 use lib.Dec.{eqb, ltb, leb}
 use lib.ListN.{length}
 use borrow.Author.Tests.{eq-eqb, eqb-true, eqb-false, le-leb, leb-true}
 use Rattle.laws.proofs.Tests.{by-test, both}
 use Rattle.radio_command.specs.Command.{built}
-use Rattle.radio_flash.specs.Flash.{flash-bytes, changed}
 use Rattle.radio_flash.proofs.Laws.Flash.{page-set-long}
 use Rattle.radio_target.specs.declared.ModulePoint.{ModulePoint}
 use Rattle.radio_target.specs.declared.ModulePoint.the-variants.{Waits, Takes, Loads, Sends}
 use Rattle.radio_target.specs.declared.RadioTarget.{RadioTarget}
 use Rattle.radio_target.specs.declared.PointFound.{PointFound}
 use Rattle.radio_target.specs.declared.PointFound.the-variants.{At, Nowhere}
-use Rattle.radio_target.specs.Model.{commanded, is-point, is-taken, response, message-refusal}
+use Rattle.radio_target.specs.Model.{is-point, is-taken, response, message-refusal}
 use Rattle.radio_target.specs.State.{module-state, state-point, radio-target, found-stepped, radio-stepped}
 use Rattle.radio_target.specs.Claims.{Point-back, Point-state, Stays-module, Never-lost}
 use Rattle.radio_target.proofs.Laws.Deeds.{commanded-stays, spans}
-use Rattle.radio_target.proofs.Laws.Model.{page-long, waits-fit, takes-fit, loads-fit, sends-fit, fits}
+use Rattle.radio_target.proofs.Laws.Model.{page-long, waits-fit, takes-fit, sends-fit, fits}
 
 pub point-back : Point-back
 unfolding module-state state-point

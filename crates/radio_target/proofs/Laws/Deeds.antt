@@ -3,7 +3,7 @@
 use mathlib.Core.Path.{_≡_, refl}
 use mathlib.Core.Bool.{Bool, true, false, cond, _&&_, _||_}
 use mathlib.Core.List.{List}
-use Prim.Native.Nat.{ℕ, _+_, _*_, _≤_, _<_}
+use Prim.Native.Nat.{ℕ, _+_, _≤_, _<_}
 use native.Mathlib.Omega.{arith}
 use lib.Dec.{eqb, ltb, leb}
 use lib.ListN.{length, getD}
@@ -14,7 +14,7 @@ use Rattle.radio_command.specs.declared.CommandName.the-variants.{RdSwVersion, 
 use Rattle.radio_command.specs.declared.NameFound.{NameFound}
 use Rattle.radio_command.specs.declared.NameFound.the-variants.{Of, Nothing}
 use Rattle.radio_command.specs.Command.{message-byte, name-of, command-sum}
-use Rattle.radio_target.specs.declared.ModulePoint.the-variants.{Waits, Takes}
+use Rattle.radio_target.specs.declared.ModulePoint.the-variants.{Takes}
 use Rattle.radio_target.specs.declared.Deed.{Deed}
 use Rattle.radio_flash.specs.Flash.{flash-address, in-program-area, is-protected, is-blank, in-area, erased-bytes, changed}
 use Rattle.radio_flash.proofs.Laws.Flash.{page-set-long, byte-set-long, mass-erased-long}

@@ -1,6 +1,6 @@
 -- `radio_command::building::build_into` meets its contract: by the tests on the way and what the calls give.
 use Rattle.radio_command.specs.Building.{building-number, buffer-built}
-use mathlib.Core.Path.{refl, sym, ap, _∙_}
+use mathlib.Core.Path.{refl, sym, _∙_}
 use Rattle.radio_command.proofs.Laws.Claims.{copied}
 use borrow.Author.Tests.{lt-ltb, le-ltb}
 use borrow.Author.Needs.{needs}

@@ -12,7 +12,7 @@ command-sum-requires c κs = search needs
 
 returns : tie.Need-returns
 unfolding built
-returns c = cc
+returns c = rw (c .command-sum .ensures, c .before .command-byte .ensures)
 
 pub build-spec : {M : Type 1} → statement M
 build-spec = tie.close (tie.spec command-byte-requires command-sum-requires returns)

@@ -1,7 +1,7 @@
 -- `radio_command::command::read_command` meets its contract: by the tests on the way and what the calls give.
 use Rattle.radio_command.specs.Command.{name-of, read-command}
 use borrow.Author.Tests.{eq-eqb, ne-eqb}
-use mathlib.Core.Path.{sym, ap, _∙_}
+use mathlib.Core.Path.{sym, _∙_}
 use borrow.Author.Needs.{needs}
 use Rattle.radio_command.proofs.command.read_command.Statement.{statement}
 use Rattle.radio_command.proofs.command.read_command.Tie as tie

@@ -1,6 +1,5 @@
 -- `radio_deeds::deeds::hidden` meets its contract: by the tests on the way and what the calls give.
 use borrow.Author.Tests.{lt-ltb, le-ltb}
-use Rattle.laws.proofs.Pick.{picks}
 use borrow.Author.Needs.{needs}
 use Rattle.radio_deeds.proofs.deeds.hidden.Statement.{statement}
 use Rattle.radio_deeds.proofs.deeds.hidden.Tie as tie

@@ -1,6 +1,5 @@
 -- `radio_deeds::deeds::too_many` meets its contract: by the tests on the way and what the calls give.
 use borrow.Author.Tests.{ne-eqb}
-use Rattle.laws.proofs.Pick.{picks}
 use Rattle.radio_deeds.proofs.deeds.too_many.Statement.{statement}
 use Rattle.radio_deeds.proofs.deeds.too_many.Tie as tie
 

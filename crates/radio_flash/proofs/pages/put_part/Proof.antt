@@ -1,6 +1,5 @@
 -- `radio_flash::pages::put_part` meets its contract: by the tests on the way and what the calls give.
 use Rattle.radio_flash.proofs.Laws.Flash.{part-put}
-use Rattle.laws.proofs.Pick.{picks}
 use borrow.Author.Needs.{needs}
 use Rattle.radio_flash.proofs.pages.put_part.Statement.{statement}
 use Rattle.radio_flash.proofs.pages.put_part.Tie as tie

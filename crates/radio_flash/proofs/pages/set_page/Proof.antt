@@ -1,6 +1,5 @@
 -- `radio_flash::pages::set_page` meets its contract: by the tests on the way and what the calls give.
 use Rattle.radio_flash.proofs.Laws.Flash.{other-page, configuration-page, rest-from}
-use Rattle.laws.proofs.Pick.{picks}
 use borrow.Author.Needs.{needs}
 use Rattle.radio_flash.proofs.pages.set_page.Statement.{statement}
 use Rattle.radio_flash.proofs.pages.set_page.Tie as tie

@@ -2,8 +2,6 @@
 use mathlib.Core.Path.{_∙_}
 use Rattle.radio_target.specs.Deeds.{inf-ok}
 use Rattle.radio_target.proofs.Laws.Model.{built-put}
-use Rattle.radio_command.proofs.Laws.Claims.{copied}
-use Rattle.radio_command.specs.Command.{built}
 use borrow.Author.Needs.{needs}
 use Rattle.radio_target_step.proofs.messages.acknowledge.Statement.{statement}
 use Rattle.radio_target_step.proofs.messages.acknowledge.Tie as tie

@@ -1,5 +1,5 @@
 -- `radio_target_step::messages::takes` meets its contract: the page is put, and the last one answered.
-use mathlib.Core.Path.{refl, ap, _∙_}
+use mathlib.Core.Path.{refl, _∙_}
 use native.Mathlib.Omega.{arith}
 use native.Mathlib.Numerals.{add-one}
 use borrow.Author.Tests.{ne-eqb}

@@ -5,7 +5,6 @@ use Rattle.radio_command.specs.Command.{built}
 use Rattle.radio_target.specs.State.{module-state, replied-with, reply-put}
 use Rattle.radio_target.proofs.Laws.Deeds.{commanded-lies}
 use Rattle.radio_target.proofs.Laws.Model.{is-made, built-put}
-use Rattle.radio_command.proofs.Laws.Claims.{copied}
 use borrow.Author.Needs.{needs}
 use Rattle.radio_target_step.proofs.messages.waits.Statement.{statement}
 use Rattle.radio_target_step.proofs.messages.waits.Tie as tie

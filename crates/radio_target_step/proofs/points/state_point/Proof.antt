@@ -1,5 +1,5 @@
 -- `radio_target_step::points::state_point` meets its contract: by the tests on the way.
-use borrow.Author.Tests.{eq-eqb, ne-eqb}
+use borrow.Author.Tests.{ne-eqb}
 use Rattle.radio_target.specs.State.{state-point}
 use Rattle.radio_target_step.proofs.points.state_point.Statement.{statement}
 use Rattle.radio_target_step.proofs.points.state_point.Tie as tie
