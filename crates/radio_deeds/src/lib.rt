@@ -4,10 +4,8 @@ mod deeds;
 
 pub use commands::commanded;
 
-// The bytes of a page; the pages of the program area, the information page, and the most pages for XRAM.
-const PAGE_BYTES: usize = 256;
-
-const PROGRAM_PAGES: u8 = 127;
+// The pages of the program area, the information page, and the most pages for XRAM.
+const PROGRAM_PAGES: u8 = radio_flash::CONFIGURATION as u8;
 
 const INFORMATION: u8 = 128;
 

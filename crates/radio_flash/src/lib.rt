@@ -16,11 +16,12 @@ pub enum FlashChange {
     Area,
 }
 
-// The bytes of a page, of program area and configuration together, and of the flash; the configuration page.
-const PAGE_BYTES: usize = 256;
+// The bytes of a page, and of the flash.
+pub const PAGE_BYTES: usize = 256;
+
+pub const FLASH_BYTES: usize = 33024;
+
+// The configuration page, and the bytes up to its end.
+pub const CONFIGURATION: usize = 127;
 
 const AREA_BYTES: usize = 32768;
-
-const FLASH_BYTES: usize = 33024;
-
-const CONFIGURATION: usize = 127;

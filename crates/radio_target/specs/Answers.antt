@@ -16,7 +16,7 @@ use Rattle.radio_target.specs.declared.Deed.{Deed}
 use Rattle.radio_flash.specs.Flash.{erased-bytes, byte-set, mass-erased}
 use Rattle.radio_target.specs.Deeds.{radio-command, inf-ok, answers-error, answers-ok, performs}
 use Rattle.radio_target.specs.Model.{commanded, response, message-refusal}
-use Rattle.radio_target.specs.State.{radio-target, state-point, radio-stepped}
+use Rattle.radio_target.specs.State.{radio-target, module-point, radio-stepped}
 
 -- a flash that is erased
 abbrev pub blank-flash : List ℕ
@@ -165,14 +165,14 @@ Not-refused =
 -- numbers that are a state, and others
 abbrev pub States : Type 0
 States =
-    state-point (radio-target 0 0 0)
-    ∷ state-point (radio-target 1 5 2)
-    ∷ state-point (radio-target 2 0 3)
-    ∷ state-point (radio-target 3 128 1)
-    ∷ state-point (radio-target 0 1 0)
-    ∷ state-point (radio-target 0 0 1)
-    ∷ state-point (radio-target 2 1 1)
-    ∷ state-point (radio-target 4 0 0)
+    module-point (radio-target 0 0 0)
+    ∷ module-point (radio-target 1 5 2)
+    ∷ module-point (radio-target 2 0 3)
+    ∷ module-point (radio-target 3 128 1)
+    ∷ module-point (radio-target 0 1 0)
+    ∷ module-point (radio-target 0 0 1)
+    ∷ module-point (radio-target 2 1 1)
+    ∷ module-point (radio-target 4 0 0)
     ∷ []
     ≡ At Waits ∷ At (Takes 5 2) ∷ At (Loads 3) ∷ At (Sends 128 1) ∷ Nowhere ∷ Nowhere ∷ Nowhere ∷ Nowhere ∷ []
 

@@ -10,15 +10,15 @@ use Rattle.radio_target.specs.declared.ModulePoint.{ModulePoint}
 use Rattle.radio_target.specs.declared.RadioTarget.{RadioTarget}
 use Rattle.radio_target.specs.declared.PointFound.the-variants.{At}
 use Rattle.radio_target.specs.Model.{is-point, response, message-refusal}
-use Rattle.radio_target.specs.State.{module-state, state-point, radio-stepped}
+use Rattle.radio_target.specs.State.{module-state, module-point, radio-stepped}
 
 -- The state of a point is read back as that point.
 abbrev pub Point-back : Type 0
-Point-back = (p : ModulePoint) → state-point (module-state p) ≡ At p
+Point-back = (p : ModulePoint) → module-point (module-state p) ≡ At p
 
 -- A state that has a point is that point's state: a point has one state only.
 abbrev pub Point-state : Type 0
-Point-state = (t : RadioTarget) (p : ModulePoint) → state-point t ≡ At p → module-state p ≡ t
+Point-state = (t : RadioTarget) (p : ModulePoint) → module-point t ≡ At p → module-state p ≡ t
 
 -- A message that is taken leaves a module: its point is one that there is, its flash as long as before, and
 -- the reply not longer than a page.

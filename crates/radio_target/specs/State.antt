@@ -24,8 +24,8 @@ module-state (Loads n) = radio-target 2 0 n
 module-state (Sends p n) = radio-target 3 p n
 
 -- the point of a state
-unfoldable pub state-point : RadioTarget → PointFound
-state-point t =
+unfoldable pub module-point : RadioTarget → PointFound
+module-point t =
     cond (eqb (t .point) 0) (cond (eqb (t .page) 0 && eqb (t .left) 0) (At Waits) Nowhere)
     (cond (eqb (t .point) 1) (At (Takes (t .page) (t .left)))
     (cond (eqb (t .point) 2) (cond (eqb (t .page) 0) (At (Loads (t .left))) Nowhere)
@@ -56,7 +56,7 @@ found-stepped Nowhere t f m room = radio-refused no-point t f
 
 -- one message to a module in this state, with so much room for the reply
 unfoldable pub radio-stepped : RadioTarget → (flash message : List ℕ) → (room : ℕ) → RadioStepped
-radio-stepped t f m room = found-stepped (state-point t) t f m room
+radio-stepped t f m room = found-stepped (module-point t) t f m room
 
 abbrev pub replied-with : (number bytes : ℕ) → RadioTarget → RadioReplied
 replied-with n b t = record { number = n; reply = b; target = t }

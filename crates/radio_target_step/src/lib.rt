@@ -7,9 +7,5 @@ mod steps;
 pub use steps::fresh;
 pub use steps::step;
 
-// The bytes of a command, of a page and of the flash.
+// The bytes of a command.
 const COMMAND_BYTES: usize = 8;
-
-const PAGE_BYTES: usize = 256;
-
-const FLASH_BYTES: usize = 33024;

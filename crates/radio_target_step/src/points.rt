@@ -4,9 +4,9 @@ ghost use mathlib.Core.Bool.{_&&_};
 ghost use Prim.Native.Nat.{_+_};
 ghost use lib.Dec.{leb};
 ghost use Rattle.radio_target.specs.Model.{is-point, is-taken};
-ghost use Rattle.radio_target.specs.State.{module-state, state-point};
+ghost use Rattle.radio_target.specs.State.{module-state, module-point};
 use crate::COMMAND_BYTES;
-use crate::PAGE_BYTES;
+use radio_flash::PAGE_BYTES;
 use radio_target::ModulePoint;
 use radio_target::PointFound;
 use radio_target::RadioTarget;
@@ -86,8 +86,8 @@ pub(crate) fn module_state(p: ModulePoint) -> RadioTarget
     }
 }
 
-pub(crate) fn state_point(t: RadioTarget) -> PointFound
-    ensures { λ r. ⌜ r ≡ state-point t ⌝ }
+pub(crate) fn module_point(t: RadioTarget) -> PointFound
+    ensures { λ r. ⌜ r ≡ module-point t ⌝ }
 {
     if t.point == 0 {
         if t.page != 0 {

@@ -5,19 +5,19 @@ ghost use Prim.Native.Nat.{ℕ};
 ghost use lib.ListN.{length};
 ghost use Rattle.radio_target.specs.Model.{response, message-refusal};
 ghost use Rattle.radio_target.specs.State.{fresh-state, radio-refused, radio-taken, radio-stepped, radio-replied, reply-put};
-use crate::FLASH_BYTES;
-use crate::PAGE_BYTES;
 use crate::messages::loads;
 use crate::messages::sends;
 use crate::messages::takes;
 use crate::messages::waits;
 use crate::points::is_point;
 use crate::points::is_taken;
+use crate::points::module_point;
 use crate::points::module_state;
-use crate::points::state_point;
 use numbers::BUFFER_TOO_SMALL;
 use numbers::NO_POINT;
 use radio_command::BAD_MESSAGE;
+use radio_flash::FLASH_BYTES;
+use radio_flash::PAGE_BYTES;
 use radio_target::ModulePoint;
 use radio_target::PointFound;
 use radio_target::RadioReplied;
@@ -81,7 +81,7 @@ pub fn step(t: RadioTarget, flash: &mut [u8], m: &[u8], reply: &mut [u8]) -> Rad
     ensures { λ r. ⌜ now (reply .exit)
         ≡ reply-put (radio-stepped t (now (flash .entry)) (now (m .entry)) (length (now (reply .entry))) .reply) (now (reply .entry)) ⌝ }
 {
-    let PointFound::At(p) = state_point(t) else {
+    let PointFound::At(p) = module_point(t) else {
         return refused(NO_POINT, t);
     };
     let number = message_refusal(p, flash, m, reply.len());

@@ -4,7 +4,7 @@ use Rattle.radio_command.specs.Command.{name-of, command-sum, built}
 use Rattle.radio_flash.specs.Flash.{flash-page, is-protected, is-erased, page-set, byte-set, mass-erased}
 use Rattle.radio_target.specs.Deeds.{rd-flash-byte, wr-flash-byte, rd-flash-page, wr-flash-page, rd-prg-area, wr-prg-area, wr-blank-chk, wr-prg-xram}
 use Rattle.radio_target.specs.Model.{commanded, message-refusal}
-use Rattle.radio_target.specs.State.{module-state, state-point, radio-stepped}
+use Rattle.radio_target.specs.State.{module-state, module-point, radio-stepped}
 use Rattle.radio_target.specs.Answers.{blank-flash, protected-flash, all-done, on-blank, on-protected, Sum-first, Not-listed, Configuration-data, Data-go-on, Area-erased, Page-sent, Program-dropped}
 use Rattle.radio_target.specs.Answers.{Program-goes-on, Refusals, Not-refused, States, Refused-stays, Version-told}
 
@@ -55,13 +55,13 @@ unfolding message-refusal
 not-refused = refl
 
 pub states : States
-unfolding state-point
+unfolding module-point
 states = refl
 
 pub refused-stays : Refused-stays
-unfolding radio-stepped state-point message-refusal
+unfolding radio-stepped module-point message-refusal
 refused-stays = refl
 
 pub version-told : Version-told
-unfolding radio-stepped state-point module-state message-refusal commanded command-sum name-of built
+unfolding radio-stepped module-point module-state message-refusal commanded command-sum name-of built
 version-told = refl

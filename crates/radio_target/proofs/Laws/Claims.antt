@@ -16,13 +16,13 @@ use Rattle.radio_target.specs.declared.RadioTarget.{RadioTarget}
 use Rattle.radio_target.specs.declared.PointFound.{PointFound}
 use Rattle.radio_target.specs.declared.PointFound.the-variants.{At, Nowhere}
 use Rattle.radio_target.specs.Model.{is-point, is-taken, response, message-refusal}
-use Rattle.radio_target.specs.State.{module-state, state-point, radio-target, found-stepped, radio-stepped}
+use Rattle.radio_target.specs.State.{module-state, module-point, radio-target, found-stepped, radio-stepped}
 use Rattle.radio_target.specs.Claims.{Point-back, Point-state, Stays-module, Never-lost}
 use Rattle.radio_target.proofs.Laws.Deeds.{commanded-stays, spans}
 use Rattle.radio_target.proofs.Laws.Model.{page-long, waits-fit, takes-fit, sends-fit, fits}
 
 pub point-back : Point-back
-unfolding module-state state-point
+unfolding module-state module-point
 point-back Waits = refl
 point-back (Takes p n) = refl
 point-back (Loads n) = refl
@@ -41,8 +41,8 @@ none p e = let z : _≡_ {A = ℕ} 0 1 = cc in omega arith
 has : (x p : ModulePoint) (t : RadioTarget) → At x ≡ At p → module-state x ≡ t → module-state p ≡ t
 has x p t e h = ap (λ z. module-state (the-point z)) (sym e) ∙ h
 
-numbers-state : (k q n : ℕ) (p : ModulePoint) → state-point (radio-target k q n) ≡ At p → module-state p ≡ radio-target k q n
-unfolding module-state state-point
+numbers-state : (k q n : ℕ) (p : ModulePoint) → module-point (radio-target k q n) ≡ At p → module-state p ≡ radio-target k q n
+unfolding module-state module-point
 numbers-state k q n p e =
     by-test (eqb k 0)
     (λ a. by-test (eqb q 0 && eqb n 0)
@@ -119,10 +119,10 @@ never-after (At p) t f m room e n space x =
     let s = stays-module p f m room z in
     let g = response p f m .flash in
     let q = response p f m .point in
-    let y : found-stepped (state-point (module-state q)) (module-state q) g n space .number ≡ 17 = rw (eq-eqb (message-refusal p f m room) 0 z) at x in
+    let y : found-stepped (module-point (module-state q)) (module-state q) g n space .number ≡ 17 = rw (eq-eqb (message-refusal p f m room) 0 z) at x in
     let u : found-stepped (At q) (module-state q) g n space .number ≡ 17 = rw (point-back q) at y in
     there q g n space (s .0) (s .1 .0) (sym (number-at q (module-state q) g n space) ∙ u)
 
 pub never-lost : Never-lost
 unfolding radio-stepped
-never-lost t f m room e n space x = never-after (state-point t) t f m room e n space x
+never-lost t f m room e n space x = never-after (module-point t) t f m room e n space x

@@ -6,8 +6,8 @@ use borrow.Author.Needs.{needs}
 use Rattle.radio_target_step.proofs.steps.step.Statement.{statement}
 use Rattle.radio_target_step.proofs.steps.step.Tie as tie
 
-state-point-requires : tie.Need-state-point-requires
-state-point-requires c κs = search needs
+module-point-requires : tie.Need-module-point-requires
+module-point-requires c κs = search needs
 
 enum-known-p : tie.Need-enum-known-p
 enum-known-p c = search needs
@@ -20,7 +20,7 @@ refused-requires c κs = search needs
 
 returns : tie.Need-returns
 unfolding radio-stepped
-returns c = rw (sym (c .before .before .before .state-point .ensures) ∙ c .before .enum-told .given .1) (c .refused .ensures (c .before .before .before .before .before .before .before .args .flash .now), (refl, refl))
+returns c = rw (sym (c .before .before .before .module-point .ensures) ∙ c .before .enum-told .given .1) (c .refused .ensures (c .before .before .before .before .before .before .before .args .flash .now), (refl, refl))
 
 message-refusal-requires : tie.Need-message-refusal-requires
 message-refusal-requires c κs = search needs
@@ -33,7 +33,7 @@ same-length c = search needs
 
 returns-2 : tie.Need-returns-2
 unfolding radio-stepped
-returns-2 c = rw (sym (c .before .before .before .before .before .before .before .state-point .ensures) ∙ c .before .before .before .before .before .p .given .1, ← c .before .before .message-refusal .ensures, ne-eqb _ _ (c .before .if1 .taken)) (c .refused2 .ensures (c .before .before .before .before .before .before .before .before .before .before .before .args .flash .now), (refl, refl))
+returns-2 c = rw (sym (c .before .before .before .before .before .before .before .module-point .ensures) ∙ c .before .before .before .before .before .p .given .1, ← c .before .before .message-refusal .ensures, ne-eqb _ _ (c .before .if1 .taken)) (c .refused2 .ensures (c .before .before .before .before .before .before .before .before .before .before .before .args .flash .now), (refl, refl))
 
 take-requires : tie.Need-take-requires
 take-requires c κs = search needs
@@ -46,13 +46,13 @@ same-length-3 c = search needs
 
 returns-3 : tie.Need-returns-3
 unfolding radio-stepped
-returns-3 c = rw (sym (c .before .before .before .before .before .before .before .before .before .before .before .before .before .state-point .ensures) ∙ c .before .before .before .before .before .before .before .before .before .before .before .p .given .1, ← c .before .before .before .before .before .before .before .before .message-refusal .ensures, c .before .before .before .before .before .before .before .if1 .left) (c .before .before .before .before .take .ensures)
+returns-3 c = rw (sym (c .before .before .before .before .before .before .before .before .before .before .before .before .before .module-point .ensures) ∙ c .before .before .before .before .before .before .before .before .before .before .before .p .given .1, ← c .before .before .before .before .before .before .before .before .message-refusal .ensures, c .before .before .before .before .before .before .before .if1 .left) (c .before .before .before .before .take .ensures)
 
 pub step-spec : {M : Type 1} → statement M
 step-spec =
     tie.close
     (tie.spec
-    state-point-requires
+    module-point-requires
     enum-known-p
     enum-told
     refused-requires
