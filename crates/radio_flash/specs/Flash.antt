@@ -1,11 +1,11 @@
 -- The radio module's flash: 129 pages of 256 bytes (source document 002, "FLASH memory organization" to "Code
 -- Protection"). In programming mode the high byte of an address is the page. Pages 0 to 126 are the program
 -- area, 127 the configuration, 128 the information.
-use mathlib.Core.Bool.{Bool, true, false, cond, _&&_}
+use mathlib.Core.Bool.{Bool, true, false, cond}
 use mathlib.Core.List.{List, [], _∷_, _++_}
 use Prim.Native.Nat.{ℕ, _+_, _*_}
 use lib.Dec.{eqb, ltb}
-use lib.ListN.{length, take, drop, replicate, getD, set}
+use lib.ListN.{take, drop, replicate, getD, set}
 use Rattle.radio_flash.specs.declared.FlashChange.{FlashChange}
 use Rattle.radio_flash.specs.declared.FlashChange.the-variants.{Nothing, Byte, Page, Area}
 
@@ -67,18 +67,3 @@ changed Nothing f = f
 changed (Byte a b) f = byte-set a b f
 changed (Page p) f = page-set p (erased-bytes 256) f
 changed Area f = mass-erased f
-
--- the changes that lie in pages 0 to 127
-abbrev pub in-area : FlashChange → Bool
-in-area Nothing = true
-in-area (Byte a b) = ltb a 32768
-in-area (Page p) = ltb p 128
-in-area Area = true
-
--- a change made to a flash: one of another length stays, and so does one that the change does not lie in
-unfoldable pub change-made : FlashChange → (flash : List ℕ) → List ℕ
-change-made c f = cond (eqb (length f) flash-bytes && in-area c) (changed c f) f
-
--- a page put into a flash: one of pages 0 to 127, whole, into a flash of this length, else nothing
-unfoldable pub page-put : (page : ℕ) → (bytes flash : List ℕ) → List ℕ
-page-put p bs f = cond (eqb (length f) flash-bytes && (ltb p 128 && eqb (length bs) 256)) (page-set p bs f) f

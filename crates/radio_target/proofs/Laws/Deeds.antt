@@ -16,7 +16,8 @@ use Rattle.radio_command.specs.declared.NameFound.the-variants.{Of, Nothing}
 use Rattle.radio_command.specs.Command.{message-byte, name-of, command-sum}
 use Rattle.radio_target.specs.declared.ModulePoint.the-variants.{Takes}
 use Rattle.radio_target.specs.declared.Deed.{Deed}
-use Rattle.radio_flash.specs.Flash.{flash-address, in-program-area, is-protected, is-blank, in-area, erased-bytes, changed}
+use Rattle.radio_flash.specs.Flash.{flash-address, in-program-area, is-protected, is-blank, erased-bytes, changed}
+use Rattle.radio_flash.specs.Code.Changes.{in-area}
 use Rattle.radio_flash.proofs.Laws.Flash.{page-set-long, byte-set-long, mass-erased-long}
 use Rattle.radio_target.specs.Deeds.{answers-error, too-many, then-data, rd-flash-byte, wr-flash-byte, rd-flash-page, wr-flash-page, rd-prg-area, wr-prg-area, wr-blank-chk, wr-prg-xram, deed}
 use Rattle.radio_target.specs.Model.{deed-named, commanded, is-point}

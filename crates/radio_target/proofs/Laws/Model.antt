@@ -6,10 +6,9 @@ use Prim.Native.Nat.{ℕ, _+_, _-_, _*_, _≤_, _<_}
 use native.Mathlib.Omega.{arith}
 use lib.Dec.{eqb, ltb, leb}
 use lib.ListN.{length, take, drop, length-take, length-drop}
-use borrow.Author.Tests.{eq-eqb, eqb-true, lt-ltb, ltb-false, leb-true}
+use borrow.Author.Tests.{eqb-true, ltb-false, leb-true}
 use Rattle.laws.proofs.Tests.{passes, both}
-use Rattle.radio_flash.specs.declared.FlashChange.{FlashChange}
-use Rattle.radio_flash.specs.Flash.{flash-bytes, flash-page, page-set, page-put, in-area, changed, change-made}
+use Rattle.radio_flash.specs.Flash.{flash-bytes, flash-page}
 use Rattle.radio_flash.proofs.Laws.Flash.{take-all}
 use Rattle.radio_command.specs.declared.RadioCommand.{RadioCommand}
 use Rattle.radio_command.specs.Command.{built}
@@ -45,15 +44,6 @@ fits p f m room e =
 -- the bounds of a point's pages
 pub spanned : (p n k : ℕ) → leb 1 n && leb (p + n) k ≡ true → (1 ≤ n) × (p + n ≤ k)
 spanned p n k e = let g = both (leb 1 n) (leb (p + n) k) e in (leb-true 1 n (g .0), leb-true (p + n) k (g .1))
-
--- a change that lies in the flash is made; a page that can be set is set
-pub is-made : (c : FlashChange) (f : List ℕ) → length f ≡ 33024 → in-area c ≡ true → change-made c f ≡ changed c f
-unfolding change-made
-is-made c f w l = rw (eq-eqb (length f) 33024 w, l)
-
-pub is-put : (p : ℕ) (m f : List ℕ) → length f ≡ 33024 → p < 128 → length m ≡ 256 → page-put p m f ≡ page-set p m f
-unfolding page-put
-is-put p m f w h l = rw (eq-eqb (length f) 33024 w, lt-ltb p 128 h, eq-eqb (length m) 256 l)
 
 -- a page of the flash is 256 bytes
 pub page-long : (p : ℕ) (f : List ℕ) → length f ≡ 33024 → p < 129 → length (flash-page p f) ≡ 256

@@ -1,6 +1,6 @@
 -- `radio_flash::changes::change` meets its contract: by the test on the way and what the call gives.
 use borrow.Author.Tests.{eq-eqb, ne-eqb}
-use Rattle.radio_flash.specs.Flash.{change-made}
+use Rattle.radio_flash.specs.Code.Changes.{change-made}
 use borrow.Author.Needs.{needs}
 use Rattle.radio_flash.proofs.changes.change.Statement.{statement}
 use Rattle.radio_flash.proofs.changes.change.Tie as tie

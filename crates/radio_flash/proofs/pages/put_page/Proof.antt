@@ -1,7 +1,7 @@
 -- `radio_flash::pages::put_page` meets its contract: by the tests on the way and what the call gives.
 use native.Mathlib.Omega.{arith}
 use borrow.Author.Tests.{eq-eqb, ne-eqb, lt-ltb, le-ltb}
-use Rattle.radio_flash.specs.Flash.{page-put}
+use Rattle.radio_flash.specs.Code.Changes.{page-put}
 use borrow.Author.Needs.{needs}
 use Rattle.radio_flash.proofs.pages.put_page.Statement.{statement}
 use Rattle.radio_flash.proofs.pages.put_page.Tie as tie

@@ -4,7 +4,7 @@ use native.Mathlib.Omega.{arith}
 use native.Mathlib.Numerals.{add-one}
 use borrow.Author.Tests.{ne-eqb}
 use Rattle.radio_command.specs.Command.{built}
-use Rattle.radio_target.proofs.Laws.Model.{is-put}
+use Rattle.radio_flash.proofs.Laws.Changes.{is-put}
 use borrow.Author.Needs.{needs}
 use Rattle.radio_target_step.proofs.messages.takes.Statement.{statement}
 use Rattle.radio_target_step.proofs.messages.takes.Tie as tie

@@ -1,10 +1,11 @@
 -- `radio_target_step::messages::waits` meets its contract: what the command does is made and told.
 use mathlib.Core.Path.{ap, _∙_}
-use Rattle.radio_flash.specs.Flash.{change-made}
+use Rattle.radio_flash.specs.Code.Changes.{change-made}
 use Rattle.radio_command.specs.Command.{built}
 use Rattle.radio_target.specs.State.{module-state, replied-with, reply-put}
 use Rattle.radio_target.proofs.Laws.Deeds.{commanded-lies}
-use Rattle.radio_target.proofs.Laws.Model.{is-made, built-put}
+use Rattle.radio_flash.proofs.Laws.Changes.{is-made}
+use Rattle.radio_target.proofs.Laws.Model.{built-put}
 use borrow.Author.Needs.{needs}
 use Rattle.radio_target_step.proofs.messages.waits.Statement.{statement}
 use Rattle.radio_target_step.proofs.messages.waits.Tie as tie
