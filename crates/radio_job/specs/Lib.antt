@@ -1,0 +1,5 @@
+pub mod Image
+pub mod Job
+pub mod State
+pub mod Code
+pub mod Claims
