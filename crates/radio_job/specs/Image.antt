@@ -20,16 +20,18 @@ is-mask (b ∷ bs) = (eqb b 0x00 || eqb b 0xFF) && is-mask bs
 
 -- a mask is 256 such bytes, of which 2 and 3 name nothing
 unfoldable pub mask-fits : (mask : List ℕ) → Bool
-mask-fits m = eqb (length m) 256 && (is-mask m && (eqb (getD m 2 0xFF) 0x00 && eqb (getD m 3 0xFF) 0x00))
+mask-fits m = eqb (length m) 256 && (eqb (getD m 2 0) 0x00 && (eqb (getD m 3 0) 0x00 && is-mask m))
 
 -- the lengths of an image: 1 to 32,256 bytes
 unfoldable pub image-fits : (bytes : ℕ) → Bool
 image-fits n = leb 1 n && leb n 32256
 
 -- 29 for mask or data, then 30 for the image
-unfoldable pub input-refusal : JobInput → ℕ
-input-refusal g =
-    cond (mask-fits (g .mask) && eqb (length (g .ours)) 256) (cond (image-fits (length (g .image))) 0 bad-radio-image) bad-mask
+unfoldable pub input-number : (mask : List ℕ) → (ours image : ℕ) → ℕ
+input-number m k n = cond (mask-fits m && eqb k 256) (cond (image-fits n) 0 bad-radio-image) bad-mask
+
+abbrev pub input-refusal : JobInput → ℕ
+input-refusal g = input-number (g .mask) (length (g .ours)) (length (g .image))
 
 -- the number of pages that so many bytes take
 abbrev pub pages-for : (bytes : ℕ) → ℕ

@@ -1,4 +1,4 @@
--- The order of a job as an exchange (document 02, i): a message, with the number of bytes to expect, asks, and
+-- The order of a job as an exchange (document 02, i): a message asks, with the number of bytes to expect, and
 -- one reply comes back.
 use mathlib.Core.Bool.{Bool, true, false, cond, _&&_}
 use mathlib.Core.List.{List, [], _∷_}
@@ -8,7 +8,9 @@ use lib.ListN.{length}
 use Rattle.exchange.specs.Exchange.{Exchange, ended, ask, Heard, heard, stops}
 use Rattle.numbers.specs.Numbers.{done}
 use Rattle.radio_command.specs.declared.CommandName.{CommandName}
-use Rattle.radio_command.specs.declared.CommandName.the-variants.{RdSwVersion, InfSwVersion, RdFlashByte, WrFlashByte, RdFlashPage, WrFlashPage, RdPrgArea, WrPrgArea, InfOk, InfError, WrBlankChk, WrBist, WrPrgXram}
+use Rattle.radio_command.specs.declared.CommandName.the-variants.{RdSwVersion, InfSwVersion, RdFlashByte, WrFlashByte, RdFlashPage}
+use Rattle.radio_command.specs.declared.CommandName.the-variants.{WrFlashPage, RdPrgArea, WrPrgArea, InfOk, InfError, WrBlankChk, WrBist}
+use Rattle.radio_command.specs.declared.CommandName.the-variants.{WrPrgXram}
 use Rattle.radio_command.specs.declared.CommandRead.{CommandRead}
 use Rattle.radio_command.specs.declared.CommandRead.the-variants.{Is, Refused}
 use Rattle.radio_command.specs.Numbers.{bad-message, error-answer, page-differs}
@@ -25,8 +27,8 @@ pub record Message : Type 0 where
 abbrev pub JobExchange : Type 0
 JobExchange = Exchange Message (List ℕ) Ending
 
--- A job goes on (`still`), or ends: done, by a reply that is none (28), by an error answer (42), by a page that
--- differs (43).
+-- A job goes on (`still`), or ends: done, by a reply that is none (28), by an error answer (42), by a page
+-- that differs (43).
 abbrev pub still : Ending
 still = record { number = 0; code = 0; offset = 0 }
 

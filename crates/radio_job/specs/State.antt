@@ -9,9 +9,12 @@ use Rattle.numbers.specs.Numbers.{done}
 use Rattle.radio_command.specs.Numbers.{bad-message, error-answer, page-differs}
 use Rattle.radio_job.specs.declared.Ending.{Ending}
 use Rattle.radio_job.specs.declared.JobPoint.{JobPoint}
-use Rattle.radio_job.specs.declared.JobPoint.the-variants.{AsksConfiguration, TakesConfiguration, ErasesArea, FeedsPage, ErasesConfiguration, SetsConfiguration, SetsByte0, AsksPage, TakesPage, SetsByte1, Finished}
+use Rattle.radio_job.specs.declared.JobPoint.the-variants.{AsksConfiguration, TakesConfiguration, ErasesArea, FeedsPage}
+use Rattle.radio_job.specs.declared.JobPoint.the-variants.{ErasesConfiguration, SetsConfiguration, SetsByte0, AsksPage, TakesPage}
+use Rattle.radio_job.specs.declared.JobPoint.the-variants.{SetsByte1, Finished}
 use Rattle.radio_job.specs.Image.{JobInput, mask-fits, image-fits, pages-for, page-count, image-pages, image-page, merged}
-use Rattle.radio_job.specs.Job.{JobExchange, say, unless, confirmed, fetched, fed-pages, page-ending, pages-compared, protects, compares, sets-byte-0, restores, writes-area}
+use Rattle.radio_job.specs.Job.{JobExchange, say, unless, confirmed, fetched, fed-pages, page-ending, pages-compared, protects}
+use Rattle.radio_job.specs.Job.{compares, sets-byte-0, restores, writes-area}
 
 -- Our data, from the time that the old configuration has come the merged page; the mask; the image's length;
 -- and the point reached.

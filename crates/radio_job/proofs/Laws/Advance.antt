@@ -13,9 +13,12 @@ use Rattle.exchange.specs.Exchange.{ended, ask, after}
 use Rattle.radio_command.specs.Command.{read-command}
 use Rattle.radio_job.specs.declared.Ending.{Ending}
 use Rattle.radio_job.specs.declared.JobPoint.{JobPoint}
-use Rattle.radio_job.specs.declared.JobPoint.the-variants.{AsksConfiguration, TakesConfiguration, ErasesArea, FeedsPage, ErasesConfiguration, SetsConfiguration, SetsByte0, AsksPage, TakesPage, SetsByte1, Finished}
+use Rattle.radio_job.specs.declared.JobPoint.the-variants.{AsksConfiguration, TakesConfiguration, ErasesArea, FeedsPage}
+use Rattle.radio_job.specs.declared.JobPoint.the-variants.{ErasesConfiguration, SetsConfiguration, SetsByte0, AsksPage, TakesPage}
+use Rattle.radio_job.specs.declared.JobPoint.the-variants.{SetsByte1, Finished}
 use Rattle.radio_job.specs.Image.{pages-for, page-count, image-pages, image-page, merged}
-use Rattle.radio_job.specs.Job.{JobExchange, unless, take-reply, say, answer-ending, confirmed, fetched, fed-pages, page-ending, pages-compared, protects, sets-byte-0, restores, ends-bad, ends-done}
+use Rattle.radio_job.specs.Job.{JobExchange, unless, take-reply, say, answer-ending, confirmed, fetched, fed-pages, page-ending}
+use Rattle.radio_job.specs.Job.{pages-compared, protects, sets-byte-0, restores, ends-bad, ends-done}
 use Rattle.radio_job.specs.State.{JobState, point-leaves, job-left, ending-fits, point-fits}
 use Rattle.radio_job.specs.Code.Advance.{length-ending, last-ending, reply-ending, next-point, next-page, advanced-by, job-advanced}
 use Rattle.radio_job.proofs.Laws.Image.{image-next, image-last}

@@ -8,7 +8,8 @@ use lib.Dec.{eqb}
 use lib.ListN.{length}
 use Rattle.radio_job.specs.declared.Ending.{Ending}
 use Rattle.radio_job.specs.Image.{JobInput, page-count, image-pages, padded}
-use Rattle.radio_job.specs.Job.{JobExchange, unless, answer-ending, confirmed, fetched, fed-pages, page-ending, pages-compared, protects, restores, job}
+use Rattle.radio_job.specs.Job.{JobExchange, unless, answer-ending, confirmed, fetched, fed-pages, page-ending, pages-compared}
+use Rattle.radio_job.specs.Job.{protects, restores, job}
 use Rattle.radio_job.specs.Claims.{Ends-in, Job-ends}
 use Rattle.radio_job.proofs.Laws.Image.{pages-many}
 

@@ -9,15 +9,20 @@ use lib.ListN.{length}
 use borrow.Author.Tests.{ltb-true, ltb-false, eqb-true, lt-ltb, eq-eqb}
 use Rattle.laws.proofs.Tests.{by-test, both}
 use Rattle.radio_command.specs.declared.CommandName.{CommandName}
-use Rattle.radio_command.specs.declared.CommandName.the-variants.{RdSwVersion, InfSwVersion, RdFlashByte, WrFlashByte, RdFlashPage, WrFlashPage, RdPrgArea, WrPrgArea, InfOk, InfError, WrBlankChk, WrBist, WrPrgXram}
+use Rattle.radio_command.specs.declared.CommandName.the-variants.{RdSwVersion, InfSwVersion, RdFlashByte, WrFlashByte, RdFlashPage}
+use Rattle.radio_command.specs.declared.CommandName.the-variants.{WrFlashPage, RdPrgArea, WrPrgArea, InfOk, InfError, WrBlankChk, WrBist}
+use Rattle.radio_command.specs.declared.CommandName.the-variants.{WrPrgXram}
 use Rattle.radio_command.specs.declared.CommandRead.{CommandRead}
 use Rattle.radio_command.specs.declared.CommandRead.the-variants.{Is, Refused}
 use Rattle.radio_command.specs.Command.{read-command}
 use Rattle.radio_job.specs.declared.Ending.{Ending}
 use Rattle.radio_job.specs.declared.JobPoint.{JobPoint}
-use Rattle.radio_job.specs.declared.JobPoint.the-variants.{AsksConfiguration, TakesConfiguration, ErasesArea, FeedsPage, ErasesConfiguration, SetsConfiguration, SetsByte0, AsksPage, TakesPage, SetsByte1, Finished}
+use Rattle.radio_job.specs.declared.JobPoint.the-variants.{AsksConfiguration, TakesConfiguration, ErasesArea, FeedsPage}
+use Rattle.radio_job.specs.declared.JobPoint.the-variants.{ErasesConfiguration, SetsConfiguration, SetsByte0, AsksPage, TakesPage}
+use Rattle.radio_job.specs.declared.JobPoint.the-variants.{SetsByte1, Finished}
 use Rattle.radio_job.specs.Image.{JobInput, input-refusal, mask-fits, image-fits, pages-for, page-count, image-page, merged}
-use Rattle.radio_job.specs.Job.{ends-bad, ends-done, ends-differing, still, name-ending, read-ending, answer-ending, same, shared, page-ending}
+use Rattle.radio_job.specs.Job.{ends-bad, ends-done, ends-differing, still, name-ending, read-ending, answer-ending, same, shared}
+use Rattle.radio_job.specs.Job.{page-ending}
 use Rattle.radio_job.specs.State.{JobState, opened-job, ending-fits, point-fits, state-fits}
 use Rattle.radio_job.specs.Code.Advance.{length-ending, last-ending, reply-ending, next-point, next-page, advanced-by, job-advanced}
 use Rattle.radio_job.proofs.Laws.Image.{image-page-long, merged-long, mask-long, Sized, sized, accepted-input}

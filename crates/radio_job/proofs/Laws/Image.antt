@@ -9,7 +9,8 @@ use lib.ListN.{length, take, drop, replicate, length-append, length-replicate, l
 use lib.Seq.{drop-drop}
 use borrow.Author.Tests.{eqb-true, leb-true}
 use Rattle.laws.proofs.Tests.{passes, both}
-use Rattle.radio_job.specs.Image.{JobInput, is-mask, mask-fits, image-fits, input-refusal, pages-for, page-count, padded, split-pages, image-pages, image-page, merged}
+use Rattle.radio_job.specs.Image.{JobInput, is-mask, mask-fits, image-fits, input-number, input-refusal, pages-for, page-count}
+use Rattle.radio_job.specs.Image.{padded, split-pages, image-pages, image-page, merged}
 
 pub pages-many : (n : ℕ) (bs : List ℕ) → length (split-pages n bs) ≡ n
 unfolding split-pages
@@ -83,7 +84,7 @@ pub record Accepted-input (g : JobInput) : Type 0 where
   pub fits : image-fits (length (g .image)) ≡ true
 
 pub accepted-input : (g : JobInput) → input-refusal g ≡ 0 → Accepted-input g
-unfolding input-refusal
+unfolding input-number
 accepted-input g e =
     let p = passes _ _ 29 (omega arith) e in
     let q = passes _ 0 30 (omega arith) (p .1) in

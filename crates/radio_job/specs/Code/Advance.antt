@@ -1,5 +1,5 @@
--- For the code: a job's state after a reply, step by step. `advances` of proofs/Laws/Advance is the law that it
--- leaves to say what the reply leaves of the exchange.
+-- For the code: a job's state after a reply, point by point. `advances` of proofs/Laws/Advance is the law that
+-- it leaves to say what the reply leaves of the exchange.
 use mathlib.Core.Bool.{cond}
 use mathlib.Core.List.{List}
 use Prim.Native.Nat.{ℕ, _+_}
@@ -7,7 +7,9 @@ use lib.Dec.{eqb, ltb}
 use lib.ListN.{length}
 use Rattle.radio_job.specs.declared.Ending.{Ending}
 use Rattle.radio_job.specs.declared.JobPoint.{JobPoint}
-use Rattle.radio_job.specs.declared.JobPoint.the-variants.{AsksConfiguration, TakesConfiguration, ErasesArea, FeedsPage, ErasesConfiguration, SetsConfiguration, SetsByte0, AsksPage, TakesPage, SetsByte1, Finished}
+use Rattle.radio_job.specs.declared.JobPoint.the-variants.{AsksConfiguration, TakesConfiguration, ErasesArea, FeedsPage}
+use Rattle.radio_job.specs.declared.JobPoint.the-variants.{ErasesConfiguration, SetsConfiguration, SetsByte0, AsksPage, TakesPage}
+use Rattle.radio_job.specs.declared.JobPoint.the-variants.{SetsByte1, Finished}
 use Rattle.radio_job.specs.Image.{pages-for, image-page, merged}
 use Rattle.radio_job.specs.Job.{still, ends-done, ends-bad, answer-ending, page-ending}
 use Rattle.radio_job.specs.State.{JobState}
@@ -66,7 +68,12 @@ next-page (Finished e) m c r = c
 abbrev pub advanced-by : Ending → JobState → (reply : List ℕ) → JobState
 advanced-by v s r =
     cond (eqb (v .number) 0)
-    (record { page = next-page (s .point) (s .mask) (s .page) r; mask = s .mask; bytes = s .bytes; point = next-point (s .point) (s .bytes) })
+    (record {
+      page = next-page (s .point) (s .mask) (s .page) r;
+      mask = s .mask;
+      bytes = s .bytes;
+      point = next-point (s .point) (s .bytes);
+    })
     (record { page = s .page; mask = s .mask; bytes = s .bytes; point = Finished v })
 
 unfoldable pub job-advanced : (image : List ℕ) → JobState → (reply : List ℕ) → JobState
