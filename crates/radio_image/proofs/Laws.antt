@@ -1,2 +1,3 @@
 -- The laws of the definitions, each in the module of the definition that it is about.
 pub mod Image
+pub mod Page

@@ -1,9 +1,13 @@
 // What an opening asks of mask, data and image, and two pages compared.
 ghost use mathlib.Core.Path.{_≡_};
 ghost use mathlib.Core.Bool.{_||_};
+ghost use Prim.Native.Nat.{_+_, _≤_};
 ghost use lib.Dec.{eqb};
+ghost use lib.ListN.{length, replicate};
 ghost use Rattle.radio_job.specs.Image.{is-mask, mask-fits, image-fits, input-number, pages-for};
 ghost use Rattle.radio_job.specs.Job.{shared};
+ghost use Rattle.radio_image.specs.Page.{page-put};
+ghost use Rattle.radio_image.specs.Code.Stop.{page-stop};
 use radio_command::BAD_MASK;
 use radio_command::BAD_RADIO_IMAGE;
 
@@ -104,4 +108,43 @@ pub fn shared(a: &[u8], b: &[u8]) -> usize
         i += 1;
     }
     i
+}
+
+// Fills a buffer with 0xFF.
+fn blank(out: &mut [u8])
+    ensures { λ _. ⌜ now (out .exit) ≡ replicate (length (now (out .entry))) 0xFF ⌝ }
+{
+    let mut i = 0;
+    while i < out.len() {
+        out[i] = 0xFF;
+        i += 1;
+    }
+}
+
+// The end of the page's bytes in an image that goes on behind their start.
+fn page_end(start: usize, bytes: usize) -> usize
+    requires { ⌜ start ≤ bytes ⌝ }
+    ensures { λ r. ⌜ (start ≤ r) × (r ≤ bytes) × (r ≤ start + 256) × (r ≡ page-stop start bytes) ⌝ }
+{
+    if bytes - start < PAGE_BYTES {
+        return bytes;
+    }
+    start + PAGE_BYTES
+}
+
+// Writes a page of the padded image into a buffer of 256 bytes. Another buffer, and one for a page that the
+// image does not have, is left as it was.
+pub fn put_page(image: &[u8], page: usize, out: &mut [u8])
+    ensures { λ _. ⌜ now (out .exit) ≡ page-put (now (image .entry)) page (now (out .entry)) ⌝ }
+{
+    if out.len() != PAGE_BYTES {
+        return;
+    }
+    if pages_for(image.len()) <= page {
+        return;
+    }
+    let start = page * PAGE_BYTES;
+    let end = page_end(start, image.len());
+    blank(out);
+    let _n = bytes::copy(&image[start..end], out);
 }
