@@ -87,8 +87,8 @@ abbrev pub takes-answer : Said Message Ending → RadioAdvanced
 takes-answer (asks a) = record { number = 0; code = 0; offset = 0; send = length (a .bytes); expect = a .expect }
 takes-answer (ends e) = record { number = e .number; code = e .code; offset = e .offset; send = 0; expect = 0 }
 
--- what an accepted call does that takes a reply, by the job that its record keeps; a record that keeps none is
--- refused before
+-- what an accepted call does that takes a reply, by the job that its record keeps; a record that keeps none
+-- is refused before
 abbrev pub takes-reply : Option JobState → (held image reply out : List ℕ) → Takes-done
 takes-reply (some s) r im q out =
     let x = said (after take-reply (job-left im s) q) in

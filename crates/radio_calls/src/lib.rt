@@ -1,8 +1,8 @@
-// The calls of a radio job as data: what each answers, as C has it. What they answer and leave, and what lists
-// of them come to, stands in specs/.
+// The calls of a radio job as data: what each answers, as C has it. What they answer and leave, and what
+// lists of them come to, stands in specs/.
 
-// What an opening answers: 0 or the number by which it is refused, the length of the first message, and of the
-// reply to it.
+// What an opening answers: 0 or the number by which it is refused, the length of the first message, and of
+// the reply to it.
 #[repr(C)]
 pub struct RadioOpened {
     pub number: u32,

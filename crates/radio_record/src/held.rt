@@ -7,7 +7,6 @@ use crate::MASK;
 use crate::NUMBERS;
 use crate::PointRead;
 use crate::RADIO_RECORD_BYTES;
-use crate::fits::point_fits;
 use crate::read::read_fields;
 use crate::read::read_point;
 use crate::words::pair;
@@ -22,7 +21,7 @@ fn checked(bytes: usize, point: JobPoint, told: &[u8]) -> JobKept
     if !radio_image::image_fits(bytes) {
         return JobKept::KeepsNone;
     }
-    if !point_fits(bytes, point) {
+    if !radio_point::point_fits(bytes, point) {
         return JobKept::KeepsNone;
     }
     let again = point_bytes(bytes, point);

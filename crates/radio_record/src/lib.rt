@@ -2,7 +2,6 @@
 // in it as they are; its last eight bytes tell image length and point.
 use radio_job::JobPoint;
 
-mod fits;
 mod held;
 mod read;
 mod words;

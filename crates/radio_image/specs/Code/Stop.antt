@@ -1,5 +1,5 @@
--- For the code: where a page's bytes end in an image. `page-parts` of proofs/Laws/Page is the law that the page
--- is these bytes, and 0xFF behind them.
+-- For the code: where a page's bytes end in an image. `page-parts` of proofs/Laws/Page is the law that the
+-- page is these bytes, and 0xFF behind them.
 use mathlib.Core.Bool.{cond}
 use Prim.Native.Nat.{ℕ, _+_, _-_}
 use lib.Dec.{ltb}

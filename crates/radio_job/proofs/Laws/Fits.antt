@@ -136,7 +136,7 @@ feeds-fits : (im : List ℕ) (p : ℕ) (r : List ℕ)
 feeds-fits im p r =
     by-test (ltb (p + 1) (page-count im)) (λ e. rw e (length-fits (length im) 0 r)) (λ e. rw e (answer-fits (length im) r))
 
-ends-fit : (p : JobPoint) (im r : List ℕ) → point-fits (length im) p ≡ true
+pub ends-fit : (p : JobPoint) (im r : List ℕ) → point-fits (length im) p ≡ true
     → eqb (reply-ending p im r .number) 0 ≡ false → ending-fits (length im) (reply-ending p im r) ≡ true
 ends-fit AsksConfiguration im r f e = answer-fits (length im) r e
 ends-fit TakesConfiguration im r f e = length-fits (length im) 256 r e
@@ -151,7 +151,7 @@ ends-fit SetsByte1 im r f e = last-fits (length im) (answer-ending r) (answer-fi
 ends-fit (Finished x) im r f e = f
 
 -- the next point fits
-next-fits : (p : JobPoint) (n : ℕ) → 1 ≤ n → point-fits n p ≡ true → point-fits n (next-point p n) ≡ true
+pub next-fits : (p : JobPoint) (n : ℕ) → 1 ≤ n → point-fits n p ≡ true → point-fits n (next-point p n) ≡ true
 next-fits AsksConfiguration n h f = refl
 next-fits TakesConfiguration n h f = refl
 next-fits ErasesArea n h f = let z : 0 < pages-for n = omega arith in lt-ltb 0 (pages-for n) z

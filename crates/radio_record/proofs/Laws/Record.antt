@@ -13,18 +13,11 @@ use Rattle.radio_job.specs.declared.JobPoint.{JobPoint}
 use Rattle.radio_job.specs.Image.{mask-fits, image-fits}
 use Rattle.radio_job.specs.Job.{same, shared}
 use Rattle.radio_job.specs.State.{point-fits}
-use Rattle.radio_job.proofs.Laws.Fits.{shares-all, shares-less}
+use Rattle.radio_point.proofs.Laws.Compare.{same-shared, other-shared}
 use Rattle.radio_record.specs.declared.JobKept.{JobKept}
 use Rattle.radio_record.specs.declared.JobKept.the-variants.{Keeps, KeepsNone}
 use Rattle.radio_record.specs.declared.PointRead.the-variants.{Point, NoPoint}
 use Rattle.radio_record.specs.Record.{pair, point-bytes, fields-laid, fields-read, point-read, numbers-checked, mask-of, job-kept}
-
--- lists of one length are the same where they share all
-pub same-shared : (n : ℕ) (xs ys : List ℕ) → length xs ≡ n → length ys ≡ n → shared xs ys ≡ n → same xs ys ≡ true
-same-shared n xs ys a b e = by-test (same xs ys) (λ t. t) (λ t. absurd (let l = shares-less xs ys (a ∙ sym b) t in omega arith))
-
-pub other-shared : (n : ℕ) (xs ys : List ℕ) → length ys ≡ n → (shared xs ys ≡ n → ⊥) → same xs ys ≡ false
-other-shared n xs ys b e = by-test (same xs ys) (λ t. absurd (e (shares-all xs ys t ∙ b))) (λ t. t)
 
 pub point-bytes-long : (n : ℕ) (p : JobPoint) → length (point-bytes n p) ≡ 8
 unfolding point-bytes fields-laid

@@ -3,7 +3,6 @@
 use mathlib.Core.Path.{sym, _∙_}
 use borrow.Author.Tests.{not-true, not-false}
 use borrow.Author.Needs.{needs}
-use Rattle.radio_job.proofs.Laws.Image.{sized}
 use Rattle.radio_record.proofs.Laws.Record.{checked-image, checked-point, checked-same, checked-other}
 use Rattle.radio_record.proofs.held.checked.Statement.{statement}
 use Rattle.radio_record.proofs.held.checked.Tie as tie
@@ -15,7 +14,7 @@ returns : tie.Need-returns
 returns c = checked-image _ _ _ (sym (c .before .image-fits .ensures) ∙ not-true _ (c .if1 .taken))
 
 point-fits-requires : tie.Need-point-fits-requires
-point-fits-requires c κs = sized _ (sym (c .before .image-fits .ensures) ∙ not-false _ (c .if1 .left)) .few
+point-fits-requires c κs = search needs
 
 returns-2 : tie.Need-returns-2
 returns-2 c = checked-point _ _ _ (sym (c .before .before .before .image-fits .ensures) ∙ not-false _ (c .before .before .if1 .left)) (sym (c .before .point-fits .ensures) ∙ not-true _ (c .if2 .taken))

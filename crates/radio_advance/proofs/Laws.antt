@@ -1,0 +1,4 @@
+-- The laws of the definitions, each in the module of the definition that it is about.
+pub mod Keep
+pub mod Take
+pub mod Open
