@@ -9,8 +9,10 @@ use borrow.Author.Tests.{eq-eqb, eqb-true}
 use native.Mathlib.Omega.{arith}
 use Rattle.laws.proofs.Tests.{by-test}
 use Rattle.radio_command.specs.declared.CommandName.{CommandName}
-use Rattle.radio_command.specs.declared.CommandName.the-variants.{RdSwVersion, InfSwVersion, RdFlashByte, WrFlashByte, RdFlashPage, WrFlashPage}
-use Rattle.radio_command.specs.declared.CommandName.the-variants.{RdPrgArea, WrPrgArea, InfOk, InfError, WrBlankChk, WrBist, WrPrgXram}
+use Rattle.radio_command.specs.declared.CommandName.the-variants.{RdSwVersion, InfSwVersion, RdFlashByte, WrFlashByte, RdFlashPage}
+use Rattle.radio_command.specs.declared.CommandName.the-variants.{WrFlashPage}
+use Rattle.radio_command.specs.declared.CommandName.the-variants.{RdPrgArea, WrPrgArea, InfOk, InfError, WrBlankChk, WrBist}
+use Rattle.radio_command.specs.declared.CommandName.the-variants.{WrPrgXram}
 use Rattle.radio_command.specs.declared.RadioCommand.{RadioCommand}
 use Rattle.radio_command.specs.declared.NameFound.{NameFound}
 use Rattle.radio_command.specs.declared.NameFound.the-variants.{Of, Nothing}

@@ -11,7 +11,8 @@ use borrow.Rule.Slice.PartMut.{putMid, midOf, mid-len, post-is}
 use borrow.Author.Tests.{eq-eqb, ne-eqb}
 use Rattle.laws.proofs.Tests.{by-test}
 use Rattle.radio_flash.specs.Flash.{is-erased, is-blank, page-set, byte-set, mass-erased}
-use lib.ListN.{length, getD, replicate, take, drop, length-append, length-take, length-drop, length-replicate, length-set, take-append-drop, drop-of-length-le}
+use lib.ListN.{length, getD, replicate, take, drop, length-append, length-take, length-drop, length-replicate, length-set}
+use lib.ListN.{take-append-drop, drop-of-length-le}
 
 -- all of a list
 pub take-all : (n : ℕ) (l : List ℕ) → length l ≤ n → take n l ≡ l

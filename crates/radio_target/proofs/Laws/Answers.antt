@@ -2,10 +2,12 @@
 use mathlib.Core.Path.{refl}
 use Rattle.radio_command.specs.Command.{name-of, command-sum, built}
 use Rattle.radio_flash.specs.Flash.{flash-page, is-protected, is-erased, page-set, byte-set, mass-erased}
-use Rattle.radio_target.specs.Deeds.{rd-flash-byte, wr-flash-byte, rd-flash-page, wr-flash-page, rd-prg-area, wr-prg-area, wr-blank-chk, wr-prg-xram}
+use Rattle.radio_target.specs.Deeds.{rd-flash-byte, wr-flash-byte, rd-flash-page, wr-flash-page, rd-prg-area, wr-prg-area}
+use Rattle.radio_target.specs.Deeds.{wr-blank-chk, wr-prg-xram}
 use Rattle.radio_target.specs.Model.{commanded, message-refusal}
 use Rattle.radio_target.specs.State.{module-state, module-point, radio-stepped}
-use Rattle.radio_target.specs.Answers.{blank-flash, protected-flash, all-done, on-blank, on-protected, Sum-first, Not-listed, Configuration-data, Data-go-on, Area-erased, Page-sent, Program-dropped}
+use Rattle.radio_target.specs.Answers.{blank-flash, protected-flash, all-done, on-blank, on-protected, Sum-first, Not-listed}
+use Rattle.radio_target.specs.Answers.{Configuration-data, Data-go-on, Area-erased, Page-sent, Program-dropped}
 use Rattle.radio_target.specs.Answers.{Program-goes-on, Refusals, Not-refused, States, Refused-stays, Version-told}
 
 pub done-on-blank : all-done blank-flash on-blank

@@ -10,7 +10,9 @@ use lib.ListN.{length, getD}
 use borrow.Author.Tests.{lt-ltb, ltb-false, eqb-false, le-leb}
 use Rattle.laws.proofs.Tests.{by-test}
 use Rattle.radio_command.specs.declared.CommandName.{CommandName}
-use Rattle.radio_command.specs.declared.CommandName.the-variants.{RdSwVersion, InfSwVersion, RdFlashByte, WrFlashByte, RdFlashPage, WrFlashPage, RdPrgArea, WrPrgArea, InfOk, InfError, WrBlankChk, WrBist, WrPrgXram}
+use Rattle.radio_command.specs.declared.CommandName.the-variants.{RdSwVersion, InfSwVersion, RdFlashByte, WrFlashByte, RdFlashPage}
+use Rattle.radio_command.specs.declared.CommandName.the-variants.{WrFlashPage, RdPrgArea, WrPrgArea, InfOk, InfError, WrBlankChk, WrBist}
+use Rattle.radio_command.specs.declared.CommandName.the-variants.{WrPrgXram}
 use Rattle.radio_command.specs.declared.NameFound.{NameFound}
 use Rattle.radio_command.specs.declared.NameFound.the-variants.{Of, Nothing}
 use Rattle.radio_command.specs.Command.{message-byte, name-of, command-sum}
@@ -19,7 +21,8 @@ use Rattle.radio_target.specs.declared.Deed.{Deed}
 use Rattle.radio_flash.specs.Flash.{flash-address, in-program-area, is-protected, is-blank, erased-bytes, changed}
 use Rattle.radio_flash.specs.Code.Changes.{in-area}
 use Rattle.radio_flash.proofs.Laws.Flash.{page-set-long, byte-set-long, mass-erased-long}
-use Rattle.radio_target.specs.Deeds.{answers-error, too-many, then-data, rd-flash-byte, wr-flash-byte, rd-flash-page, wr-flash-page, rd-prg-area, wr-prg-area, wr-blank-chk, wr-prg-xram, deed}
+use Rattle.radio_target.specs.Deeds.{answers-error, too-many, then-data, rd-flash-byte, wr-flash-byte, rd-flash-page, wr-flash-page}
+use Rattle.radio_target.specs.Deeds.{rd-prg-area, wr-prg-area, wr-blank-chk, wr-prg-xram, deed}
 use Rattle.radio_target.specs.Model.{deed-named, commanded, is-point}
 
 abbrev pub Lies : Deed → Type 0

@@ -1,0 +1,4 @@
+pub mod Run
+pub mod Flashes
+pub mod Claims
+pub mod Cut
