@@ -1,13 +1,14 @@
 -- What is claimed of a job, whatever the replies (request i, C2). Types alone: proofs/Laws/Ends proves it.
+use mathlib.Core.Path.{_≡_}
 use mathlib.Core.List.{List}
 use Prim.Native.Nat.{ℕ, zero, suc, _+_, _*_}
 use Rattle.exchange.specs.Exchange.{ended, ask}
 use Rattle.radio_job.specs.Image.{JobInput, page-count}
 use Rattle.radio_job.specs.Job.{JobExchange, job}
 
--- a job that has ended after so many replies, whatever they are
+-- a job that has ended after so many replies, whatever they are, and by a number
 abbrev pub Ends-in : ℕ → JobExchange → Type 0
-Ends-in n (ended o) = Unit {0}
+Ends-in n (ended e) = e .number ≡ 0 → ⊥
 Ends-in zero (ask a k) = ⊥
 Ends-in (suc n) (ask a k) = (r : List ℕ) → Ends-in n (k r)
 

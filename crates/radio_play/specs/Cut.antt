@@ -1,5 +1,5 @@
--- A job cut after any number of messages, as request h has it for C2: what the flash then holds, and what a new
--- job makes of it. The module has been reset in between: its point is that of `fresh-state`.
+-- A job cut after any number of messages, as request h has it for C2: what the flash then holds, and what a
+-- new job makes of it. The module has been reset in between: its state is `fresh-state`.
 use mathlib.Core.Path.{_≡_}
 use mathlib.Core.List.{List, [], _∷_}
 use Prim.Native.Nat.{ℕ, zero, suc, _+_, _*_, _≤_}
@@ -35,9 +35,9 @@ full-mask = 0xFF ∷ 0xFF ∷ 0x00 ∷ 0x00 ∷ replicate 252 0xFF
 abbrev pub job-again : JobInput → (flash : List ℕ) → JobInput
 job-again g f = record { image = g .image; mask = full-mask; ours = configuration-for g f }
 
--- After n messages of a job, over a flash that was f and is now F: F is as `job-flashes` says, an equation for
--- each n; the information page is as before; and code protection is off until the last message, and after it
--- unless the merge sets it.
+-- After n messages of a job, over a flash that was f and is now F: F is as `job-flashes` says, an equation
+-- for each n; the information page is as before; and code protection is off until the last message, and after
+-- it unless the merge sets it.
 pub record Job-cut (g : JobInput) (f : List ℕ) (n : ℕ) (F : List ℕ) : Type 0 where
   pub holds : F ≡ flash-after n f (job-flashes g f)
   pub long : length F ≡ 33024
@@ -50,9 +50,9 @@ Job-cuts =
     (g : JobInput) (f : List ℕ) → input-refusal g ≡ 0 → length f ≡ 33024 → (getD f 0x7F01 0 ≡ 0 → ⊥)
     → (n : ℕ) → Job-cut g f n (flash-cut n (job g) fresh-state f)
 
--- Wherever a job was cut while code protection was off, any new job ends as C3 says of the flash that was left.
--- The old configuration is then the one that is found there: where the first job had erased it and not yet set
--- it again, what the mask does not name is lost.
+-- Wherever a job was cut before its last message, any new job ends as C3 says of the flash that was left. The
+-- old configuration is then the one that is found there: where the first job had erased it and not yet set it
+-- again, what the mask does not name is lost.
 abbrev pub Job-after-cut : Type 0
 Job-after-cut =
     (g h : JobInput) (f : List ℕ) → input-refusal g ≡ 0 → length f ≡ 33024 → (getD f 0x7F01 0 ≡ 0 → ⊥) → input-refusal h ≡ 0

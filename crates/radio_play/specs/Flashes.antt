@@ -10,8 +10,8 @@ use Rattle.radio_job.specs.Image.{JobInput, page-count, padded, merged}
 abbrev pub configuration-for : JobInput → (flash : List ℕ) → List ℕ
 configuration-for g f = merged (g .mask) (g .ours) (flash-page 127 f)
 
--- The flash that a job leaves: the padded image, and 0xFF to the end of the program area; of the merge bytes 0,
--- 1 and 4 to 255, bytes 2 and 3 erased; the information page as before.
+-- The flash that a job leaves: the padded image, and 0xFF to the end of the program area; of the merge bytes
+-- 0, 1 and 4 to 255, bytes 2 and 3 erased; the information page as before.
 unfoldable pub job-leaves : JobInput → (flash : List ℕ) → List ℕ
 job-leaves g f =
     let c = configuration-for g f in

@@ -43,7 +43,7 @@ pub job-follows : Replies-follow job-machine
 job-follows = replies-follow job-machine job-sound
 
 -- the machine's own feeding is the exchange's
-same-fed : (e : JobExchange) (rs : List (List ℕ)) → Machines.fed job-machine e rs ≡ fed take-reply e rs
+pub same-fed : (e : JobExchange) (rs : List (List ℕ)) → Machines.fed job-machine e rs ≡ fed take-reply e rs
 unfolding Machines.fed fed
 same-fed e [] = refl
 same-fed e (r ∷ rs) = same-fed (after take-reply e r) rs

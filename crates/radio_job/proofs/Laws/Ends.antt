@@ -1,24 +1,31 @@
--- The job ends after 3 n + 7 replies at most (`Claims.Job-ends`).
+-- The job ends after 3 n + 7 replies at most, whatever they are.
 use mathlib.Core.Path.{_≡_, refl, sym, ap, _∙_, subst}
 use mathlib.Core.Bool.{Bool, true, false, cond}
 use mathlib.Core.List.{List, [], _∷_}
-use Prim.Native.Nat.{ℕ, zero, suc, _+_, _*_}
+use Prim.Native.Nat.{ℕ, zero, suc, _+_, _*_, _≤_}
 use native.Mathlib.Omega.{arith}
 use lib.Dec.{eqb}
 use lib.ListN.{length}
+use borrow.Author.Tests.{eqb-false}
+use Rattle.laws.proofs.Tests.{by-test}
+use Rattle.exchange.specs.Exchange.{ended, ask, after, fed}
+use Rattle.exchange.proofs.Laws.Exchange.{fed-ended}
 use Rattle.radio_job.specs.declared.Ending.{Ending}
 use Rattle.radio_job.specs.Image.{JobInput, page-count, image-pages, padded}
-use Rattle.radio_job.specs.Job.{JobExchange, unless, answer-ending, confirmed, fetched, fed-pages, page-ending, pages-compared}
+use Rattle.radio_job.specs.Job.{JobExchange, take-reply, ends-bad, unless, answer-ending, confirmed, fetched, fed-pages}
+use Rattle.radio_job.specs.Job.{page-ending, pages-compared}
 use Rattle.radio_job.specs.Job.{protects, restores, job}
 use Rattle.radio_job.specs.Claims.{Ends-in, Job-ends}
 use Rattle.radio_job.proofs.Laws.Image.{pages-many}
 
-either-in : (t : Bool) (n : ℕ) (x y : JobExchange) → Ends-in n x → Ends-in n y → Ends-in n (cond t x y)
-either-in true n x y a b = a
-either-in false n x y a b = b
+-- an exchange that has ended, by a number
+pub record Has-ended (e : JobExchange) : Type 0 where
+  pub ending : Ending
+  pub is : e ≡ ended ending
+  pub number : ending .number ≡ 0 → ⊥
 
 unless-in : (v : Ending) (n : ℕ) (rest : JobExchange) → Ends-in n rest → Ends-in n (unless v rest)
-unless-in v n rest e = either-in (eqb (v .number) 0) n rest _ e tt
+unless-in v n rest e = by-test (eqb (v .number) 0) (λ t. rw t e) (λ t. rw t (eqb-false (v .number) 0 t))
 
 confirmed-in : (m : List ℕ) (n : ℕ) (rest : JobExchange) → Ends-in n rest → Ends-in (suc n) (confirmed m rest)
 unfolding confirmed
@@ -59,7 +66,7 @@ compared-in (p ∷ ps) i n rest e =
 
 protects-in : (c : List ℕ) → Ends-in 1 (protects c)
 unfolding protects
-protects-in c = confirmed-in _ 0 _ tt
+protects-in c = confirmed-in _ 0 _ (λ e. let z : _≡_ {A = ℕ} 32 0 = e in omega arith)
 
 restores-in : (ps : List (List ℕ)) (c : List ℕ) → Ends-in (suc (suc (suc (two-each ps 1)))) (restores ps c)
 unfolding restores
@@ -78,3 +85,15 @@ job-ends g =
     let z : suc (suc (suc (one-each ps m))) ≡ 3 * page-count (g .image) + 7 = omega arith in
     subst (λ (n : ℕ). Ends-in n (job g)) z
     (fetched-in 127 (suc (one-each ps m)) _ (λ old. confirmed-in _ (one-each ps m) _ (fed-in ps m _ (restores-in ps _))))
+
+-- so after as many replies the exchange has ended, by a number
+pub ends-fed : (n : ℕ) (e : JobExchange) (rs : List (List ℕ)) → Ends-in n e → n ≤ length rs → Has-ended (fed take-reply e rs)
+unfolding fed after
+ends-fed n (ended x) rs e h = rw (fed-ended take-reply x rs) (record { ending = x; is = refl; number = e })
+ends-fed zero (ask a k) rs e h = absurd e
+ends-fed (suc n) (ask a k) [] e h = absurd (let z : suc n ≤ 0 = h in omega arith)
+ends-fed (suc n) (ask a k) (r ∷ rs) e h =
+    let z : suc n ≤ suc (length rs) = h in
+    by-test (eqb (length r) (a .expect))
+    (λ t. rw t (ends-fed n (k r) rs (e r) (omega arith)))
+    (λ t. rw t (rw (fed-ended take-reply ends-bad rs) (record { ending = ends-bad; is = refl; number = λ q. let y : _≡_ {A = ℕ} 28 0 = q in omega arith })))

@@ -1,4 +1,4 @@
--- The flash on the way of a job: its length, its protection, its pages, and what the job's messages make of it.
+-- The flash on the way of a job: its length, its protection, its pages, and what the messages make of it.
 use mathlib.Core.Path.{_≡_, refl, sym, ap, _∙_}
 use mathlib.Core.Bool.{Bool, true, false, cond, _&&_}
 use mathlib.Core.List.{List, [], _∷_, _++_, append-assoc, append-nil}
