@@ -3,3 +3,4 @@ pub mod Image
 pub mod Ends
 pub mod Advance
 pub mod Fits
+pub mod Examples

@@ -3,3 +3,4 @@ pub mod Job
 pub mod State
 pub mod Code
 pub mod Claims
+pub mod Examples

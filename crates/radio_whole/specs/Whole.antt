@@ -36,10 +36,10 @@ own-answers (ask a k) t f =
 abbrev pub Protection-off : (flash : List ℕ) → Type 0
 Protection-off f = getD f 0x7F01 0 ≡ 0 → ⊥
 
--- C3 and C4, of what calls with these replies tell (`x`), against a module that is fresh and whose flash is f.
--- With code protection off there are 3 n + 7 replies of its own; once these have come, the job has ended with
--- 32 and the flash is `job-leaves`. With code protection on it has ended with 42 and code 1 after three, and
--- the flash is f.
+-- C3 and C4, of what calls with these replies tell (`x`), against a module that is fresh and whose flash is
+-- f. With code protection off there are 3 n + 7 replies of its own; once these have come, the job has ended
+-- with 32 and the flash is `job-leaves`. With code protection on it has ended with 42 and code 1 after three,
+-- and the flash is f.
 pub record Radio-against (g : JobInput) (f : List ℕ) (x : RadioTold) (replies : List (List ℕ)) : Type 0 where
   pub many : Protection-off f → length (own-answers (job g) fresh-state f) ≡ 3 * page-count (g .image) + 7
   pub done : Protection-off f → (more : List (List ℕ)) → replies ≡ own-answers (job g) fresh-state f ++ more → x .ending ≡ ends-done
@@ -49,13 +49,14 @@ pub record Radio-against (g : JobInput) (f : List ℕ) (x : RadioTold) (replies 
   pub again : Protection-off f → (n : ℕ) → n ≤ 3 * page-count (g .image) + 6
       → run-job (job (job-again g f)) fresh-state (flash-cut n (job g) fresh-state f) .flash ≡ job-leaves g f
   pub third : getD f 0x7F01 0 ≡ 0 → length (own-answers (job g) fresh-state f) ≡ 3
-  pub refused : getD f 0x7F01 0 ≡ 0 → (more : List (List ℕ)) → replies ≡ own-answers (job g) fresh-state f ++ more → x .ending ≡ ends-error 1
+  pub refused : getD f 0x7F01 0 ≡ 0 → (more : List (List ℕ)) → replies ≡ own-answers (job g) fresh-state f ++ more
+      → x .ending ≡ ends-error 1
   pub same : getD f 0x7F01 0 ≡ 0 → run-job (job g) fresh-state f .flash ≡ f
 
--- What is claimed of a list of calls after an accepted opening. C1: each refused one changes no byte that it is
--- lent; what the calls tell is what the replies of the accepted ones in a row come to; the record is that of a
--- state of the job which leaves to say what those replies leave of the job. C2: with 3 n + 7 replies, whatever
--- they are, the job has ended. C3 and C4: `Radio-against`.
+-- What is claimed of a list of calls after an accepted opening. C1: each refused one changes no byte that it
+-- is lent; what the calls tell is what the replies of the accepted ones in a row come to; the record is that
+-- of a state of the job which leaves to say what those replies leave of the job. C2: with 3 n + 7 replies,
+-- whatever they are, the job has ended. C3 and C4: `Radio-against`.
 pub record Radio-whole (g : JobInput) (x : RadioTold) (calls : List RadioCall) : Type 0 where
   pub refused : Refused-unchanged Radio
   pub told-is : x ≡ by-job g (in-a-row Radio calls)
@@ -66,8 +67,8 @@ pub record Radio-whole (g : JobInput) (x : RadioTold) (calls : List RadioCall) :
   pub ends : 3 * page-count (g .image) + 7 ≤ length (in-a-row Radio calls) → x .ending .number ≡ 0 → ⊥
   pub against : (f : List ℕ) → length f ≡ 33024 → Radio-against g f x (in-a-row Radio calls)
 
--- Request i: whatever the driver knew before, after an accepted opening, of every list of calls that may follow
--- it.
+-- Request i: whatever the driver knew before, after an accepted opening, of every list of calls that may
+-- follow it.
 abbrev pub Radio-calls-program : Type 0
 Radio-calls-program =
     (g : JobInput) (held out : List ℕ) (before : RadioTold) (calls : List RadioCall) → job-refusal (opens-job held out g) ≡ 0
