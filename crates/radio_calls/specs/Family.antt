@@ -10,7 +10,7 @@ use Rattle.exchange.specs.Machine.{Machine, after-replies}
 use Rattle.exchange.specs.Calls.{Family}
 use Rattle.radio_job.specs.declared.Ending.{Ending}
 use Rattle.radio_job.specs.Image.{JobInput}
-use Rattle.radio_job.specs.Job.{Message, JobExchange, still, take-reply, job}
+use Rattle.radio_job.specs.Job.{Message, JobExchange, still-runs, take-reply, job}
 use Rattle.radio_job.specs.State.{JobState, opened-job, job-left, state-fits}
 use Rattle.radio_job.specs.Code.Advance.{job-advanced}
 use Rattle.radio_record.specs.Record.{packed-job, unpacked-job}
@@ -90,7 +90,7 @@ job-state-after g rs = after-replies job-machine (g .image) (opened-job g) rs
 
 -- how an exchange stands, and how long the reply is that it expects
 abbrev pub ending-of : Said Message Ending → Ending
-ending-of (asks a) = still
+ending-of (asks a) = still-runs
 ending-of (ends e) = e
 
 abbrev pub expect-of : Said Message Ending → ℕ

@@ -23,14 +23,14 @@ pub record Message : Type 0 where
   pub bytes : List ℕ
   pub expect : ℕ
 
--- what is still to be said, by the replies
+-- what is still-runs to be said, by the replies
 abbrev pub JobExchange : Type 0
 JobExchange = Exchange Message (List ℕ) Ending
 
--- A job goes on (`still`), or ends: done, by a reply that is none (28), by an error answer (42), by a page
+-- A job goes on (`still-runs`), or ends: done, by a reply that is none (28), by an error answer (42), by a page
 -- that differs (43).
-abbrev pub still : Ending
-still = record { number = 0; code = 0; offset = 0 }
+abbrev pub still-runs : Ending
+still-runs = record { number = 0; code = 0; offset = 0 }
 
 abbrev pub ends-done : Ending
 ends-done = record { number = done; code = 0; offset = 0 }
@@ -57,7 +57,7 @@ say m n k = ask (record { bytes = m; expect = n }) k
 
 -- INF_OK goes on, INF_ERROR ends the job with its code, a byte; any other command is no reply
 abbrev pub name-ending : CommandName → (code : ℕ) → Ending
-name-ending InfOk c = still
+name-ending InfOk c = still-runs
 name-ending InfError c = ends-error (c % 256)
 name-ending RdSwVersion c = ends-bad
 name-ending InfSwVersion c = ends-bad
@@ -83,12 +83,12 @@ unfoldable pub confirmed : (message : List ℕ) → JobExchange → JobExchange
 confirmed m rest = say m 8 (λ r. unless (answer-ending r) rest)
 
 -- the eight bytes of a command
-abbrev pub command-bytes : CommandName → (p0 p1 p2 : ℕ) → List ℕ
-command-bytes n p0 p1 p2 = built (record { name = n; p0 = p0; p1 = p1; p2 = p2 })
+abbrev pub command-message : CommandName → (p0 p1 p2 : ℕ) → List ℕ
+command-message n p0 p1 p2 = built (record { name = n; p0 = p0; p1 = p1; p2 = p2 })
 
 -- a page that the module sends
 unfoldable pub fetched : (page : ℕ) → (List ℕ → JobExchange) → JobExchange
-fetched p k = confirmed (command-bytes RdFlashPage p 0 0) (say [] 256 k)
+fetched p k = confirmed (command-message RdFlashPage p 0 0) (say [] 256 k)
 
 -- pages that the module takes: it answers the last alone
 unfoldable pub fed-pages : List (List ℕ) → JobExchange → JobExchange
@@ -110,7 +110,7 @@ shared (x ∷ xs) (y ∷ ys) = cond (eqb x y) (suc (shared xs ys)) 0
 
 -- how a job stands after a page of the image was read back
 unfoldable pub page-ending : (page : ℕ) → (wanted reply : List ℕ) → Ending
-page-ending i p r = cond (same r p) still (ends-differing (256 * i + shared r p))
+page-ending i p r = cond (same r p) still-runs (ends-differing (256 * i + shared r p))
 
 -- the pages read back, from this one on, and compared as they come
 unfoldable pub pages-compared : (page : ℕ) → List (List ℕ) → JobExchange → JobExchange
@@ -119,22 +119,22 @@ pages-compared i (p ∷ ps) rest = fetched i (λ r. unless (page-ending i p r) (
 
 -- THE ORDER, from its end. Configuration byte 1, the code protection, is written last.
 unfoldable pub protects : (configuration : List ℕ) → JobExchange
-protects c = confirmed (command-bytes WrFlashByte 0x7F 0x01 (message-byte c 1)) (ended ends-done)
+protects c = confirmed (command-message WrFlashByte 0x7F 0x01 (message-byte c 1)) (ended ends-done)
 
 -- before it the image's pages are read back and compared, before them configuration byte 0 is written
-abbrev pub compares : (pages : List (List ℕ)) → (configuration : List ℕ) → JobExchange
-compares ps c = pages-compared 0 ps (protects c)
+abbrev pub compares-pages : (pages : List (List ℕ)) → (configuration : List ℕ) → JobExchange
+compares-pages ps c = pages-compared 0 ps (protects c)
 
 abbrev pub sets-byte-0 : (pages : List (List ℕ)) → (configuration : List ℕ) → JobExchange
-sets-byte-0 ps c = confirmed (command-bytes WrFlashByte 0x7F 0x00 (message-byte c 0)) (compares ps c)
+sets-byte-0 ps c = confirmed (command-message WrFlashByte 0x7F 0x00 (message-byte c 0)) (compares-pages ps c)
 
 -- before that the configuration page
 unfoldable pub restores : (pages : List (List ℕ)) → (configuration : List ℕ) → JobExchange
-restores ps c = confirmed (command-bytes WrFlashPage 127 0 0) (confirmed c (sets-byte-0 ps c))
+restores ps c = confirmed (command-message WrFlashPage 127 0 0) (confirmed c (sets-byte-0 ps c))
 
 -- before that the program area
 abbrev pub writes-area : (count : ℕ) → (pages : List (List ℕ)) → (configuration : List ℕ) → JobExchange
-writes-area n ps c = confirmed (command-bytes WrPrgArea n 0 0) (fed-pages ps (restores ps c))
+writes-area n ps c = confirmed (command-message WrPrgArea n 0 0) (fed-pages ps (restores ps c))
 
 -- the whole job: first the old configuration is read
 unfoldable pub job : JobInput → JobExchange

@@ -21,10 +21,10 @@ flash-cut (suc n) (ask a k) t f =
     let s = radio-stepped t f (a .bytes) 256 in flash-cut n (branch k (take-reply a (s .reply))) (s .target) (s .flash)
 
 -- the flash after so many messages, where it is this before the first and these after each
-unfoldable pub flash-after : (messages : ℕ) → (flash : List ℕ) → (flashes : List (List ℕ)) → List ℕ
-flash-after zero f fs = f
-flash-after (suc n) f [] = f
-flash-after (suc n) f (x ∷ fs) = flash-after n x fs
+unfoldable pub nth-flash : (messages : ℕ) → (flash : List ℕ) → (flashes : List (List ℕ)) → List ℕ
+nth-flash zero f fs = f
+nth-flash (suc n) f [] = f
+nth-flash (suc n) f (x ∷ fs) = nth-flash n x fs
 
 -- a mask that names every byte but 2 and 3
 abbrev pub full-mask : List ℕ
@@ -39,7 +39,7 @@ job-again g f = record { image = g .image; mask = full-mask; ours = configuratio
 -- for each n; the information page is as before; and code protection is off until the last message, and after
 -- it unless the merge sets it.
 pub record Job-cut (g : JobInput) (f : List ℕ) (n : ℕ) (F : List ℕ) : Type 0 where
-  pub holds : F ≡ flash-after n f (job-flashes g f)
+  pub holds : F ≡ nth-flash n f (job-flashes g f)
   pub long : length F ≡ 33024
   pub information : drop 32768 F ≡ drop 32768 f
   pub off : n ≤ 3 * page-count (g .image) + 6 → getD F 0x7F01 0 ≡ 0 → ⊥

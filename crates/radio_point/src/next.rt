@@ -7,7 +7,7 @@ ghost use Rattle.radio_job.specs.declared.JobPoint.the-variants.{FeedsPage, Tak
 ghost use Rattle.radio_job.specs.Image.{pages-for};
 ghost use Rattle.radio_job.specs.State.{point-fits};
 ghost use Rattle.radio_job.specs.Code.Advance.{reply-ending, next-point};
-ghost use Rattle.radio_point.specs.Code.After.{point-by, point-after};
+ghost use Rattle.radio_point.specs.Code.After.{point-by, job-point-after};
 use crate::ending::reply_ending;
 use crate::fits::point_fits;
 use numbers::DONE;
@@ -76,7 +76,7 @@ fn judged(point: JobPoint, image: &[u8], reply: &[u8]) -> JobPoint
 
 // The point after a reply to a job with this image. A point that is none of its points stays.
 pub fn point_after(point: JobPoint, image: &[u8], reply: &[u8]) -> JobPoint
-    ensures { λ r. ⌜ r ≡ point-after point (now (image .entry)) (now (reply .entry)) ⌝ }
+    ensures { λ r. ⌜ r ≡ job-point-after point (now (image .entry)) (now (reply .entry)) ⌝ }
 {
     if !radio_image::image_fits(image.len()) {
         return point;

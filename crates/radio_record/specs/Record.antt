@@ -65,20 +65,24 @@ pair r i = getD r i 0 + getD r (i + 1) 0 * 256
 unfoldable pub fields-read : List ℕ → JobFields
 fields-read r = record { stage = byte r 514; page = byte r 515; number = byte r 516; code = byte r 517; offset = pair r 518 }
 
+-- the point of a running job by its place in the order, if there is one
+abbrev pub later-point : (stage page : ℕ) → PointRead
+later-point k p =
+    cond (eqb k 5) (Point SetsConfiguration)
+    (cond (eqb k 6) (Point SetsByte0)
+    (cond (eqb k 7) (Point (AsksPage p)) (cond (eqb k 8) (Point (TakesPage p)) (cond (eqb k 9) (Point SetsByte1) NoPoint))))
+
+abbrev pub stage-point : (stage page : ℕ) → PointRead
+stage-point k p =
+    cond (eqb k 0) (Point AsksConfiguration)
+    (cond (eqb k 1) (Point TakesConfiguration)
+    (cond (eqb k 2) (Point ErasesArea)
+    (cond (eqb k 3) (Point (FeedsPage p)) (cond (eqb k 4) (Point ErasesConfiguration) (later-point k p)))))
+
 -- the point that these numbers tell, if they tell one; with number 0 it is a running job's
 unfoldable pub point-read : JobFields → PointRead
 point-read f =
-    cond (eqb (f .number) 0)
-    (cond (eqb (f .stage) 0) (Point AsksConfiguration)
-    (cond (eqb (f .stage) 1) (Point TakesConfiguration)
-    (cond (eqb (f .stage) 2) (Point ErasesArea)
-    (cond (eqb (f .stage) 3) (Point (FeedsPage (f .page)))
-    (cond (eqb (f .stage) 4) (Point ErasesConfiguration)
-    (cond (eqb (f .stage) 5) (Point SetsConfiguration)
-    (cond (eqb (f .stage) 6) (Point SetsByte0)
-    (cond (eqb (f .stage) 7) (Point (AsksPage (f .page)))
-    (cond (eqb (f .stage) 8) (Point (TakesPage (f .page)))
-    (cond (eqb (f .stage) 9) (Point SetsByte1) NoPoint))))))))))
+    cond (eqb (f .number) 0) (stage-point (f .stage) (f .page))
     (Point (Finished (record { number = f .number; code = f .code; offset = f .offset })))
 
 -- the job that was read, if image length and point fit and these are its last eight bytes

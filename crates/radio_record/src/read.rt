@@ -1,7 +1,7 @@
 // What the last eight bytes of a record say, whatever they are.
 ghost use mathlib.Core.Path.{_≡_};
 ghost use lib.ListN.{length};
-ghost use Rattle.radio_record.specs.Record.{fields-read, point-read};
+ghost use Rattle.radio_record.specs.Record.{fields-read, later-point, stage-point, point-read};
 use crate::JobFields;
 use crate::NUMBERS;
 use crate::PointRead;
@@ -24,48 +24,62 @@ pub(crate) fn read_fields(r: &[u8]) -> JobFields
     }
 }
 
+// The points from the configuration page on.
+fn later_point(stage: u8, page: u8) -> PointRead
+    ensures { λ r. ⌜ r ≡ later-point stage page ⌝ }
+{
+    if stage == 5 {
+        return PointRead::Point(JobPoint::SetsConfiguration);
+    }
+    if stage == 6 {
+        return PointRead::Point(JobPoint::SetsByte0);
+    }
+    if stage == 7 {
+        return PointRead::Point(JobPoint::AsksPage { page: wide(page) });
+    }
+    if stage == 8 {
+        return PointRead::Point(JobPoint::TakesPage { page: wide(page) });
+    }
+    if stage == 9 {
+        return PointRead::Point(JobPoint::SetsByte1);
+    }
+    PointRead::NoPoint
+}
+
+// The point of a running job.
+fn stage_point(stage: u8, page: u8) -> PointRead
+    ensures { λ r. ⌜ r ≡ stage-point stage page ⌝ }
+{
+    if stage == 0 {
+        return PointRead::Point(JobPoint::AsksConfiguration);
+    }
+    if stage == 1 {
+        return PointRead::Point(JobPoint::TakesConfiguration);
+    }
+    if stage == 2 {
+        return PointRead::Point(JobPoint::ErasesArea);
+    }
+    if stage == 3 {
+        return PointRead::Point(JobPoint::FeedsPage { page: wide(page) });
+    }
+    if stage == 4 {
+        return PointRead::Point(JobPoint::ErasesConfiguration);
+    }
+    later_point(stage, page)
+}
+
 // The point that the fields tell, in range or not.
 pub(crate) fn read_point(f: JobFields) -> PointRead
     ensures { λ r. ⌜ r ≡ point-read f ⌝ }
 {
-    if f.number != 0 {
-        return PointRead::Point(JobPoint::Finished {
-            ending: Ending {
-                number: f.number,
-                code: f.code,
-                offset: f.offset,
-            },
-        });
+    if f.number == 0 {
+        return stage_point(f.stage, f.page);
     }
-    if f.stage == 0 {
-        return PointRead::Point(JobPoint::AsksConfiguration);
-    }
-    if f.stage == 1 {
-        return PointRead::Point(JobPoint::TakesConfiguration);
-    }
-    if f.stage == 2 {
-        return PointRead::Point(JobPoint::ErasesArea);
-    }
-    if f.stage == 3 {
-        return PointRead::Point(JobPoint::FeedsPage { page: wide(f.page) });
-    }
-    if f.stage == 4 {
-        return PointRead::Point(JobPoint::ErasesConfiguration);
-    }
-    if f.stage == 5 {
-        return PointRead::Point(JobPoint::SetsConfiguration);
-    }
-    if f.stage == 6 {
-        return PointRead::Point(JobPoint::SetsByte0);
-    }
-    if f.stage == 7 {
-        return PointRead::Point(JobPoint::AsksPage { page: wide(f.page) });
-    }
-    if f.stage == 8 {
-        return PointRead::Point(JobPoint::TakesPage { page: wide(f.page) });
-    }
-    if f.stage == 9 {
-        return PointRead::Point(JobPoint::SetsByte1);
-    }
-    PointRead::NoPoint
+    PointRead::Point(JobPoint::Finished {
+        ending: Ending {
+            number: f.number,
+            code: f.code,
+            offset: f.offset,
+        },
+    })
 }

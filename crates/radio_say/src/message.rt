@@ -6,7 +6,7 @@ ghost use lib.ListN.{length, take, drop};
 ghost use Rattle.exchange.specs.Exchange.{ends};
 ghost use Rattle.radio_job.specs.declared.JobPoint.the-variants.{FeedsPage};
 ghost use Rattle.radio_job.specs.Image.{page-count};
-ghost use Rattle.radio_job.specs.Job.{command-bytes};
+ghost use Rattle.radio_job.specs.Job.{command-message};
 ghost use Rattle.radio_calls.specs.Calls.{takes-answer, message-put};
 ghost use Rattle.radio_say.specs.Code.Say.{point-says, asks-for};
 use radio_calls::RadioAdvanced;
@@ -45,7 +45,7 @@ pub(crate) fn ended(e: Ending) -> RadioAdvanced
 pub(crate) fn command(name: CommandName, p0: u8, p1: u8, p2: u8, out: &mut [u8]) -> RadioAdvanced
     requires { ⌜ 256 ≤ length (now out) ⌝ }
     ensures { λ r. ⌜ r ≡ asks-for 8 8 ⌝ }
-    ensures { λ _. ⌜ now (out .exit) ≡ command-bytes name p0 p1 p2 ++ drop 8 (now (out .entry)) ⌝ }
+    ensures { λ _. ⌜ now (out .exit) ≡ command-message name p0 p1 p2 ++ drop 8 (now (out .entry)) ⌝ }
 {
     let bytes = radio_command::build(RadioCommand {
         name: name,

@@ -21,7 +21,7 @@ use Rattle.radio_job.specs.declared.JobPoint.the-variants.{TakesPage, SetsByte1
 use Rattle.radio_job.specs.Image.{merged, image-fits}
 use Rattle.radio_job.specs.Job.{Message, JobExchange, take-reply, confirmed, fetched}
 use Rattle.radio_job.specs.State.{JobState, point-leaves, job-left, point-fits, state-fits}
-use Rattle.radio_job.specs.Code.Advance.{length-ending, reply-ending, next-point, next-page, advanced-by, job-advanced}
+use Rattle.radio_job.specs.Code.Advance.{length-ending, reply-ending, next-point, page-kept, job-advanced-by, job-advanced}
 use Rattle.radio_job.proofs.Laws.Image.{merged-long, Sized, sized}
 use Rattle.radio_job.proofs.Laws.Fits.{Fitting, fitting, next-fits, ends-fit}
 use Rattle.radio_job.proofs.Laws.Advance.{advances}
@@ -35,17 +35,17 @@ use Rattle.radio_calls.specs.declared.RadioAdvanced.{RadioAdvanced}
 use Rattle.radio_calls.specs.Calls.{RadioCall, job-takes, room-number, later-number, job-refusal, job-untouched, takes-number}
 use Rattle.radio_calls.specs.Calls.{takes-answer, message-put, takes-reply, job-does}
 use Rattle.radio_calls.specs.Family.{Radio}
-use Rattle.radio_point.specs.Code.After.{point-by, point-after}
+use Rattle.radio_point.specs.Code.After.{point-by, job-point-after}
 use Rattle.radio_say.specs.Code.Say.{point-says, may-say, say-answer, say-out}
 use Rattle.radio_advance.specs.Code.Kept.{takes-old, merged-held, held-after, held-at, held-next, says-next}
 
 -- The point after a reply is one of the job's.
 module _ (p : JobPoint) (im r : List ℕ) (i : image-fits (length im) ≡ true) (f : point-fits (length im) p ≡ true) where
-  pub after-is : point-after p im r ≡ point-by (reply-ending p im r) p (length im)
-  unfolding point-after
+  pub after-is : job-point-after p im r ≡ point-by (reply-ending p im r) p (length im)
+  unfolding job-point-after
   after-is = rw (i, f)
 
-  pub after-fits : point-fits (length im) (point-after p im r) ≡ true
+  pub after-fits : point-fits (length im) (job-point-after p im r) ≡ true
   after-fits =
       let z = sized (length im) i in
       ap (point-fits (length im)) after-is
@@ -110,8 +110,8 @@ module _ (h : List ℕ) (l : length h ≡ 520) where
   abbrev state : (n : ℕ) → JobPoint → JobState
   state n p = record { page = take 256 h; mask = mask-of h; bytes = n; point = p }
 
-  same-page : (p : JobPoint) (r im : List ℕ) → next-page p (mask-of h) (take 256 h) r ≡ take 256 h → takes-old p ≡ false
-      → cond (eqb (reply-ending p im r .number) 0) (next-page p (mask-of h) (take 256 h) r) (take 256 h) ≡ take 256 (held-after (takes-old p) h r)
+  same-page : (p : JobPoint) (r im : List ℕ) → page-kept p (mask-of h) (take 256 h) r ≡ take 256 h → takes-old p ≡ false
+      → cond (eqb (reply-ending p im r .number) 0) (page-kept p (mask-of h) (take 256 h) r) (take 256 h) ≡ take 256 (held-after (takes-old p) h r)
   unfolding held-after
   same-page p r im e f = rw f (by-test (eqb (reply-ending p im r .number) 0) (λ t. rw t e) (λ t. rw t))
 
@@ -123,7 +123,7 @@ module _ (h : List ℕ) (l : length h ≡ 520) where
       (λ t. rw t)
 
   page-cond : (p : JobPoint) (im r : List ℕ)
-      → cond (eqb (reply-ending p im r .number) 0) (next-page p (mask-of h) (take 256 h) r) (take 256 h) ≡ take 256 (held-after (takes-old p) h r)
+      → cond (eqb (reply-ending p im r .number) 0) (page-kept p (mask-of h) (take 256 h) r) (take 256 h) ≡ take 256 (held-after (takes-old p) h r)
   page-cond AsksConfiguration im r = same-page AsksConfiguration r im refl refl
   page-cond TakesConfiguration im r = page-taken r
   page-cond ErasesArea im r = same-page ErasesArea r im refl refl
@@ -139,7 +139,7 @@ module _ (h : List ℕ) (l : length h ≡ 520) where
   -- the state after a reply, by its parts
   pub state-is : (n : ℕ) (p : JobPoint) (im r : List ℕ) → length im ≡ n → image-fits (length im) ≡ true → point-fits (length im) p ≡ true
       → job-advanced im (state n p) r
-      ≡ record { page = take 256 (held-after (takes-old p) h r); mask = mask-of h; bytes = n; point = point-after p im r }
+      ≡ record { page = take 256 (held-after (takes-old p) h r); mask = mask-of h; bytes = n; point = job-point-after p im r }
   unfolding job-advanced
   state-is n p im r e i f =
       parts (reply-ending p im r)
@@ -147,9 +147,9 @@ module _ (h : List ℕ) (l : length h ≡ 520) where
       ∙ ap (λ (k : ℕ). record { page = take 256 (held-after (takes-old p) h r); mask = mask-of h; bytes = n; point = point-by (reply-ending p im r) p k }) (sym e)
       ∙ ap (λ (q : JobPoint). record { page = take 256 (held-after (takes-old p) h r); mask = mask-of h; bytes = n; point = q }) (sym (after-is p im r i f))
     where
-      parts : (v : Ending) → advanced-by v (state n p) r
+      parts : (v : Ending) → job-advanced-by v (state n p) r
           ≡ record {
-            page = cond (eqb (v .number) 0) (next-page p (mask-of h) (take 256 h) r) (take 256 h);
+            page = cond (eqb (v .number) 0) (page-kept p (mask-of h) (take 256 h) r) (take 256 h);
             mask = mask-of h;
             bytes = n;
             point = point-by v p n;
@@ -183,7 +183,7 @@ says-left (Finished e) im m c = refl
 
 -- A reply taken on by page, point and message, in this order.
 module _ (p next : JobPoint) (t : Bool) (h h₁ h₂ im q : List ℕ) (l : length h ≡ 520) (i : image-fits (length im) ≡ true)
-    (f : point-fits (length im) p ≡ true) (n : next ≡ point-after p im q) (o : t ≡ takes-old p) (e₁ : h₁ ≡ held-after t h q)
+    (f : point-fits (length im) p ≡ true) (n : next ≡ job-point-after p im q) (o : t ≡ takes-old p) (e₁ : h₁ ≡ held-after t h q)
     (e₂ : h₂ ≡ held-at (length im) next h₁) where
   abbrev merges : List ℕ
   merges = held-after (takes-old p) h q
@@ -197,14 +197,14 @@ module _ (p next : JobPoint) (t : Bool) (h h₁ h₂ im q : List ℕ) (l : lengt
 
   second-long : length h₂ ≡ 520
   unfolding held-next
-  second-long = ap length second ∙ at-long merges (after-long h l (takes-old p) q) (length im) (point-after p im q)
+  second-long = ap length second ∙ at-long merges (after-long h l (takes-old p) q) (length im) (job-point-after p im q)
 
   says : point-says next im (take 256 h₂) ≡ says-next p h im q
   unfolding says-next held-next
   says =
       ap (λ (x : JobPoint). point-says x im (take 256 h₂)) n
-      ∙ ap (λ (x : List ℕ). point-says (point-after p im q) im x)
-      (ap (λ (x : List ℕ). take 256 x) second ∙ at-page merges (after-long h l (takes-old p) q) (length im) (point-after p im q))
+      ∙ ap (λ (x : List ℕ). point-says (job-point-after p im q) im x)
+      (ap (λ (x : List ℕ). take 256 x) second ∙ at-page merges (after-long h l (takes-old p) q) (length im) (job-point-after p im q))
 
   module _ (out : List ℕ) (w : 256 ≤ length out) where
     may : may-say next im h₂ out ≡ true
@@ -304,14 +304,14 @@ module _ (h im q out : List ℕ) where
           let f = kept-with h im n p k d in
           ap (λ (e : JobExchange). said e) (sym (advances im kept-at q (kept h n p k .point) d))
           ∙ ap (λ (s : JobState). said (job-left im s)) (state-is h (f .long) n p im q d (f .image) (f .point))
-          ∙ says-left (point-after p im q) im (mask-of h) (take 256 (held-after (takes-old p) h q))
+          ∙ says-left (job-point-after p im q) im (mask-of h) (take 256 (held-after (takes-old p) h q))
 
       held-next-is : packed-job (job-advanced im kept-at q) ≡ held-next p h im q
       unfolding held-next
       held-next-is =
           let f = kept-with h im n p k d in
-          ap packed-job (state-is h (f .long) n p im q d (f .image) (f .point)) ∙ record-is h (f .long) n p (point-after p im q) q
-          ∙ ap (λ (i : ℕ). held-at i (point-after p im q) (held-after (takes-old p) h q)) (sym d)
+          ap packed-job (state-is h (f .long) n p im q d (f .image) (f .point)) ∙ record-is h (f .long) n p (job-point-after p im q) q
+          ∙ ap (λ (i : ℕ). held-at i (job-point-after p im q) (held-after (takes-old p) h q)) (sym d)
 
       does-is : job-does call ≡ takes-reply (some kept-at) h im q out
       unfolding job-does

@@ -13,7 +13,7 @@ use Rattle.radio_job.specs.declared.JobPoint.the-variants.{ErasesConfiguration,
 use Rattle.radio_job.specs.declared.JobPoint.the-variants.{TakesPage, SetsByte1, Finished}
 use Rattle.radio_job.specs.Image.{merged}
 use Rattle.radio_job.specs.Job.{Message}
-use Rattle.radio_point.specs.Code.After.{point-after}
+use Rattle.radio_point.specs.Code.After.{job-point-after}
 use Rattle.radio_record.specs.Record.{mask-of, point-bytes}
 use Rattle.radio_say.specs.Code.Say.{point-says}
 
@@ -45,8 +45,8 @@ held-at n p h = take 512 h ++ point-bytes n p
 
 -- the record after a reply: its page, then its numbers
 unfoldable pub held-next : JobPoint → (held image reply : List ℕ) → List ℕ
-held-next p h im r = held-at (length im) (point-after p im r) (held-after (takes-old p) h r)
+held-next p h im r = held-at (length im) (job-point-after p im r) (held-after (takes-old p) h r)
 
 -- what is said then
 unfoldable pub says-next : JobPoint → (held image reply : List ℕ) → Said Message Ending
-says-next p h im r = point-says (point-after p im r) im (take 256 (held-after (takes-old p) h r))
+says-next p h im r = point-says (job-point-after p im r) im (take 256 (held-after (takes-old p) h r))

@@ -19,7 +19,7 @@ use Rattle.exchange.proofs.Laws.Machine.{replies-follow, parts-join}
 use Rattle.exchange.proofs.Laws.Calls.{lists-are-replies, lists-alike}
 use Rattle.radio_job.specs.declared.Ending.{Ending}
 use Rattle.radio_job.specs.Image.{JobInput, input-refusal}
-use Rattle.radio_job.specs.Job.{Message, JobExchange, take-reply, still, fetched, confirmed, job}
+use Rattle.radio_job.specs.Job.{Message, JobExchange, take-reply, still-runs, fetched, confirmed, job}
 use Rattle.radio_job.specs.State.{JobState, opened-job, job-left, state-fits}
 use Rattle.radio_job.specs.Code.Advance.{job-advanced}
 use Rattle.radio_job.proofs.Laws.Advance.{advances}
@@ -63,7 +63,7 @@ said-told : (held : List ℕ) (x : Said Message Ending) (before : RadioTold) (r 
     ≡ record { held = held; ending = ending-of x; message = message-of x; expect = expect-of x }
 unfolding job-hears message-put
 said-told held (asks a) before r im q out =
-    ap (λ (m : List ℕ). record { held = held; ending = still; message = m; expect = a .expect }) (take-append-seam (a .bytes) (drop (length (a .bytes)) out))
+    ap (λ (m : List ℕ). record { held = held; ending = still-runs; message = m; expect = a .expect }) (take-append-seam (a .bytes) (drop (length (a .bytes)) out))
 said-told held (ends e) before r im q out = refl
 
 after-one : (g : JobInput) (qs : List (List ℕ)) (q : List ℕ) → job-advanced (g .image) (job-state-after g qs) q ≡ job-state-after g (qs ++ q ∷ [])

@@ -20,7 +20,8 @@ use Rattle.radio_job.specs.Image.{pages-for, page-count, image-pages, im
 use Rattle.radio_job.specs.Job.{JobExchange, unless, take-reply, say, answer-ending, confirmed, fetched, fed-pages, page-ending}
 use Rattle.radio_job.specs.Job.{pages-compared, protects, sets-byte-0, restores, ends-bad, ends-done}
 use Rattle.radio_job.specs.State.{JobState, point-leaves, job-left, ending-fits, point-fits}
-use Rattle.radio_job.specs.Code.Advance.{length-ending, last-ending, reply-ending, next-point, next-page, advanced-by, job-advanced}
+use Rattle.radio_job.specs.Code.Advance.{length-ending, last-ending, reply-ending, next-point, page-kept, job-advanced-by}
+use Rattle.radio_job.specs.Code.Advance.{job-advanced}
 use Rattle.radio_job.proofs.Laws.Image.{image-next, image-last}
 
 abbrev then-after : JobExchange → List ℕ → JobExchange
@@ -63,7 +64,7 @@ fetched-after p k r = confirmed-after _ (say [] 256 k) r
 
 -- what a state leaves after a reply: the next point's, unless the reply ends the job
 left-unless : (im : List ℕ) (v : Ending) (s : JobState) (r : List ℕ)
-    → job-left im (advanced-by v s r) ≡ unless v (point-leaves (next-point (s .point) (s .bytes)) im (s .mask) (next-page (s .point) (s .mask) (s .page) r))
+    → job-left im (job-advanced-by v s r) ≡ unless v (point-leaves (next-point (s .point) (s .bytes)) im (s .mask) (page-kept (s .point) (s .mask) (s .page) r))
 unfolding job-left
 left-unless im v s r = by-test (eqb (v .number) 0) (λ e. rw e) (λ e. rw e)
 
@@ -139,7 +140,7 @@ finished-stays n e r f = rw (fits-ended n e f)
 
 -- The law, point by point.
 pub point-moves : (p : JobPoint) (im m c r : List ℕ) → point-fits (length im) p ≡ true
-    → unless (reply-ending p im r) (point-leaves (next-point p (length im)) im m (next-page p m c r)) ≡ then-after (point-leaves p im m c) r
+    → unless (reply-ending p im r) (point-leaves (next-point p (length im)) im m (page-kept p m c r)) ≡ then-after (point-leaves p im m c) r
 point-moves AsksConfiguration im m c r f = sym (fetched-after 127 _ r)
 point-moves TakesConfiguration im m c r f = sym (said-after [] 256 _ r)
 point-moves ErasesArea im m c r f = sym (confirmed-after _ _ r)
@@ -157,5 +158,5 @@ pub advances : (im : List ℕ) (s : JobState) (r : List ℕ) → point-fits (s .
 unfolding job-left job-advanced
 advances im s r f l =
     left-unless im (reply-ending (s .point) im r) s r
-    ∙ ap (λ (n : ℕ). unless (reply-ending (s .point) im r) (point-leaves (next-point (s .point) n) im (s .mask) (next-page (s .point) (s .mask) (s .page) r))) (sym l)
+    ∙ ap (λ (n : ℕ). unless (reply-ending (s .point) im r) (point-leaves (next-point (s .point) n) im (s .mask) (page-kept (s .point) (s .mask) (s .page) r))) (sym l)
     ∙ point-moves (s .point) im (s .mask) (s .page) r (ap (λ (n : ℕ). point-fits n (s .point)) l ∙ f)

@@ -21,10 +21,12 @@ use Rattle.radio_job.specs.declared.JobPoint.the-variants.{AsksConfigura
 use Rattle.radio_job.specs.declared.JobPoint.the-variants.{ErasesConfiguration, SetsConfiguration, SetsByte0, AsksPage, TakesPage}
 use Rattle.radio_job.specs.declared.JobPoint.the-variants.{SetsByte1, Finished}
 use Rattle.radio_job.specs.Image.{JobInput, input-refusal, mask-fits, image-fits, pages-for, page-count, image-page, merged}
-use Rattle.radio_job.specs.Job.{ends-bad, ends-done, ends-differing, still, name-ending, read-ending, answer-ending, same, shared}
+use Rattle.radio_job.specs.Job.{ends-bad, ends-done, ends-differing, still-runs, name-ending, read-ending, answer-ending, same}
+use Rattle.radio_job.specs.Job.{shared}
 use Rattle.radio_job.specs.Job.{page-ending}
 use Rattle.radio_job.specs.State.{JobState, opened-job, ending-fits, point-fits, state-fits}
-use Rattle.radio_job.specs.Code.Advance.{length-ending, last-ending, reply-ending, next-point, next-page, advanced-by, job-advanced}
+use Rattle.radio_job.specs.Code.Advance.{length-ending, last-ending, reply-ending, next-point, page-kept, job-advanced-by}
+use Rattle.radio_job.specs.Code.Advance.{job-advanced}
 use Rattle.radio_job.proofs.Laws.Image.{image-page-long, merged-long, mask-long, Sized, sized, accepted-input}
 
 pub false-true : false ≡ true → ⊥
@@ -170,7 +172,7 @@ unfolding length-ending
 heard-long r = by-test (eqb (length r) 256) (λ e f. eqb-true (length r) 256 e) (λ e. rw e (λ f. absurd (false-true f)))
 
 next-long : (p : JobPoint) (im m c r : List ℕ) → length m ≡ 256 → length c ≡ 256
-    → eqb (reply-ending p im r .number) 0 ≡ true → length (next-page p m c r) ≡ 256
+    → eqb (reply-ending p im r .number) 0 ≡ true → length (page-kept p m c r) ≡ 256
 next-long AsksConfiguration im m c r a b e = b
 next-long TakesConfiguration im m c r a b e = merged-long 256 m c r a b (heard-long r e)
 next-long ErasesArea im m c r a b e = b

@@ -11,12 +11,12 @@ use Rattle.radio_job.specs.declared.JobPoint.the-variants.{AsksConfigura
 use Rattle.radio_job.specs.declared.JobPoint.the-variants.{ErasesConfiguration, SetsConfiguration, SetsByte0, AsksPage, TakesPage}
 use Rattle.radio_job.specs.declared.JobPoint.the-variants.{SetsByte1, Finished}
 use Rattle.radio_job.specs.Image.{pages-for, image-page, merged}
-use Rattle.radio_job.specs.Job.{still, ends-done, ends-bad, answer-ending, page-ending}
+use Rattle.radio_job.specs.Job.{still-runs, ends-done, ends-bad, answer-ending, page-ending}
 use Rattle.radio_job.specs.State.{JobState}
 
 -- a reply of this length goes on
 unfoldable pub length-ending : (expect : ℕ) → (reply : List ℕ) → Ending
-length-ending n r = cond (eqb (length r) n) still ends-bad
+length-ending n r = cond (eqb (length r) n) still-runs ends-bad
 
 -- an end in place of going on
 abbrev pub last-ending : Ending → Ending
@@ -51,25 +51,25 @@ next-point SetsByte1 n = Finished ends-done
 next-point (Finished e) n = Finished e
 
 -- the page that is kept after such a reply: the old configuration is merged as it comes
-abbrev pub next-page : JobPoint → (mask page reply : List ℕ) → List ℕ
-next-page AsksConfiguration m c r = c
-next-page TakesConfiguration m c r = merged m c r
-next-page ErasesArea m c r = c
-next-page (FeedsPage p) m c r = c
-next-page ErasesConfiguration m c r = c
-next-page SetsConfiguration m c r = c
-next-page SetsByte0 m c r = c
-next-page (AsksPage p) m c r = c
-next-page (TakesPage p) m c r = c
-next-page SetsByte1 m c r = c
-next-page (Finished e) m c r = c
+abbrev pub page-kept : JobPoint → (mask page reply : List ℕ) → List ℕ
+page-kept AsksConfiguration m c r = c
+page-kept TakesConfiguration m c r = merged m c r
+page-kept ErasesArea m c r = c
+page-kept (FeedsPage p) m c r = c
+page-kept ErasesConfiguration m c r = c
+page-kept SetsConfiguration m c r = c
+page-kept SetsByte0 m c r = c
+page-kept (AsksPage p) m c r = c
+page-kept (TakesPage p) m c r = c
+page-kept SetsByte1 m c r = c
+page-kept (Finished e) m c r = c
 
 -- the state after a reply
-abbrev pub advanced-by : Ending → JobState → (reply : List ℕ) → JobState
-advanced-by v s r =
+abbrev pub job-advanced-by : Ending → JobState → (reply : List ℕ) → JobState
+job-advanced-by v s r =
     cond (eqb (v .number) 0)
     (record {
-      page = next-page (s .point) (s .mask) (s .page) r;
+      page = page-kept (s .point) (s .mask) (s .page) r;
       mask = s .mask;
       bytes = s .bytes;
       point = next-point (s .point) (s .bytes);
@@ -77,4 +77,4 @@ advanced-by v s r =
     (record { page = s .page; mask = s .mask; bytes = s .bytes; point = Finished v })
 
 unfoldable pub job-advanced : (image : List ℕ) → JobState → (reply : List ℕ) → JobState
-job-advanced im s r = advanced-by (reply-ending (s .point) im r) s r
+job-advanced im s r = job-advanced-by (reply-ending (s .point) im r) s r

@@ -19,13 +19,13 @@ use Rattle.radio_job.specs.Job.{JobExchange, take-reply, job, ends-done}
 use Rattle.radio_job.proofs.Laws.Image.{merged-long, mask-long, sized, Accepted-input, accepted-input}
 use Rattle.radio_play.specs.Run.{JobRun, run-job}
 use Rattle.radio_play.specs.Flashes.{configuration-for, job-leaves, flash-with, flash-fed, feeding-flashes, job-flashes}
-use Rattle.radio_play.specs.Cut.{flash-cut, flash-after, full-mask, job-again, Job-cut, Job-cuts, Job-after-cut, Job-again-restores}
+use Rattle.radio_play.specs.Cut.{flash-cut, nth-flash, full-mask, job-again, Job-cut, Job-cuts, Job-after-cut, Job-again-restores}
 use Rattle.radio_play.proofs.Laws.Steps.{page-long}
 use Rattle.radio_play.proofs.Laws.Flashes.{with-long, byte-1-is, information-is}
 use Rattle.radio_play.proofs.Laws.Claims.{job-programs, job-messages, all-with}
 
-after-none : (n : ℕ) (f : List ℕ) → flash-after n f [] ≡ f
-unfolding flash-after
+after-none : (n : ℕ) (f : List ℕ) → nth-flash n f [] ≡ f
+unfolding nth-flash
 after-none zero f = refl
 after-none (suc n) f = refl
 
@@ -35,8 +35,8 @@ cut-ended zero t e f = refl
 cut-ended (suc n) t e f = refl
 
 -- the flash of a cut is one of the flashes of the run
-cut-is : (n : ℕ) (e : JobExchange) (t : RadioTarget) (f : List ℕ) → flash-cut n e t f ≡ flash-after n f (run-job e t f .flashes)
-unfolding flash-cut flash-after run-job
+cut-is : (n : ℕ) (e : JobExchange) (t : RadioTarget) (f : List ℕ) → flash-cut n e t f ≡ nth-flash n f (run-job e t f .flashes)
+unfolding flash-cut nth-flash run-job
 cut-is zero e t f = refl
 cut-is (suc n) (ended x) t f = refl
 cut-is (suc n) (ask a k) t f =
@@ -58,14 +58,14 @@ every-same : (P : List ℕ → Type 0) (n : ℕ) (x : List ℕ) → P x → Ever
 every-same P zero x p = tt
 every-same P (suc n) x p = (p, every-same P n x p)
 
-every-after : (P : List ℕ → Type 0) (n : ℕ) (f : List ℕ) (fs : List (List ℕ)) → P f → Every P fs → P (flash-after n f fs)
-unfolding flash-after
+every-after : (P : List ℕ → Type 0) (n : ℕ) (f : List ℕ) (fs : List (List ℕ)) → P f → Every P fs → P (nth-flash n f fs)
+unfolding nth-flash
 every-after P zero f fs p a = p
 every-after P (suc n) f [] p a = p
 every-after P (suc n) f (x ∷ fs) p a = every-after P n x fs (a .0) (a .1)
 
-first-after : (P : List ℕ → Type 0) (n : ℕ) (f : List ℕ) (xs ys : List (List ℕ)) → n ≤ length xs → P f → Every P xs → P (flash-after n f (xs ++ ys))
-unfolding flash-after
+first-after : (P : List ℕ → Type 0) (n : ℕ) (f : List ℕ) (xs ys : List (List ℕ)) → n ≤ length xs → P f → Every P xs → P (nth-flash n f (xs ++ ys))
+unfolding nth-flash
 first-after P zero f xs ys h p a = p
 first-after P (suc n) f [] ys h p a = absurd (let z : suc n ≤ 0 = h in omega arith)
 first-after P (suc n) f (x ∷ xs) ys h p a = let z : suc n ≤ suc (length xs) = h in first-after P n x xs ys (omega arith) (a .0) (a .1)
@@ -170,19 +170,19 @@ module _ (g : JobInput) (f : List ℕ) (r : input-refusal g ≡ 0) (w : length f
   open-with : (i a : ℕ) (t : List ℕ) → i ≤ k → length t ≡ 252 → Open (flash-with im i a 0xFF t info)
   open-with i a t h l e = let z : _≡_ {A = ℕ} 0xFF 0 = sym (byte-1-is im info few info-long i a 0xFF t h) ∙ e in omega arith
 
-  whole-after : (n : ℕ) → Whole-flash (flash-after n f (job-flashes g f))
+  whole-after : (n : ℕ) → Whole-flash (nth-flash n f (job-flashes g f))
   whole-after n =
       rw parts
       (every-after Whole-flash n f (before-last ++ (job-leaves g f ∷ [])) (w, refl)
       (every-join Whole-flash before-last _ (before Whole-flash (λ i a t. whole-with i a 0xFF t) (w, refl)) (leaves-whole, tt)))
 
   module _ (o : Open f) where
-    open-after : (n : ℕ) → n ≤ 3 * k + 6 → Open (flash-after n f (job-flashes g f))
+    open-after : (n : ℕ) → n ≤ 3 * k + 6 → Open (nth-flash n f (job-flashes g f))
     open-after n h =
         let m = many in
         rw parts (first-after Open n f before-last (job-leaves g f ∷ []) (omega arith) o (before Open open-with o))
 
-    closed-after : (n : ℕ) → (message-byte c 1 ≡ 0 → ⊥) → Open (flash-after n f (job-flashes g f))
+    closed-after : (n : ℕ) → (message-byte c 1 ≡ 0 → ⊥) → Open (nth-flash n f (job-flashes g f))
     closed-after n q =
         rw parts
         (every-after Open n f (before-last ++ (job-leaves g f ∷ [])) o
@@ -191,8 +191,8 @@ module _ (g : JobInput) (f : List ℕ) (r : input-refusal g ≡ 0) (w : length f
 -- THE CUT.
 pub job-cuts : Job-cuts
 job-cuts g f r w o n =
-    let is : flash-cut n (job g) fresh-state f ≡ flash-after n f (job-flashes g f) =
-    cut-is n (job g) fresh-state f ∙ ap (λ (x : JobRun). flash-after n f (x .flashes)) (job-programs g f r w o) in
+    let is : flash-cut n (job g) fresh-state f ≡ nth-flash n f (job-flashes g f) =
+    cut-is n (job g) fresh-state f ∙ ap (λ (x : JobRun). nth-flash n f (x .flashes)) (job-programs g f r w o) in
     let whole = whole-after g f r w n in
     record {
       holds = is;

@@ -21,7 +21,7 @@ use Rattle.radio_target.specs.Model.{commanded, response, message-refusal}
 use Rattle.radio_target.specs.State.{fresh-state}
 use Rattle.radio_job.specs.declared.Ending.{Ending}
 use Rattle.radio_job.specs.Image.{page-count, image-pages, image-page}
-use Rattle.radio_job.specs.Job.{JobExchange, say, unless, read-ending, answer-ending, confirmed, fetched, command-bytes, fed-pages, same}
+use Rattle.radio_job.specs.Job.{JobExchange, say, unless, read-ending, answer-ending, confirmed, fetched, command-message, fed-pages, same}
 use Rattle.radio_job.specs.Job.{shared, page-ending, pages-compared, protects, restores, ends-done}
 use Rattle.radio_job.proofs.Laws.Image.{image-next, image-last, image-page-long}
 use Rattle.radio_play.specs.Run.{JobRun, then-run, run-ends, run-job}
@@ -85,23 +85,23 @@ unfolding page-ending
 equal-page i p rest = rw (same-self p)
 
 -- what the commands do while code protection is off
-read-any : (i : ℕ) (f : List ℕ) → i < 127 → is-protected f ≡ false → commanded (command-bytes RdFlashPage i 0 0) f ≡ performs Nothing (Sends i 1)
+read-any : (i : ℕ) (f : List ℕ) → i < 127 → is-protected f ≡ false → commanded (command-message RdFlashPage i 0 0) f ≡ performs Nothing (Sends i 1)
 unfolding commanded built name-of rd-flash-page
 read-any i f h p =
     let l : i ≤ 128 = omega arith in
     rw (eq-eqb _ _ (refl {a = command-sum 0xA5 0x69 i 0 0}), lt-ltb i 127 h, p, le-ltb 128 i l)
 
-page-command : (f : List ℕ) → is-protected f ≡ false → commanded (command-bytes WrFlashPage 127 0 0) f ≡ performs (Page 127) (Takes 127 1)
+page-command : (f : List ℕ) → is-protected f ≡ false → commanded (command-message WrFlashPage 127 0 0) f ≡ performs (Page 127) (Takes 127 1)
 unfolding commanded built command-sum name-of wr-flash-page
 page-command f p = rw p
 
 byte-command : (lo to : ℕ) (f : List ℕ) → getD f (256 * 0x7F + lo) 0 ≡ 0xFF
-    → commanded (command-bytes WrFlashByte 0x7F lo to) f ≡ performs (Byte (256 * 0x7F + lo) to) Waits
+    → commanded (command-message WrFlashByte 0x7F lo to) f ≡ performs (Byte (256 * 0x7F + lo) to) Waits
 unfolding commanded built name-of wr-flash-byte
 byte-command lo to f e = rw (eq-eqb _ _ (refl {a = command-sum 0xA5 0x6C 0x7F lo to}), e)
 
 pub area-command : (n : ℕ) (f : List ℕ) → is-protected f ≡ false → 1 ≤ n → n ≤ 127
-    → commanded (command-bytes WrPrgArea n 0 0) f ≡ performs Area (Takes 0 n)
+    → commanded (command-message WrPrgArea n 0 0) f ≡ performs Area (Takes 0 n)
 unfolding commanded built name-of wr-prg-area
 area-command n f p h k =
     let z : n ≡ 0 → ⊥ = λ e. omega arith in
@@ -184,7 +184,7 @@ module _ (im info : List ℕ) (few : page-count im ≤ 126) (wi : length info �
 
   -- byte 0 and byte 1
   byte-0 : (v : ℕ) (t : List ℕ) (rest : JobExchange) → length t ≡ 252
-      → run-at (confirmed (command-bytes WrFlashByte 0x7F 0x00 v) rest) Waits (flash-with im n 0xFF 0xFF t info)
+      → run-at (confirmed (command-message WrFlashByte 0x7F 0x00 v) rest) Waits (flash-with im n 0xFF 0xFF t info)
       ≡ then-run (flash-with im n v 0xFF t info) (run-at rest Waits (flash-with im n v 0xFF t info))
   byte-0 v t rest l =
       let b : n ≤ n = omega arith in
@@ -193,7 +193,7 @@ module _ (im info : List ℕ) (few : page-count im ≤ 126) (wi : length info �
       ∙ ap (λ (g : List ℕ). then-run g (run-at rest Waits g)) (byte-0-set im info few wi n 0xFF 0xFF v t b)
 
   byte-1 : (a v : ℕ) (t : List ℕ) (rest : JobExchange) → length t ≡ 252
-      → run-at (confirmed (command-bytes WrFlashByte 0x7F 0x01 v) rest) Waits (flash-with im n a 0xFF t info)
+      → run-at (confirmed (command-message WrFlashByte 0x7F 0x01 v) rest) Waits (flash-with im n a 0xFF t info)
       ≡ then-run (flash-with im n a v t info) (run-at rest Waits (flash-with im n a v t info))
   byte-1 a v t rest l =
       let b : n ≤ n = omega arith in
@@ -203,7 +203,7 @@ module _ (im info : List ℕ) (few : page-count im ≤ 126) (wi : length info �
 
   -- the configuration page
   page-written : (c : List ℕ) (rest : JobExchange) → length c ≡ 256
-      → run-at (confirmed (command-bytes WrFlashPage 127 0 0) (confirmed c rest)) Waits (flash-fed im n info)
+      → run-at (confirmed (command-message WrFlashPage 127 0 0) (confirmed c rest)) Waits (flash-fed im n info)
       ≡ then-run (flash-fed im n info) (then-run (flash-with im n 0xFF 0xFF (drop 4 c) info) (run-at rest Waits (flash-with im n 0xFF 0xFF (drop 4 c) info)))
   page-written c rest l =
       let b : n ≤ n = omega arith in

@@ -27,7 +27,7 @@ use Rattle.radio_target.specs.Model.{commanded, is-point, is-taken, response, m
 use Rattle.radio_target.specs.State.{module-state, module-point, fresh-state, RadioStepped, radio-taken, radio-stepped, found-stepped}
 use Rattle.radio_job.specs.declared.Ending.{Ending}
 use Rattle.radio_job.specs.Image.{JobInput, page-count}
-use Rattle.radio_job.specs.Job.{JobExchange, say, unless, read-ending, answer-ending, confirmed, fetched, command-bytes, job, ends-error}
+use Rattle.radio_job.specs.Job.{JobExchange, say, unless, read-ending, answer-ending, confirmed, fetched, command-message, job, ends-error}
 use Rattle.radio_play.specs.Run.{JobRun, then-run, run-ends, run-job}
 use Rattle.radio_play.specs.Claims.{Job-protected}
 
@@ -96,7 +96,7 @@ page-long p f w h =
 
 -- a page that the module sends, if the command is taken
 pub page-sent : (i : ℕ) (k : List ℕ → JobExchange) (f : List ℕ) → length f ≡ 33024 → i < 129
-    → commanded (command-bytes RdFlashPage i 0 0) f ≡ performs Nothing (Sends i 1)
+    → commanded (command-message RdFlashPage i 0 0) f ≡ performs Nothing (Sends i 1)
     → run-at (fetched i k) Waits f ≡ then-run f (then-run f (run-at (k (flash-page i f)) Waits f))
 unfolding fetched message-refusal
 page-sent i k f w h e =
@@ -105,7 +105,7 @@ page-sent i k f w h e =
     ∙ ap (then-run f) (said [] 256 k (Sends i 1) f r (page-long i f w h))
 
 -- the configuration is always read, whatever the protection
-read-configuration : (f : List ℕ) → commanded (command-bytes RdFlashPage 127 0 0) f ≡ performs Nothing (Sends 127 1)
+read-configuration : (f : List ℕ) → commanded (command-message RdFlashPage 127 0 0) f ≡ performs Nothing (Sends 127 1)
 unfolding commanded built command-sum name-of rd-flash-page
 read-configuration f = refl
 
@@ -114,7 +114,7 @@ pub configuration-read : (k : List ℕ → JobExchange) (f : List ℕ) → lengt
 configuration-read k f w = let h : 127 < 129 = omega arith in page-sent 127 k f w h (read-configuration f)
 
 -- C4: with code protection on the job ends at its third reply
-write-refused : (n : ℕ) (f : List ℕ) → getD f 0x7F01 0 ≡ 0 → commanded (command-bytes WrPrgArea n 0 0) f ≡ answers-error 1
+write-refused : (n : ℕ) (f : List ℕ) → getD f 0x7F01 0 ≡ 0 → commanded (command-message WrPrgArea n 0 0) f ≡ answers-error 1
 unfolding commanded built name-of wr-prg-area is-protected
 write-refused n f p = rw (eq-eqb _ _ (refl {a = command-sum 0xA5 0x6E n 0 0}), p)
 

@@ -12,13 +12,13 @@ use Rattle.radio_job.specs.declared.Ending.{Ending}
 use Rattle.radio_job.specs.declared.JobPoint.{JobPoint}
 use Rattle.radio_job.specs.declared.JobPoint.the-variants.{TakesPage}
 use Rattle.radio_job.specs.Image.{image-fits, page-count, image-page}
-use Rattle.radio_job.specs.Job.{same, shared, still, ends-bad, page-ending}
+use Rattle.radio_job.specs.Job.{same, shared, still-runs, ends-bad, page-ending}
 use Rattle.radio_job.specs.State.{point-fits}
 use Rattle.radio_job.specs.Code.Advance.{reply-ending}
 use Rattle.radio_job.proofs.Laws.Image.{image-page-long}
 use Rattle.radio_job.proofs.Laws.Fits.{shares-all, shares-less}
 use Rattle.radio_image.specs.Page.{page-put}
-use Rattle.radio_point.specs.Code.After.{point-by, point-after}
+use Rattle.radio_point.specs.Code.After.{point-by, job-point-after}
 
 -- lists of one length are the same where they share all
 pub same-shared : (n : ℕ) (xs ys : List ℕ) → length xs ≡ n → length ys ≡ n → shared xs ys ≡ n → same xs ys ≡ true
@@ -43,7 +43,7 @@ module _ (p : ℕ) (im r w w₀ : List ℕ) (at : ℕ) (h : p < page-count im) (
   shares : at ≡ shared r (image-page im p)
   shares = e ∙ ap (λ (x : List ℕ). shared r x) wanted
 
-  pub page-agrees : at ≡ 256 → (v : Ending) → v ≡ still → v ≡ reply-ending (TakesPage p) im r
+  pub page-agrees : at ≡ 256 → (v : Ending) → v ≡ still-runs → v ≡ reply-ending (TakesPage p) im r
   unfolding page-ending
   page-agrees q v k =
       k ∙ rw (eq-eqb (length r) 256 l, same-shared 256 r (image-page im p) l (image-page-long im p h) (sym shares ∙ q))
@@ -75,15 +75,15 @@ offset-within o n =
     (λ t. let l = ltb-false (o / 256) n t in rw t (sym (le-ltb o (256 * n) (omega arith))))
 
 -- a point of another job stays
-pub stays-image : (p : JobPoint) (im r : List ℕ) → image-fits (length im) ≡ false → p ≡ point-after p im r
-unfolding point-after
+pub stays-image : (p : JobPoint) (im r : List ℕ) → image-fits (length im) ≡ false → p ≡ job-point-after p im r
+unfolding job-point-after
 stays-image p im r e = rw e
 
-pub stays-point : (p : JobPoint) (im r : List ℕ) → image-fits (length im) ≡ true → point-fits (length im) p ≡ false → p ≡ point-after p im r
-unfolding point-after
+pub stays-point : (p : JobPoint) (im r : List ℕ) → image-fits (length im) ≡ true → point-fits (length im) p ≡ false → p ≡ job-point-after p im r
+unfolding job-point-after
 stays-point p im r e f = rw (e, f)
 
 pub goes-by : (p q : JobPoint) (im r : List ℕ) → image-fits (length im) ≡ true → point-fits (length im) p ≡ true
-    → q ≡ point-by (reply-ending p im r) p (length im) → q ≡ point-after p im r
-unfolding point-after
+    → q ≡ point-by (reply-ending p im r) p (length im) → q ≡ job-point-after p im r
+unfolding job-point-after
 goes-by p q im r e f a = a ∙ rw (e, f)

@@ -20,6 +20,6 @@ abbrev pub point-by : Ending → JobPoint → (bytes : ℕ) → JobPoint
 point-by v p n = cond (eqb (v .number) 0) (next-point p n) (Finished v)
 
 -- the point after a reply; one that is none of the job's stays
-unfoldable pub point-after : JobPoint → (image reply : List ℕ) → JobPoint
-point-after p im r =
+unfoldable pub job-point-after : JobPoint → (image reply : List ℕ) → JobPoint
+job-point-after p im r =
     cond (image-fits (length im) && point-fits (length im) p) (point-by (reply-ending p im r) p (length im)) p

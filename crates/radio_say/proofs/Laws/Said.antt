@@ -20,9 +20,9 @@ use Rattle.radio_job.specs.declared.JobPoint.the-variants.{AsksConfiguration, T
 use Rattle.radio_job.specs.declared.JobPoint.the-variants.{ErasesConfiguration, SetsConfiguration, SetsByte0, AsksPage}
 use Rattle.radio_job.specs.declared.JobPoint.the-variants.{TakesPage, SetsByte1, Finished}
 use Rattle.radio_job.specs.Image.{image-fits, pages-for, page-count, image-pages, image-page, merged}
-use Rattle.radio_job.specs.Job.{Message, JobExchange, command-bytes, confirmed, fetched, fed-pages, pages-compared, protects, restores}
+use Rattle.radio_job.specs.Job.{Message, JobExchange, command-message, confirmed, fetched, fed-pages, pages-compared, protects, restores}
 use Rattle.radio_job.specs.State.{JobState, point-leaves, job-left, point-fits}
-use Rattle.radio_job.specs.Code.Advance.{length-ending, reply-ending, next-point, next-page, advanced-by, job-advanced}
+use Rattle.radio_job.specs.Code.Advance.{length-ending, reply-ending, next-point, page-kept, job-advanced-by, job-advanced}
 use Rattle.radio_job.proofs.Laws.Image.{image-next, image-last, image-page-long}
 use Rattle.radio_calls.specs.declared.RadioAdvanced.{RadioAdvanced}
 use Rattle.radio_calls.specs.Calls.{takes-answer, message-of, message-put}
@@ -32,7 +32,7 @@ abbrev asking : (message : List ℕ) → (expect : ℕ) → Said Message Ending
 asking m n = asks (record { bytes = m; expect = n })
 
 -- each point
-pub says-asks-configuration : (im c : List ℕ) → point-says AsksConfiguration im c ≡ asking (command-bytes RdFlashPage 127 0 0) 8
+pub says-asks-configuration : (im c : List ℕ) → point-says AsksConfiguration im c ≡ asking (command-message RdFlashPage 127 0 0) 8
 unfolding point-says said fetched confirmed
 says-asks-configuration im c = refl
 
@@ -40,11 +40,11 @@ pub says-takes-configuration : (im c : List ℕ) → point-says TakesConfigurati
 unfolding point-says said
 says-takes-configuration im c = refl
 
-pub says-erases-area : (im c : List ℕ) → point-says ErasesArea im c ≡ asking (command-bytes WrPrgArea (page-count im) 0 0) 8
+pub says-erases-area : (im c : List ℕ) → point-says ErasesArea im c ≡ asking (command-message WrPrgArea (page-count im) 0 0) 8
 unfolding point-says said confirmed
 says-erases-area im c = refl
 
-pub says-erases-configuration : (im c : List ℕ) → point-says ErasesConfiguration im c ≡ asking (command-bytes WrFlashPage 127 0 0) 8
+pub says-erases-configuration : (im c : List ℕ) → point-says ErasesConfiguration im c ≡ asking (command-message WrFlashPage 127 0 0) 8
 unfolding point-says said confirmed restores
 says-erases-configuration im c = refl
 
@@ -52,7 +52,7 @@ pub says-sets-configuration : (im c : List ℕ) → point-says SetsConfiguration
 unfolding point-says said confirmed
 says-sets-configuration im c = refl
 
-pub says-byte-0 : (im c : List ℕ) → point-says SetsByte0 im c ≡ asking (command-bytes WrFlashByte 0x7F 0x00 (message-byte c 0)) 8
+pub says-byte-0 : (im c : List ℕ) → point-says SetsByte0 im c ≡ asking (command-message WrFlashByte 0x7F 0x00 (message-byte c 0)) 8
 unfolding point-says said confirmed
 says-byte-0 im c = refl
 
@@ -60,7 +60,7 @@ pub says-takes-page : (p : ℕ) (im c : List ℕ) → point-says (TakesPage p) i
 unfolding point-says said
 says-takes-page p im c = refl
 
-pub says-byte-1 : (im c : List ℕ) → point-says SetsByte1 im c ≡ asking (command-bytes WrFlashByte 0x7F 0x01 (message-byte c 1)) 8
+pub says-byte-1 : (im c : List ℕ) → point-says SetsByte1 im c ≡ asking (command-message WrFlashByte 0x7F 0x01 (message-byte c 1)) 8
 unfolding point-says said confirmed protects
 says-byte-1 im c = refl
 
@@ -68,11 +68,11 @@ pub says-finished : (e : Ending) (im c : List ℕ) → point-says (Finished e) i
 unfolding point-says said
 says-finished e im c = refl
 
-compared-says : (p : ℕ) (q : List ℕ) (qs : List (List ℕ)) (rest : JobExchange) → said (pages-compared p (q ∷ qs) rest) ≡ asking (command-bytes RdFlashPage p 0 0) 8
+compared-says : (p : ℕ) (q : List ℕ) (qs : List (List ℕ)) (rest : JobExchange) → said (pages-compared p (q ∷ qs) rest) ≡ asking (command-message RdFlashPage p 0 0) 8
 unfolding said pages-compared fetched confirmed
 compared-says p q qs rest = refl
 
-pub says-asks-page : (p : ℕ) (im c : List ℕ) → p < page-count im → point-says (AsksPage p) im c ≡ asking (command-bytes RdFlashPage p 0 0) 8
+pub says-asks-page : (p : ℕ) (im c : List ℕ) → p < page-count im → point-says (AsksPage p) im c ≡ asking (command-message RdFlashPage p 0 0) 8
 unfolding point-says
 says-asks-page p im c h =
     ap (λ (t : List (List ℕ)). said (pages-compared p t (protects c))) (image-next im p h) ∙ compared-says p _ _ (protects c)
@@ -115,7 +115,7 @@ speaks x r out now m n k e l a o = (
   o ∙ ap (λ (i : ℕ). m ++ drop i out) (sym l) ∙ sym (ap (λ (y : Said Message Ending). message-of y ++ drop (length (message-of y)) out) e),
 )
 
-pub command-long : (n : CommandName) (p0 p1 p2 : ℕ) → length (command-bytes n p0 p1 p2) ≡ 8
+pub command-long : (n : CommandName) (p0 p1 p2 : ℕ) → length (command-message n p0 p1 p2) ≡ 8
 unfolding built
 command-long n p0 p1 p2 = refl
 

@@ -14,7 +14,7 @@ use Rattle.radio_say.proofs.Laws.Said.{says-asks-page, says-takes-page,
 use Rattle.radio_say.proofs.Laws.Said.{command-long}
 use Rattle.radio_job.specs.Image.{pages-for}
 use Rattle.radio_job.specs.State.{point-fits}
-use Rattle.radio_job.specs.Job.{command-bytes}
+use Rattle.radio_job.specs.Job.{command-message}
 use Rattle.radio_say.proofs.point.say_at.Statement.{statement}
 use Rattle.radio_say.proofs.point.say_at.Tie as tie
 
@@ -55,7 +55,7 @@ same-length-2 : tie.Need-same-length-2
 same-length-2 c = search needs
 
 returns-3 : tie.Need-returns-3
-returns-3 c = speaks _ _ (c .before .before .before .before .before .before .before .before .before .before .args .out .now) _ _ 8 8 (says-at _ _ (c .before .before .before .before .before .before .before .before .before .before .args .image .now) (take 256 (c .before .before .before .before .before .before .before .before .before .before .args .held .now)) _ (c .before .before .before .before .before .enum-told3 .given .1) (says-erases-area (c .before .before .before .before .before .before .before .before .before .before .args .image .now) (take 256 (c .before .before .before .before .before .before .before .before .before .before .args .held .now)))) (command-long _ _ _ _) (c .before .before .command2 .ensures .0) (c .before .before .command2 .ensures .1 ∙ ap (λ (n : ℕ). command-bytes WrPrgArea n 0 0 ++ drop 8 (c .before .before .before .before .before .before .before .before .before .before .args .out .now)) (c .before .before .before .before .pages-for .ensures))
+returns-3 c = speaks _ _ (c .before .before .before .before .before .before .before .before .before .before .args .out .now) _ _ 8 8 (says-at _ _ (c .before .before .before .before .before .before .before .before .before .before .args .image .now) (take 256 (c .before .before .before .before .before .before .before .before .before .before .args .held .now)) _ (c .before .before .before .before .before .enum-told3 .given .1) (says-erases-area (c .before .before .before .before .before .before .before .before .before .before .args .image .now) (take 256 (c .before .before .before .before .before .before .before .before .before .before .args .held .now)))) (command-long _ _ _ _) (c .before .before .command2 .ensures .0) (c .before .before .command2 .ensures .1 ∙ ap (λ (n : ℕ). command-message WrPrgArea n 0 0 ++ drop 8 (c .before .before .before .before .before .before .before .before .before .before .args .out .now)) (c .before .before .before .before .pages-for .ensures))
 
 enum-known-point : tie.Need-enum-known-point
 enum-known-point c = search needs
@@ -106,7 +106,7 @@ same-length-6 : tie.Need-same-length-6
 same-length-6 c = search needs
 
 returns-7 : tie.Need-returns-7
-returns-7 c = speaks _ _ (c .before .before .before .before .before .before .before .before .before .before .args .out .now) _ _ 8 8 (says-at _ _ (c .before .before .before .before .before .before .before .before .before .before .args .image .now) (take 256 (c .before .before .before .before .before .before .before .before .before .before .args .held .now)) _ (c .before .before .before .before .before .enum-told6 .given .1) (says-byte-0 (c .before .before .before .before .before .before .before .before .before .before .args .image .now) (take 256 (c .before .before .before .before .before .before .before .before .before .before .args .held .now)))) (command-long _ _ _ _) (c .before .before .command4 .ensures .0) (c .before .before .command4 .ensures .1 ∙ ap (λ (b : ℕ). command-bytes WrFlashByte 0x7F 0x00 b ++ drop 8 (c .before .before .before .before .before .before .before .before .before .before .args .out .now)) (page-byte (c .before .before .before .before .before .before .before .before .before .before .args .held .now) 0 (omega arith)))
+returns-7 c = speaks _ _ (c .before .before .before .before .before .before .before .before .before .before .args .out .now) _ _ 8 8 (says-at _ _ (c .before .before .before .before .before .before .before .before .before .before .args .image .now) (take 256 (c .before .before .before .before .before .before .before .before .before .before .args .held .now)) _ (c .before .before .before .before .before .enum-told6 .given .1) (says-byte-0 (c .before .before .before .before .before .before .before .before .before .before .args .image .now) (take 256 (c .before .before .before .before .before .before .before .before .before .before .args .held .now)))) (command-long _ _ _ _) (c .before .before .command4 .ensures .0) (c .before .before .command4 .ensures .1 ∙ ap (λ (b : ℕ). command-message WrFlashByte 0x7F 0x00 b ++ drop 8 (c .before .before .before .before .before .before .before .before .before .before .args .out .now)) (page-byte (c .before .before .before .before .before .before .before .before .before .before .args .held .now) 0 (omega arith)))
 
 enum-known-point-2 : tie.Need-enum-known-point-2
 enum-known-point-2 c = search needs
@@ -145,7 +145,7 @@ same-length-8 : tie.Need-same-length-8
 same-length-8 c = search needs
 
 returns-10 : tie.Need-returns-10
-returns-10 c = speaks _ _ (c .before .before .before .before .before .before .before .before .before .before .args .out .now) _ _ 8 8 (says-at _ _ (c .before .before .before .before .before .before .before .before .before .before .args .image .now) (take 256 (c .before .before .before .before .before .before .before .before .before .before .args .held .now)) _ (c .before .before .before .before .before .enum-told8 .given .1) (says-byte-1 (c .before .before .before .before .before .before .before .before .before .before .args .image .now) (take 256 (c .before .before .before .before .before .before .before .before .before .before .args .held .now)))) (command-long _ _ _ _) (c .before .before .command6 .ensures .0) (c .before .before .command6 .ensures .1 ∙ ap (λ (b : ℕ). command-bytes WrFlashByte 0x7F 0x01 b ++ drop 8 (c .before .before .before .before .before .before .before .before .before .before .args .out .now)) (page-byte (c .before .before .before .before .before .before .before .before .before .before .args .held .now) 1 (omega arith)))
+returns-10 c = speaks _ _ (c .before .before .before .before .before .before .before .before .before .before .args .out .now) _ _ 8 8 (says-at _ _ (c .before .before .before .before .before .before .before .before .before .before .args .image .now) (take 256 (c .before .before .before .before .before .before .before .before .before .before .args .held .now)) _ (c .before .before .before .before .before .enum-told8 .given .1) (says-byte-1 (c .before .before .before .before .before .before .before .before .before .before .args .image .now) (take 256 (c .before .before .before .before .before .before .before .before .before .before .args .held .now)))) (command-long _ _ _ _) (c .before .before .command6 .ensures .0) (c .before .before .command6 .ensures .1 ∙ ap (λ (b : ℕ). command-message WrFlashByte 0x7F 0x01 b ++ drop 8 (c .before .before .before .before .before .before .before .before .before .before .args .out .now)) (page-byte (c .before .before .before .before .before .before .before .before .before .before .args .held .now) 1 (omega arith)))
 
 enum-known-point-3 : tie.Need-enum-known-point-3
 enum-known-point-3 c = search needs
