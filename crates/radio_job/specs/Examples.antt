@@ -34,14 +34,18 @@ old-page = replicate 256 0x11
 abbrev pub page-of-55 : List ℕ
 page-of-55 = replicate 256 0x55
 
--- the merged page, and the messages up to the compare
+-- the merged page
 abbrev pub merged-page : List ℕ
 merged-page = 0x44 ∷ 0x44 ∷ 0x11 ∷ 0x11 ∷ (replicate 12 0x44 ++ replicate 240 0x11)
+
+-- the replies up to the first page that is read back, then these
+abbrev pub up-to-compare : List (List ℕ) → List (List ℕ)
+up-to-compare rs = ok-reply ∷ old-page ∷ ok-reply ∷ ok-reply ∷ ok-reply ∷ ok-reply ∷ ok-reply ∷ ok-reply ∷ rs
 
 pub record Examples : Type 0 where
   -- one page, to the end; a reply after it is not taken
   pub to-the-end :
-      says-after page-of-55 (ok-reply ∷ old-page ∷ ok-reply ∷ ok-reply ∷ ok-reply ∷ ok-reply ∷ ok-reply ∷ ok-reply ∷ page-of-55 ∷ ok-reply ∷ ok-reply ∷ [])
+      says-after page-of-55 (up-to-compare (page-of-55 ∷ ok-reply ∷ ok-reply ∷ []))
       ≡ then-asks [] 256
       ∷ then-asks (command-message WrPrgArea 1 0 0) 8
       ∷ then-asks page-of-55 8
@@ -64,7 +68,7 @@ pub record Examples : Type 0 where
       ∷ []
   -- a page read back that differs in its third byte
   pub third-byte-differs :
-      says-after page-of-55 (ok-reply ∷ old-page ∷ ok-reply ∷ ok-reply ∷ ok-reply ∷ ok-reply ∷ ok-reply ∷ ok-reply ∷ (0x55 ∷ 0x55 ∷ replicate 254 0x54) ∷ ok-reply ∷ [])
+      says-after page-of-55 (up-to-compare ((0x55 ∷ 0x55 ∷ replicate 254 0x54) ∷ ok-reply ∷ []))
       ≡ then-asks [] 256
       ∷ then-asks (command-message WrPrgArea 1 0 0) 8
       ∷ then-asks page-of-55 8

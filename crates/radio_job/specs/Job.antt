@@ -27,8 +27,8 @@ pub record Message : Type 0 where
 abbrev pub JobExchange : Type 0
 JobExchange = Exchange Message (List ℕ) Ending
 
--- A job goes on (`still-runs`), or ends: done, by a reply that is none (28), by an error answer (42), by a page
--- that differs (43).
+-- A job goes on (`still-runs`), or ends: done, by a reply that is none (28), by an error answer (42), by a
+-- page that differs (43).
 abbrev pub still-runs : Ending
 still-runs = record { number = 0; code = 0; offset = 0 }
 

@@ -83,3 +83,15 @@ Radio-calls-alike =
     → May-follow Radio (g .image) (heard Radio before (opens-job held out g)) others
     → in-a-row Radio calls ≡ in-a-row Radio others
     → told Radio before (opens-job held out g ∷ calls) ≡ told Radio before (opens-job held out g ∷ others)
+
+-- There are lists that `Radio-calls-program` is about: whatever the module's flash, some calls take its own
+-- replies, all of them.
+pub record Some-radio-calls (g : JobInput) (held out : List ℕ) (before : RadioTold) (f : List ℕ) : Type 0 where
+  pub calls : List RadioCall
+  pub follow : May-follow Radio (g .image) (heard Radio before (opens-job held out g)) calls
+  pub own : in-a-row Radio calls ≡ own-answers (job g) fresh-state f
+
+abbrev pub Radio-calls-exist : Type 0
+Radio-calls-exist =
+    (g : JobInput) (held out : List ℕ) (before : RadioTold) (f : List ℕ) → job-refusal (opens-job held out g) ≡ 0
+    → Some-radio-calls g held out before f

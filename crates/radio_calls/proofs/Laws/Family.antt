@@ -75,7 +75,7 @@ abbrev told-at : JobState → JobExchange → RadioTold
 told-at s e = let x = said e in record { held = packed-job s; ending = ending-of x; message = message-of x; expect = expect-of x }
 
 module _ (g : JobInput) (ok : input-refusal g ≡ 0) where
-  goes-on : Goes-on Radio (g .image) (by-job g)
+  pub goes-on : Goes-on Radio (g .image) (by-job g)
   unfolding job-does job-replies by-job
   goes-on qs (job-opens r im m d out) e h = absurd h
   goes-on qs (job-takes r im q out) e h =

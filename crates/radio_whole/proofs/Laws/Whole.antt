@@ -6,7 +6,7 @@ use mathlib.Core.Option.{Option, some, none}
 use Prim.Native.Nat.{ℕ, zero, suc, _+_, _*_, _≤_}
 use native.Mathlib.Omega.{arith}
 use lib.Dec.{eqb, ltb}
-use lib.ListN.{length, take, drop, getD}
+use lib.ListN.{length, take, drop, getD, replicate}
 use borrow.Author.Tests.{eqb-true, eqb-false, eq-eqb}
 use Rattle.laws.proofs.Tests.{by-test}
 use Rattle.exchange.specs.Exchange.{Said, said, ended, ask, after, fed}
@@ -21,21 +21,21 @@ use Rattle.radio_target.specs.State.{fresh-state, radio-stepped}
 use Rattle.radio_job.specs.declared.Ending.{Ending}
 use Rattle.radio_job.specs.Image.{JobInput, input-refusal, page-count}
 use Rattle.radio_job.specs.Job.{Message, JobExchange, take-reply, confirmed, fetched, job, ends-done, ends-error, ends-bad}
-use Rattle.radio_job.specs.State.{opened-job, job-left}
+use Rattle.radio_job.specs.State.{JobState, opened-job, job-left}
 use Rattle.radio_job.proofs.Laws.Ends.{Has-ended, job-ends, ends-fed}
 use Rattle.radio_job.proofs.Laws.Fits.{opened-fits}
 use Rattle.radio_record.specs.Record.{packed-job, unpacked-job}
-use Rattle.radio_calls.specs.Calls.{RadioCall, job-opens, room-number, first-number, job-refusal, job-does, message-put, opens-answer}
+use Rattle.radio_calls.specs.Calls.{RadioCall, job-opens, job-takes, later-number, room-number, first-number, job-refusal, job-does, message-put, opens-answer}
 use Rattle.radio_calls.specs.Calls.{message-of}
-use Rattle.radio_calls.specs.Family.{Radio, RadioTold, job-hears, job-machine, job-state-after, ending-of, expect-of, by-job}
-use Rattle.radio_calls.proofs.Laws.Family.{job-follows, same-fed, opened-leaves, job-lists, job-lists-alike}
+use Rattle.radio_calls.specs.Family.{Radio, RadioTold, job-hears, job-replies, job-machine, job-state-after, ending-of, expect-of, by-job}
+use Rattle.radio_calls.proofs.Laws.Family.{goes-on, job-follows, same-fed, opened-leaves, job-lists, job-lists-alike}
 use Rattle.radio_play.specs.Run.{JobRun, run-job}
 use Rattle.radio_play.specs.Flashes.{job-leaves, job-flashes}
 use Rattle.radio_play.proofs.Laws.Steps.{job-protected}
 use Rattle.radio_play.proofs.Laws.Claims.{job-programs, job-messages}
 use Rattle.radio_play.proofs.Laws.Cut.{job-cuts, job-again-restores}
 use Rattle.radio_whole.specs.Whole.{opens-job, own-answers, Protection-off, Radio-against, Radio-whole, Radio-calls-program}
-use Rattle.radio_whole.specs.Whole.{Radio-calls-alike}
+use Rattle.radio_whole.specs.Whole.{Radio-calls-alike, Some-radio-calls, Radio-calls-exist}
 
 -- a reply of the length expected, and one of another
 takes-right : (a : Message) (k : List ℕ → JobExchange) (r : List ℕ) → eqb (length r) (a .expect) ≡ true → after take-reply (ask a k) r ≡ k r
@@ -136,3 +136,45 @@ radio-calls-program g held out before calls ok may = whole g held out before ok 
 pub radio-calls-alike : Radio-calls-alike
 radio-calls-alike g held out before calls others ok a b e =
     told-all g held out before ok calls a ∙ ap (by-job g) e ∙ sym (told-all g held out before ok others b)
+
+-- Calls that take these replies one by one, from where replies before have led.
+calls-for : JobInput → (before replies : List (List ℕ)) → List RadioCall
+calls-for g qs [] = []
+calls-for g qs (r ∷ rs) = job-takes (by-job g qs .held) (g .image) r (replicate 256 0) ∷ calls-for g (qs ++ r ∷ []) rs
+
+module _ (g : JobInput) (ok : input-refusal g ≡ 0) where
+  -- each is accepted
+  taken : (qs : List (List ℕ)) (r : List ℕ) → job-refusal (job-takes (by-job g qs .held) (g .image) r (replicate 256 0)) ≡ 0
+  unfolding job-refusal by-job
+  taken qs r =
+      let f = job-follows (g .image) (opened-job g) qs (opened-fits g ok, refl) in
+      ap (λ (u : Option JobState). later-number u (length (g .image)) 256) (f .held) ∙ rw (eq-eqb (length (g .image)) (job-state-after g qs .bytes) (f .fine .1))
+
+  one-heard : (qs : List (List ℕ)) (r : List ℕ)
+      → heard Radio (by-job g qs) (job-takes (by-job g qs .held) (g .image) r (replicate 256 0)) ≡ by-job g (qs ++ r ∷ [])
+  unfolding heard done job-replies
+  one-heard qs r =
+      let c = job-takes (by-job g qs .held) (g .image) r (replicate 256 0) in
+      rw (eq-eqb (job-refusal c) 0 (taken qs r)) (goes-on g ok qs c (taken qs r) (refl, refl))
+
+  may-all : (qs rs : List (List ℕ)) → May-follow Radio (g .image) (by-job g qs) (calls-for g qs rs)
+  unfolding calls-for
+  may-all qs [] = tt
+  may-all qs (r ∷ rs) = (λ _. (refl, refl), rw (one-heard qs r) (may-all (qs ++ r ∷ []) rs))
+
+  row-all : (qs rs : List (List ℕ)) → in-a-row Radio (calls-for g qs rs) ≡ rs
+  unfolding in-a-row job-replies calls-for
+  row-all qs [] = refl
+  row-all qs (r ∷ rs) =
+      rw (eq-eqb (job-refusal (job-takes (by-job g qs .held) (g .image) r (replicate 256 0))) 0 (taken qs r))
+      (ap (λ (t : List (List ℕ)). r ∷ t) (row-all (qs ++ r ∷ []) rs))
+
+pub radio-calls-exist : Radio-calls-exist
+radio-calls-exist g held out before f ok =
+    let a = accepted g held out before ok in
+    let rs = own-answers (job g) fresh-state f in
+    record {
+      calls = calls-for g [] rs;
+      follow = rw (opening-told g held out before ok) (may-all g a [] rs);
+      own = row-all g a [] rs;
+    }
