@@ -11,8 +11,8 @@ abbrev pub bad-mask : ℕ
 bad-mask = 29
 
 -- an image of 0 or above 32,256 bytes
-abbrev pub bad-radio-image : ℕ
-bad-radio-image = 30
+abbrev pub bad-image-length : ℕ
+bad-image-length = 30
 
 -- the module answered with an error; its code stands beside
 abbrev pub error-answer : ℕ

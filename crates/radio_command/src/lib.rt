@@ -54,7 +54,7 @@ pub const BAD_MESSAGE: u32 = 28;
 pub const BAD_MASK: u32 = 29;
 
 // An image of 0 or above 32,256 bytes.
-pub const BAD_RADIO_IMAGE: u32 = 30;
+pub const BAD_IMAGE_LENGTH: u32 = 30;
 
 // The module answered with an error; its code stands beside.
 pub const ERROR_ANSWER: u32 = 42;

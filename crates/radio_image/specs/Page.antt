@@ -7,5 +7,5 @@ use lib.ListN.{length}
 use Rattle.radio_job.specs.Image.{page-count, image-page}
 
 -- the buffer afterwards: the page, if it is one of the image's and the buffer has 256 bytes
-unfoldable pub page-put : (image : List ℕ) → (page : ℕ) → (out : List ℕ) → List ℕ
-page-put im p out = cond (eqb (length out) 256 && ltb p (page-count im)) (image-page im p) out
+unfoldable pub image-page-put : (image : List ℕ) → (page : ℕ) → (out : List ℕ) → List ℕ
+image-page-put im p out = cond (eqb (length out) 256 && ltb p (page-count im)) (image-page im p) out

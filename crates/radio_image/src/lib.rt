@@ -6,10 +6,10 @@ ghost use lib.Dec.{eqb};
 ghost use lib.ListN.{length, replicate};
 ghost use Rattle.radio_job.specs.Image.{is-mask, mask-fits, image-fits, input-number, pages-for};
 ghost use Rattle.radio_job.specs.Job.{shared};
-ghost use Rattle.radio_image.specs.Page.{page-put};
+ghost use Rattle.radio_image.specs.Page.{image-page-put};
 ghost use Rattle.radio_image.specs.Code.Stop.{page-stop};
+use radio_command::BAD_IMAGE_LENGTH;
 use radio_command::BAD_MASK;
-use radio_command::BAD_RADIO_IMAGE;
 
 // A page of the module's flash, and so the length of mask and data.
 pub const PAGE_BYTES: usize = 256;
@@ -80,7 +80,7 @@ pub fn input_refusal(mask: &[u8], ours: usize, bytes: usize) -> u32
     if image_fits(bytes) {
         return 0;
     }
-    BAD_RADIO_IMAGE
+    BAD_IMAGE_LENGTH
 }
 
 // The number of pages that so many bytes take.
@@ -135,7 +135,7 @@ fn page_end(start: usize, bytes: usize) -> usize
 // Writes a page of the padded image into a buffer of 256 bytes. Another buffer, and one for a page that the
 // image does not have, is left as it was.
 pub fn put_page(image: &[u8], page: usize, out: &mut [u8])
-    ensures { λ _. ⌜ now (out .exit) ≡ page-put (now (image .entry)) page (now (out .entry)) ⌝ }
+    ensures { λ _. ⌜ now (out .exit) ≡ image-page-put (now (image .entry)) page (now (out .entry)) ⌝ }
 {
     if out.len() != PAGE_BYTES {
         return;

@@ -5,7 +5,7 @@ use mathlib.Core.List.{List, [], _∷_, _++_}
 use Prim.Native.Nat.{ℕ, zero, suc, _+_, _*_, _-_, _/_}
 use lib.Dec.{eqb, leb}
 use lib.ListN.{length, take, drop, replicate, getD}
-use Rattle.radio_command.specs.Numbers.{bad-mask, bad-radio-image}
+use Rattle.radio_command.specs.Numbers.{bad-mask, bad-image-length}
 
 -- the image, the mask, and our data
 pub record JobInput : Type 0 where
@@ -28,7 +28,7 @@ image-fits n = leb 1 n && leb n 32256
 
 -- 29 for mask or data, then 30 for the image
 unfoldable pub input-number : (mask : List ℕ) → (ours image : ℕ) → ℕ
-input-number m k n = cond (mask-fits m && eqb k 256) (cond (image-fits n) 0 bad-radio-image) bad-mask
+input-number m k n = cond (mask-fits m && eqb k 256) (cond (image-fits n) 0 bad-image-length) bad-mask
 
 abbrev pub input-refusal : JobInput → ℕ
 input-refusal g = input-number (g .mask) (length (g .ours)) (length (g .image))

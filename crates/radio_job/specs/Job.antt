@@ -96,11 +96,11 @@ fed-pages [] rest = rest
 fed-pages (p ∷ ps) rest = elim ps [ [] ↦ confirmed p rest | _∷_ q qs ↦ say p 0 (λ _. fed-pages ps rest) ]
 
 -- whether two pages are the same
-unfoldable pub same : List ℕ → List ℕ → Bool
-same [] [] = true
-same [] (y ∷ ys) = false
-same (x ∷ xs) [] = false
-same (x ∷ xs) (y ∷ ys) = eqb x y && same xs ys
+unfoldable pub same-bytes : List ℕ → List ℕ → Bool
+same-bytes [] [] = true
+same-bytes [] (y ∷ ys) = false
+same-bytes (x ∷ xs) [] = false
+same-bytes (x ∷ xs) (y ∷ ys) = eqb x y && same-bytes xs ys
 
 -- how many bytes two pages share before the first that differs
 unfoldable pub shared : List ℕ → List ℕ → ℕ
@@ -110,7 +110,7 @@ shared (x ∷ xs) (y ∷ ys) = cond (eqb x y) (suc (shared xs ys)) 0
 
 -- how a job stands after a page of the image was read back
 unfoldable pub page-ending : (page : ℕ) → (wanted reply : List ℕ) → Ending
-page-ending i p r = cond (same r p) still-runs (ends-differing (256 * i + shared r p))
+page-ending i p r = cond (same-bytes r p) still-runs (ends-differing (256 * i + shared r p))
 
 -- the pages read back, from this one on, and compared as they come
 unfoldable pub pages-compared : (page : ℕ) → List (List ℕ) → JobExchange → JobExchange

@@ -1,5 +1,5 @@
 // The radio module's programming job: its types. The order of the job is an exchange, in specs/; its code
-// stands in `radio_step`.
+// stands in `radio_point`, `radio_say` and `radio_advance`.
 
 // How a job stands after a reply: with number 0 it goes on; otherwise it has ended, 42 with the module's
 // error code, 43 with the offset of the first byte that differs.

@@ -1,7 +1,7 @@
 // What the last eight bytes of a record say, whatever they are.
 ghost use mathlib.Core.Path.{_≡_};
 ghost use lib.ListN.{length};
-ghost use Rattle.radio_record.specs.Record.{fields-read, later-point, stage-point, point-read};
+ghost use Rattle.radio_record.specs.Record.{job-fields-read, later-job-point, stage-point, point-read};
 use crate::JobFields;
 use crate::NUMBERS;
 use crate::PointRead;
@@ -13,7 +13,7 @@ use radio_job::JobPoint;
 
 pub(crate) fn read_fields(r: &[u8]) -> JobFields
     requires { ⌜ length (now r) ≡ 520 ⌝ }
-    ensures { λ q. ⌜ q ≡ fields-read (now (r .entry)) ⌝ }
+    ensures { λ q. ⌜ q ≡ job-fields-read (now (r .entry)) ⌝ }
 {
     JobFields {
         stage: r[NUMBERS + 2],
@@ -26,7 +26,7 @@ pub(crate) fn read_fields(r: &[u8]) -> JobFields
 
 // The points from the configuration page on.
 fn later_point(stage: u8, page: u8) -> PointRead
-    ensures { λ r. ⌜ r ≡ later-point stage page ⌝ }
+    ensures { λ r. ⌜ r ≡ later-job-point stage page ⌝ }
 {
     if stage == 5 {
         return PointRead::Point(JobPoint::SetsConfiguration);

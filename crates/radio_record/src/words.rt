@@ -1,16 +1,16 @@
 // Numbers of one and of two bytes, lowest byte first.
 ghost use mathlib.Core.Path.{_≡_};
 ghost use Prim.Native.Nat.{_+_, _*_};
-ghost use Rattle.radio_record.specs.Record.{low, high};
+ghost use Rattle.radio_record.specs.Record.{field-low, field-high};
 
 pub(crate) fn low(x: usize) -> u8
-    ensures { λ r. ⌜ r ≡ low x ⌝ }
+    ensures { λ r. ⌜ r ≡ field-low x ⌝ }
 {
     (x % 256) as u8
 }
 
 pub(crate) fn high(x: usize) -> u8
-    ensures { λ r. ⌜ r ≡ high x ⌝ }
+    ensures { λ r. ⌜ r ≡ field-high x ⌝ }
 {
     (x / 256 % 256) as u8
 }

@@ -1,6 +1,6 @@
 // The last eight bytes of a record.
 ghost use mathlib.Core.Path.{_≡_};
-ghost use Rattle.radio_record.specs.Record.{stage-fields, point-fields, fields-laid, point-bytes};
+ghost use Rattle.radio_record.specs.Record.{stage-fields, job-point-fields, fields-laid, point-bytes};
 use crate::JobFields;
 use crate::words::high;
 use crate::words::low;
@@ -19,7 +19,7 @@ fn stage_fields(stage: u8, page: usize) -> JobFields
 }
 
 fn point_fields(point: JobPoint) -> JobFields
-    ensures { λ r. ⌜ r ≡ point-fields point ⌝ }
+    ensures { λ r. ⌜ r ≡ job-point-fields point ⌝ }
 {
     match point {
         JobPoint::AsksConfiguration => stage_fields(0, 0),

@@ -10,16 +10,16 @@ use lib.Seq.{take-all, take-length, take-append-le, drop-append-le}
 use borrow.Author.Tests.{eq-eqb, ne-eqb, lt-ltb, le-ltb, ltb-true, ltb-false}
 use Rattle.laws.proofs.Tests.{by-test}
 use Rattle.radio_job.specs.Image.{page-count, padded, image-page}
-use Rattle.radio_image.specs.Page.{page-put}
+use Rattle.radio_image.specs.Page.{image-page-put}
 use Rattle.radio_image.specs.Code.Stop.{page-stop}
 
 -- the buffers that are left as they were
-pub other-buffer : (im : List ℕ) (p : ℕ) (out : List ℕ) → (length out ≡ 256 → ⊥) → out ≡ page-put im p out
-unfolding page-put
+pub other-buffer : (im : List ℕ) (p : ℕ) (out : List ℕ) → (length out ≡ 256 → ⊥) → out ≡ image-page-put im p out
+unfolding image-page-put
 other-buffer im p out n = rw (ne-eqb (length out) 256 n)
 
-pub other-page : (im : List ℕ) (p : ℕ) (out : List ℕ) → length out ≡ 256 → page-count im ≤ p → out ≡ page-put im p out
-unfolding page-put
+pub other-page : (im : List ℕ) (p : ℕ) (out : List ℕ) → length out ≡ 256 → page-count im ≤ p → out ≡ image-page-put im p out
+unfolding image-page-put
 other-page im p out l h = rw (eq-eqb (length out) 256 l, le-ltb p (page-count im) h)
 
 drop-replicate : (k n v : ℕ) → drop k (replicate n v) ≡ replicate (n - k) v
@@ -81,8 +81,8 @@ module _ (im : List ℕ) (p : ℕ) (h : p < page-count im) where
   -- the buffer after it was filled and the image's bytes were copied into it
   pub put-is : (out bytes now : List ℕ) (stop : ℕ) → length out ≡ 256 → bytes ≡ replicate (length out) 0xFF
       → stop ≡ page-stop (p * 256) (length im) → stop ≤ length im
-      → (let src = take (stop - p * 256) (drop (p * 256) im) in now ≡ take (length src) src ++ drop (length src) bytes) → now ≡ page-put im p out
-  unfolding page-put
+      → (let src = take (stop - p * 256) (drop (p * 256) im) in now ≡ take (length src) src ++ drop (length src) bytes) → now ≡ image-page-put im p out
+  unfolding image-page-put
   put-is out bytes now stop l b e m q =
       let z : p * 256 ≡ start = omega arith in
       let n = stop - start in

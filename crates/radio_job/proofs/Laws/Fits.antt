@@ -21,7 +21,7 @@ use Rattle.radio_job.specs.declared.JobPoint.the-variants.{AsksConfigura
 use Rattle.radio_job.specs.declared.JobPoint.the-variants.{ErasesConfiguration, SetsConfiguration, SetsByte0, AsksPage, TakesPage}
 use Rattle.radio_job.specs.declared.JobPoint.the-variants.{SetsByte1, Finished}
 use Rattle.radio_job.specs.Image.{JobInput, input-refusal, mask-fits, image-fits, pages-for, page-count, image-page, merged}
-use Rattle.radio_job.specs.Job.{ends-bad, ends-done, ends-differing, still-runs, name-ending, read-ending, answer-ending, same}
+use Rattle.radio_job.specs.Job.{ends-bad, ends-done, ends-differing, still-runs, name-ending, read-ending, answer-ending, same-bytes}
 use Rattle.radio_job.specs.Job.{shared}
 use Rattle.radio_job.specs.Job.{page-ending}
 use Rattle.radio_job.specs.State.{JobState, opened-job, ending-fits, point-fits, state-fits}
@@ -95,8 +95,8 @@ unfolding length-ending
 length-fits n k r = by-test (eqb (length r) k) (λ e. rw e (λ f. absurd (true-false f))) (λ e. rw e (λ f. bad-fits n))
 
 -- pages of one length that differ share fewer bytes
-pub shares-less : (xs ys : List ℕ) → length xs ≡ length ys → same xs ys ≡ false → shared xs ys < length ys
-unfolding same shared
+pub shares-less : (xs ys : List ℕ) → length xs ≡ length ys → same-bytes xs ys ≡ false → shared xs ys < length ys
+unfolding same-bytes shared
 shares-less [] [] l e = absurd (true-false e)
 shares-less [] (y ∷ ys) l e = absurd (let z : 0 ≡ suc (length ys) = l in omega arith)
 shares-less (x ∷ xs) [] l e = absurd (let z : suc (length xs) ≡ 0 = l in omega arith)
@@ -107,19 +107,19 @@ shares-less (x ∷ xs) (y ∷ ys) l e =
     (λ t. let j : 0 < suc (length ys) = omega arith in rw t j)
 
 -- pages that are the same share all
-pub shares-all : (xs ys : List ℕ) → same xs ys ≡ true → shared xs ys ≡ length ys
-unfolding same shared
+pub shares-all : (xs ys : List ℕ) → same-bytes xs ys ≡ true → shared xs ys ≡ length ys
+unfolding same-bytes shared
 shares-all [] [] e = refl
 shares-all [] (y ∷ ys) e = absurd (false-true e)
 shares-all (x ∷ xs) [] e = absurd (false-true e)
-shares-all (x ∷ xs) (y ∷ ys) e = let b = both (eqb x y) (same xs ys) e in rw (b .0) (ap suc (shares-all xs ys (b .1)))
+shares-all (x ∷ xs) (y ∷ ys) e = let b = both (eqb x y) (same-bytes xs ys) e in rw (b .0) (ap suc (shares-all xs ys (b .1)))
 
 page-fits : (im : List ℕ) (p : ℕ) (r : List ℕ) → p < page-count im → length r ≡ 256
     → eqb (page-ending p (image-page im p) r .number) 0 ≡ false → ending-fits (length im) (page-ending p (image-page im p) r) ≡ true
 unfolding page-ending ending-fits
 page-fits im p r h l =
     let q = image-page-long im p h in
-    by-test (same r (image-page im p))
+    by-test (same-bytes r (image-page im p))
     (λ e. rw e (λ f. absurd (true-false f)))
     (λ e.
     let k = shares-less r (image-page im p) (l ∙ sym q) e in

@@ -21,7 +21,7 @@ use Rattle.radio_target.specs.Model.{commanded, response, message-refusal}
 use Rattle.radio_target.specs.State.{fresh-state}
 use Rattle.radio_job.specs.declared.Ending.{Ending}
 use Rattle.radio_job.specs.Image.{page-count, image-pages, image-page}
-use Rattle.radio_job.specs.Job.{JobExchange, say, unless, read-ending, answer-ending, confirmed, fetched, command-message, fed-pages, same}
+use Rattle.radio_job.specs.Job.{JobExchange, say, unless, read-ending, answer-ending, confirmed, fetched, command-message, fed-pages, same-bytes}
 use Rattle.radio_job.specs.Job.{shared, page-ending, pages-compared, protects, restores, ends-done}
 use Rattle.radio_job.proofs.Laws.Image.{image-next, image-last, image-page-long}
 use Rattle.radio_play.specs.Run.{JobRun, then-run, run-ends, run-job}
@@ -75,8 +75,8 @@ unfolding pages-compared
 compared-none i rest = refl
 
 -- a page that is the image's goes on
-same-self : (xs : List ℕ) → same xs xs ≡ true
-unfolding same
+same-self : (xs : List ℕ) → same-bytes xs xs ≡ true
+unfolding same-bytes
 same-self [] = refl
 same-self (x ∷ xs) = rw (eq-eqb x x refl) (same-self xs)
 

@@ -12,31 +12,31 @@ use Rattle.radio_job.specs.declared.Ending.{Ending}
 use Rattle.radio_job.specs.declared.JobPoint.{JobPoint}
 use Rattle.radio_job.specs.declared.JobPoint.the-variants.{TakesPage}
 use Rattle.radio_job.specs.Image.{image-fits, page-count, image-page}
-use Rattle.radio_job.specs.Job.{same, shared, still-runs, ends-bad, page-ending}
+use Rattle.radio_job.specs.Job.{same-bytes, shared, still-runs, ends-bad, page-ending}
 use Rattle.radio_job.specs.State.{point-fits}
 use Rattle.radio_job.specs.Code.Advance.{reply-ending}
 use Rattle.radio_job.proofs.Laws.Image.{image-page-long}
 use Rattle.radio_job.proofs.Laws.Fits.{shares-all, shares-less}
-use Rattle.radio_image.specs.Page.{page-put}
+use Rattle.radio_image.specs.Page.{image-page-put}
 use Rattle.radio_point.specs.Code.After.{point-by, job-point-after}
 
 -- lists of one length are the same where they share all
-pub same-shared : (n : ℕ) (xs ys : List ℕ) → length xs ≡ n → length ys ≡ n → shared xs ys ≡ n → same xs ys ≡ true
-same-shared n xs ys a b e = by-test (same xs ys) (λ t. t) (λ t. absurd (let l = shares-less xs ys (a ∙ sym b) t in omega arith))
+pub same-shared : (n : ℕ) (xs ys : List ℕ) → length xs ≡ n → length ys ≡ n → shared xs ys ≡ n → same-bytes xs ys ≡ true
+same-shared n xs ys a b e = by-test (same-bytes xs ys) (λ t. t) (λ t. absurd (let l = shares-less xs ys (a ∙ sym b) t in omega arith))
 
-pub other-shared : (n : ℕ) (xs ys : List ℕ) → length ys ≡ n → (shared xs ys ≡ n → ⊥) → same xs ys ≡ false
-other-shared n xs ys b e = by-test (same xs ys) (λ t. absurd (e (shares-all xs ys t ∙ b))) (λ t. t)
+pub other-shared : (n : ℕ) (xs ys : List ℕ) → length ys ≡ n → (shared xs ys ≡ n → ⊥) → same-bytes xs ys ≡ false
+other-shared n xs ys b e = by-test (same-bytes xs ys) (λ t. absurd (e (shares-all xs ys t ∙ b))) (λ t. t)
 
 -- a page that was put is the image's
-pub put-page-is : (im : List ℕ) (p : ℕ) (out : List ℕ) → length out ≡ 256 → p < page-count im → page-put im p out ≡ image-page im p
-unfolding page-put
+pub put-page-is : (im : List ℕ) (p : ℕ) (out : List ℕ) → length out ≡ 256 → p < page-count im → image-page-put im p out ≡ image-page im p
+unfolding image-page-put
 put-page-is im p out l h = rw (eq-eqb (length out) 256 l, lt-ltb p (page-count im) h)
 
 -- A page read back, by the bytes that it shares with the image's.
 pub short-page : (p : ℕ) (im r : List ℕ) (e : Ending) → (length r ≡ 256 → ⊥) → e ≡ ends-bad → e ≡ reply-ending (TakesPage p) im r
 short-page p im r e n q = q ∙ rw (ne-eqb (length r) 256 n)
 
-module _ (p : ℕ) (im r w w₀ : List ℕ) (at : ℕ) (h : p < page-count im) (l : length r ≡ 256) (is : w ≡ page-put im p w₀) (l₀ : length w₀ ≡ 256) (e : at ≡ shared r w) where
+module _ (p : ℕ) (im r w w₀ : List ℕ) (at : ℕ) (h : p < page-count im) (l : length r ≡ 256) (is : w ≡ image-page-put im p w₀) (l₀ : length w₀ ≡ 256) (e : at ≡ shared r w) where
   wanted : w ≡ image-page im p
   wanted = is ∙ put-page-is im p w₀ l₀ h
 

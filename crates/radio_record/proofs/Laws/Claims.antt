@@ -18,7 +18,7 @@ use Rattle.radio_job.specs.declared.JobPoint.the-variants.{AsksConfiguration, T
 use Rattle.radio_job.specs.declared.JobPoint.the-variants.{ErasesConfiguration, SetsConfiguration, SetsByte0, AsksPage, TakesPage}
 use Rattle.radio_job.specs.declared.JobPoint.the-variants.{SetsByte1, Finished}
 use Rattle.radio_job.specs.Image.{mask-fits, image-fits, pages-for}
-use Rattle.radio_job.specs.Job.{same}
+use Rattle.radio_job.specs.Job.{same-bytes}
 use Rattle.radio_job.specs.State.{JobState, ending-fits, point-fits, state-fits}
 use Rattle.radio_job.proofs.Laws.Image.{mask-long, sized}
 use Rattle.radio_job.proofs.Laws.Fits.{Fitting, fitting, fit, false-true}
@@ -27,16 +27,16 @@ use Rattle.radio_record.specs.declared.JobKept.{JobKept}
 use Rattle.radio_record.specs.declared.JobKept.the-variants.{Keeps, KeepsNone}
 use Rattle.radio_record.specs.declared.PointRead.{PointRead}
 use Rattle.radio_record.specs.declared.PointRead.the-variants.{Point, NoPoint}
-use Rattle.radio_record.specs.Record.{low, high, byte, pair, point-fields, fields-laid, point-bytes, packed-job, fields-read}
+use Rattle.radio_record.specs.Record.{field-low, field-high, kept-byte, kept-pair, job-point-fields, fields-laid, point-bytes, packed-job, job-fields-read}
 use Rattle.radio_record.specs.Record.{point-read, numbers-checked, mask-of, kept-at, job-kept, kept-state, unpacked-job}
 use Rattle.radio_record.specs.Claims.{Job-record, Packed-long, Job-unpacked-exactly, Job-refused-exactly}
 use Rattle.radio_record.proofs.Laws.Record.{point-bytes-long, kept-checked}
 
 -- numbers of one and of two bytes, read back
-low-back : (x : ℕ) → x < 256 → low x ≡ x
+low-back : (x : ℕ) → x < 256 → field-low x ≡ x
 low-back x h = omega arith
 
-pair-back : (x : ℕ) → x < 65536 → low x + high x * 256 ≡ x
+pair-back : (x : ℕ) → x < 65536 → field-low x + field-high x * 256 ≡ x
 pair-back x h = omega arith
 
 -- an end that fits is small, and its number is not 0
@@ -80,9 +80,9 @@ small-ending n e h =
 
 -- the fields that the last eight bytes say
 abbrev told-fields : (t : List ℕ) → JobFields
-told-fields t = record { stage = byte t 2; page = byte t 3; number = byte t 4; code = byte t 5; offset = pair t 6 }
+told-fields t = record { stage = kept-byte t 2; page = kept-byte t 3; number = kept-byte t 4; code = kept-byte t 5; offset = kept-pair t 6 }
 
-page-back : (n p : ℕ) → n ≤ 32256 → ltb p (pages-for n) ≡ true → low p ≡ p
+page-back : (n p : ℕ) → n ≤ 32256 → ltb p (pages-for n) ≡ true → field-low p ≡ p
 page-back n p h f = let l = ltb-true p (pages-for n) f in low-back p (omega arith)
 
 point-back : (n : ℕ) (p : JobPoint) → n ≤ 32256 → point-fits n p ≡ true → point-read (told-fields (point-bytes n p)) ≡ Point p
@@ -104,18 +104,18 @@ point-back n (Finished e) h f =
     rw (low-back (e .number) (s .number), low-back (e .code) (s .code), pair-back (e .offset) (s .offset), ne-eqb (e .number) 0 z)
 
 -- a list is the same as itself, and lists that are the same are equal
-same-self : (xs : List ℕ) → same xs xs ≡ true
-unfolding same
+same-self : (xs : List ℕ) → same-bytes xs xs ≡ true
+unfolding same-bytes
 same-self [] = refl
 same-self (x ∷ xs) = rw (eq-eqb x x refl) (same-self xs)
 
-same-equal : (xs ys : List ℕ) → same xs ys ≡ true → xs ≡ ys
-unfolding same
+same-equal : (xs ys : List ℕ) → same-bytes xs ys ≡ true → xs ≡ ys
+unfolding same-bytes
 same-equal [] [] e = refl
 same-equal [] (y ∷ ys) e = absurd (false-true e)
 same-equal (x ∷ xs) [] e = absurd (false-true e)
 same-equal (x ∷ xs) (y ∷ ys) e =
-    let b = both (eqb x y) (same xs ys) e in
+    let b = both (eqb x y) (same-bytes xs ys) e in
     let p = eqb-true x y (b .0) in
     let q = same-equal xs ys (b .1) in
     rw (p, q)
@@ -142,17 +142,17 @@ module _ (page mask t : List ℕ) (a : length page ≡ 256) (b : length mask ≡
       let z : 512 + i ≡ length page + (length mask + i) = omega arith in
       ap (λ (k : ℕ). getD whole k 0) z ∙ getD-append-add page (mask ++ t) (length mask + i) 0 ∙ getD-append-add mask t i 0
 
-  fields-behind : fields-read whole ≡ told-fields t
-  unfolding fields-read
+  fields-behind : job-fields-read whole ≡ told-fields t
+  unfolding job-fields-read
   fields-behind = rw (byte-behind 2, byte-behind 3, byte-behind 4, byte-behind 5, byte-behind 6, byte-behind 7)
 
-  pair-behind : pair whole 512 ≡ pair t 0
+  pair-behind : kept-pair whole 512 ≡ kept-pair t 0
   pair-behind = rw (byte-behind 0, byte-behind 1)
 
   whole-long : length t ≡ 8 → length whole ≡ 520
   whole-long c = let x = length-append page (mask ++ t) in let y = length-append mask t in omega arith
 
-length-back : (n : ℕ) (p : JobPoint) → n ≤ 32256 → pair (point-bytes n p) 0 ≡ n
+length-back : (n : ℕ) (p : JobPoint) → n ≤ 32256 → kept-pair (point-bytes n p) 0 ≡ n
 unfolding point-bytes fields-laid
 length-back n p h = let l : n < 65536 = omega arith in pair-back n l
 
@@ -176,9 +176,9 @@ packed-back s e =
     let t = point-bytes n (s .point) in
     let r = s .page ++ (s .mask ++ t) in
     let l = whole-long (s .page) (s .mask) t (f .page) m (point-bytes-long n (s .point)) in
-    let reads : point-read (fields-read r) ≡ Point (s .point) =
+    let reads : point-read (job-fields-read r) ≡ Point (s .point) =
     ap point-read (fields-behind (s .page) (s .mask) t (f .page) m) ∙ point-back n (s .point) few (f .point) in
-    let told : pair r 512 ≡ n = pair-behind (s .page) (s .mask) t (f .page) m ∙ length-back n (s .point) few in
+    let told : kept-pair r 512 ≡ n = pair-behind (s .page) (s .mask) t (f .page) m ∙ length-back n (s .point) few in
     let last = behind-mask (s .page) (s .mask) t (f .page) m in
     let masks = mask-part (s .page) (s .mask) t (f .page) m in
     let pages = page-part (s .page) (s .mask) t (f .page) m in
@@ -205,7 +205,7 @@ numbers-facts : (r : List ℕ) (m n : ℕ) (q p : JobPoint) → length r ≡ 520
     → numbers-checked m q (drop 512 r) ≡ Keeps n p → Kept-facts r n p
 unfolding numbers-checked
 numbers-facts r m n q p l f =
-    by-test (image-fits m && (point-fits m q && same (point-bytes m q) (drop 512 r)))
+    by-test (image-fits m && (point-fits m q && same-bytes (point-bytes m q) (drop 512 r)))
     (λ t. rw t (λ e.
     let k = keeps-both m n q p e in
     let a = both (image-fits m) _ t in
@@ -223,14 +223,14 @@ kept-facts-at : (x : PointRead) (r : List ℕ) (n : ℕ) (p : JobPoint) → leng
 kept-facts-at NoPoint r n p l = λ e. absurd (none-keeps n p e)
 kept-facts-at (Point q) r n p l =
     by-test (mask-fits (mask-of r))
-    (λ t. rw t (λ e. numbers-facts r (pair r 512) n q p l t e))
+    (λ t. rw t (λ e. numbers-facts r (kept-pair r 512) n q p l t e))
     (λ t. rw t (λ e. absurd (none-keeps n p e)))
 
 kept-facts : (r : List ℕ) (n : ℕ) (p : JobPoint) → job-kept r ≡ Keeps n p → Kept-facts r n p
 unfolding job-kept
 kept-facts r n p =
     by-test (eqb (length r) 520)
-    (λ t. rw t (λ e. kept-facts-at (point-read (fields-read r)) r n p (eqb-true (length r) 520 t) e))
+    (λ t. rw t (λ e. kept-facts-at (point-read (job-fields-read r)) r n p (eqb-true (length r) 520 t) e))
     (λ t. rw t (λ e. absurd (none-keeps n p e)))
 
 -- A record that keeps numbers is the record of the job with them.

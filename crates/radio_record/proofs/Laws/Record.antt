@@ -11,13 +11,13 @@ use borrow.Author.Tests.{eq-eqb, ne-eqb}
 use Rattle.laws.proofs.Tests.{by-test}
 use Rattle.radio_job.specs.declared.JobPoint.{JobPoint}
 use Rattle.radio_job.specs.Image.{mask-fits, image-fits}
-use Rattle.radio_job.specs.Job.{same, shared}
+use Rattle.radio_job.specs.Job.{same-bytes, shared}
 use Rattle.radio_job.specs.State.{point-fits}
 use Rattle.radio_point.proofs.Laws.Compare.{same-shared, other-shared}
 use Rattle.radio_record.specs.declared.JobKept.{JobKept}
 use Rattle.radio_record.specs.declared.JobKept.the-variants.{Keeps, KeepsNone}
 use Rattle.radio_record.specs.declared.PointRead.the-variants.{Point, NoPoint}
-use Rattle.radio_record.specs.Record.{pair, point-bytes, fields-laid, fields-read, point-read, numbers-checked, mask-of, job-kept}
+use Rattle.radio_record.specs.Record.{kept-pair, point-bytes, fields-laid, job-fields-read, point-read, numbers-checked, mask-of, job-kept}
 
 pub point-bytes-long : (n : ℕ) (p : JobPoint) → length (point-bytes n p) ≡ 8
 unfolding point-bytes fields-laid
@@ -47,18 +47,18 @@ unfolding job-kept
 not-520-bytes r n = rw (ne-eqb (length r) 520 n)
 
 module _ (r : List ℕ) (l : length r ≡ 520) where
-  pub tells-no-point : point-read (fields-read r) ≡ NoPoint → KeepsNone ≡ job-kept r
+  pub tells-no-point : point-read (job-fields-read r) ≡ NoPoint → KeepsNone ≡ job-kept r
   unfolding job-kept
   tells-no-point e = rw (eq-eqb (length r) 520 l, e)
 
-  module _ (p : JobPoint) (e : point-read (fields-read r) ≡ Point p) (m : List ℕ) (is : m ≡ mask-of r) where
+  module _ (p : JobPoint) (e : point-read (job-fields-read r) ≡ Point p) (m : List ℕ) (is : m ≡ mask-of r) where
     pub mask-no-fit : mask-fits m ≡ false → KeepsNone ≡ job-kept r
     unfolding job-kept
     mask-no-fit f = rw (eq-eqb (length r) 520 l, e, sym (ap mask-fits is) ∙ f)
 
-    pub kept-checked : mask-fits m ≡ true → (n : ℕ) (t : List ℕ) (k : JobKept) → n ≡ pair r 512 → t ≡ drop 512 r → k ≡ numbers-checked n p t → k ≡ job-kept r
+    pub kept-checked : mask-fits m ≡ true → (n : ℕ) (t : List ℕ) (k : JobKept) → n ≡ kept-pair r 512 → t ≡ drop 512 r → k ≡ numbers-checked n p t → k ≡ job-kept r
     unfolding job-kept
-    kept-checked f n t k a b q = rw (eq-eqb (length r) 520 l, e, sym (ap mask-fits is) ∙ f) (q ∙ ap (λ (x : ℕ). numbers-checked x p t) a ∙ ap (λ (x : List ℕ). numbers-checked (pair r 512) p x) b)
+    kept-checked f n t k a b q = rw (eq-eqb (length r) 520 l, e, sym (ap mask-fits is) ∙ f) (q ∙ ap (λ (x : ℕ). numbers-checked x p t) a ∙ ap (λ (x : List ℕ). numbers-checked (kept-pair r 512) p x) b)
 
   -- the part of a record that is lent on to its end
   pub numbers-part : take (length r - 512) (drop 512 r) ≡ drop 512 r

@@ -1,7 +1,7 @@
 -- `radio_record::read::read_fields` meets its contract: each return by the tests on its way and what the
 -- calls give.
 use borrow.Author.Needs.{needs}
-use Rattle.radio_record.specs.Record.{fields-read}
+use Rattle.radio_record.specs.Record.{job-fields-read}
 use Rattle.radio_record.proofs.read.read_fields.Statement.{statement}
 use Rattle.radio_record.proofs.read.read_fields.Tie as tie
 
@@ -51,7 +51,7 @@ pair32-requires : tie.Need-pair32-requires
 pair32-requires c κs = search needs
 
 returns : tie.Need-returns
-unfolding fields-read
+unfolding job-fields-read
 returns c = rw (c .pair32 .ensures, c .before .before .before .wide322 .ensures, c .before .before .before .before .before .wide32 .ensures)
 
 pub read-fields-spec : {M : Type 1} → statement M
