@@ -19,7 +19,9 @@ from machine import Block, Machine, Pointer, Stuck, listed, statements
 SEED = 20127
 RANDOM = 24  # random calls kept of each function,
 TRIES = 96  # out of so many
-INSIDE = 24  # calls kept of each function that whole calls make
+INSIDE = 24  # calls kept of each function that whole calls make,
+LONG = 8192  # and of those with so many bytes
+FEW = 2  # only so many
 
 
 # ---- types, as lists of words: 'tyBool', ['tyInt', '8'], ..
@@ -152,8 +154,10 @@ def cases_inside(machine, cases, rng, crate):
         count = seen.get(function.symbol, 0)
         if count >= INSIDE or rng.rng.random() > 2.0 ** (-count / 3):
             return None
-        seen[function.symbol] = count + 1
         before = b''.join(map(value_bytes, arguments))
+        if len(before) > LONG and count >= FEW:
+            return None
+        seen[function.symbol] = count + 1
         return lambda result: cases.keep(function, before, arguments, result)
 
     machine.watch = watch

@@ -248,10 +248,8 @@ impl Header {
                         ensure!(lent, "{name} of {symbol} is not lent as the MIR has it");
                         self.ensure_same(types, of, c)?;
                         let plain = length.of == "size_t" && !length.pointer && !length.constant;
-                        ensure!(
-                            plain && length.name == format!("{name}_len"),
-                            "the length of {name} of {symbol}"
-                        );
+                        let named = length.name == format!("{name}_len") || length.name == "len";
+                        ensure!(plain && named, "the length of {name} of {symbol}");
                     }
                     _ => {
                         ensure!(!pointer && !constant, "{name} of {symbol} is handed over by value");
@@ -279,15 +277,17 @@ impl Header {
     }
 }
 
-/// An enum without a name: `NAME = number` each, a comma between them.
+/// An enum without a name: `NAME = number` each, decimal or hexadecimal, a comma between them.
 fn numbers(tokens: &mut Tokens) -> Result<()> {
     tokens.expect("{")?;
     loop {
         tokens.name()?;
         tokens.expect("=")?;
         let number = tokens.next()?;
+        let plain = number.bytes().all(|b| b.is_ascii_digit());
+        let hex = number.strip_prefix("0x").unwrap_or("");
         ensure!(
-            number.bytes().all(|b| b.is_ascii_digit()),
+            plain || !hex.is_empty() && hex.bytes().all(|b| b.is_ascii_hexdigit()),
             "the header has {number} where a number is wanted"
         );
         match tokens.next()?.as_str() {
@@ -351,15 +351,17 @@ fn face(declaration: &Declaration, symbol: &str, types: &Types, uses: &crate::us
         let of = &uses.locals[local];
         let Some(Parameter { name, .. }) = parameters.next() else { refuse!("a parameter of {symbol}") };
         if let Type::Slice { of: element, .. } = of {
-            parameters.next();
+            let Some(Parameter { name: length, .. }) = parameters.next() else {
+                refuse!("{name} of {symbol} has no length")
+            };
             let Type::Int(width) = **element else { refuse!("{name} of {symbol} is no slice of numbers") };
             let line = format!("    uint{width}_t none{width} = 0;\n");
             if !none.contains(&line) {
                 none.push(line);
             }
             slices += &format!("    {} {name}_slice;\n", types.c(of)?);
-            slices += &format!("    {name}_slice.at = {name}_len != 0 ? {name} : &none{width};\n");
-            slices += &format!("    {name}_slice.length = {name}_len;\n");
+            slices += &format!("    {name}_slice.at = {length} != 0 ? {name} : &none{width};\n");
+            slices += &format!("    {name}_slice.length = {length};\n");
             handed.push(format!("{name}_slice"));
         } else {
             handed.push(if uses.by_pointer(types, local)? { format!("&{name}") } else { name.clone() });
