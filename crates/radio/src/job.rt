@@ -1,6 +1,6 @@
 // The calls of a job.
 ghost use mathlib.Core.Path.{_≡_};
-ghost use Rattle.exchange.specs.Calls.{done};
+ghost use Rattle.exchange.specs.Calls.{call-done};
 ghost use Rattle.radio_calls.specs.Calls.{job-opens, job-takes};
 ghost use Rattle.radio_calls.specs.Family.{Radio};
 use radio_calls::RadioAdvanced;
@@ -16,13 +16,13 @@ pub extern "C" fn radio_open(
     out: &mut [u8],
 ) -> RadioOpened
     ensures { λ r. ⌜ r
-        ≡ done Radio (job-opens (now (held .entry)) (now (image .entry)) (now (mask .entry)) (now (ours .entry))
+        ≡ call-done Radio (job-opens (now (held .entry)) (now (image .entry)) (now (mask .entry)) (now (ours .entry))
         (now (out .entry))) .answer ⌝ }
     ensures { λ _. ⌜ now (held .exit)
-        ≡ done Radio (job-opens (now (held .entry)) (now (image .entry)) (now (mask .entry)) (now (ours .entry))
+        ≡ call-done Radio (job-opens (now (held .entry)) (now (image .entry)) (now (mask .entry)) (now (ours .entry))
         (now (out .entry))) .held ⌝ }
     ensures { λ _. ⌜ now (out .exit)
-        ≡ done Radio (job-opens (now (held .entry)) (now (image .entry)) (now (mask .entry)) (now (ours .entry))
+        ≡ call-done Radio (job-opens (now (held .entry)) (now (image .entry)) (now (mask .entry)) (now (ours .entry))
         (now (out .entry))) .out ⌝ }
 {
     radio_advance::open_job(held, image, mask, ours, out)
@@ -36,11 +36,11 @@ pub extern "C" fn radio_advance(
     reply: &[u8],
     out: &mut [u8],
 ) -> RadioAdvanced
-    ensures { λ r. ⌜ r ≡ done Radio (job-takes (now (held .entry)) (now (image .entry)) (now (reply .entry)) (now (out .entry))) .answer ⌝ }
+    ensures { λ r. ⌜ r ≡ call-done Radio (job-takes (now (held .entry)) (now (image .entry)) (now (reply .entry)) (now (out .entry))) .answer ⌝ }
     ensures { λ _. ⌜ now (held .exit)
-        ≡ done Radio (job-takes (now (held .entry)) (now (image .entry)) (now (reply .entry)) (now (out .entry))) .held ⌝ }
+        ≡ call-done Radio (job-takes (now (held .entry)) (now (image .entry)) (now (reply .entry)) (now (out .entry))) .held ⌝ }
     ensures { λ _. ⌜ now (out .exit)
-        ≡ done Radio (job-takes (now (held .entry)) (now (image .entry)) (now (reply .entry)) (now (out .entry))) .out ⌝ }
+        ≡ call-done Radio (job-takes (now (held .entry)) (now (image .entry)) (now (reply .entry)) (now (out .entry))) .out ⌝ }
 {
     radio_advance::take_reply(held, image, reply, out)
 }

@@ -3,7 +3,7 @@ ghost use mathlib.Core.Path.{_≡_};
 ghost use mathlib.Core.Bool.{true};
 ghost use Prim.Native.Nat.{_≤_};
 ghost use lib.ListN.{length};
-ghost use Rattle.exchange.specs.Calls.{done};
+ghost use Rattle.exchange.specs.Calls.{call-done};
 ghost use Rattle.radio_job.specs.Image.{image-fits};
 ghost use Rattle.radio_job.specs.State.{point-fits};
 ghost use Rattle.radio_calls.specs.Calls.{job-takes, takes-number, takes-answer, message-put};
@@ -55,11 +55,11 @@ fn take_on(
 
 // Takes one reply of a job. Tests 6, 7 and 26, in this order; a refused call changes no byte.
 pub fn take_reply(held: &mut [u8], image: &[u8], reply: &[u8], out: &mut [u8]) -> RadioAdvanced
-    ensures { λ r. ⌜ r ≡ done Radio (job-takes (now (held .entry)) (now (image .entry)) (now (reply .entry)) (now (out .entry))) .answer ⌝ }
+    ensures { λ r. ⌜ r ≡ call-done Radio (job-takes (now (held .entry)) (now (image .entry)) (now (reply .entry)) (now (out .entry))) .answer ⌝ }
     ensures { λ _. ⌜ now (held .exit)
-        ≡ done Radio (job-takes (now (held .entry)) (now (image .entry)) (now (reply .entry)) (now (out .entry))) .held ⌝ }
+        ≡ call-done Radio (job-takes (now (held .entry)) (now (image .entry)) (now (reply .entry)) (now (out .entry))) .held ⌝ }
     ensures { λ _. ⌜ now (out .exit)
-        ≡ done Radio (job-takes (now (held .entry)) (now (image .entry)) (now (reply .entry)) (now (out .entry))) .out ⌝ }
+        ≡ call-done Radio (job-takes (now (held .entry)) (now (image .entry)) (now (reply .entry)) (now (out .entry))) .out ⌝ }
 {
     let JobKept::Keeps { bytes, point } = radio_record::unpack(held) else {
         return refused(BAD_RECORD);

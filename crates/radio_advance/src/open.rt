@@ -1,6 +1,6 @@
 // A job opened.
 ghost use mathlib.Core.Path.{_≡_};
-ghost use Rattle.exchange.specs.Calls.{done};
+ghost use Rattle.exchange.specs.Calls.{call-done};
 ghost use Rattle.radio_calls.specs.Calls.{job-opens, opens-number};
 ghost use Rattle.radio_calls.specs.Family.{Radio};
 use crate::ROOM;
@@ -32,13 +32,13 @@ pub fn open_job(
     out: &mut [u8],
 ) -> RadioOpened
     ensures { λ r. ⌜ r
-        ≡ done Radio (job-opens (now (held .entry)) (now (image .entry)) (now (mask .entry)) (now (ours .entry))
+        ≡ call-done Radio (job-opens (now (held .entry)) (now (image .entry)) (now (mask .entry)) (now (ours .entry))
         (now (out .entry))) .answer ⌝ }
     ensures { λ _. ⌜ now (held .exit)
-        ≡ done Radio (job-opens (now (held .entry)) (now (image .entry)) (now (mask .entry)) (now (ours .entry))
+        ≡ call-done Radio (job-opens (now (held .entry)) (now (image .entry)) (now (mask .entry)) (now (ours .entry))
         (now (out .entry))) .held ⌝ }
     ensures { λ _. ⌜ now (out .exit)
-        ≡ done Radio (job-opens (now (held .entry)) (now (image .entry)) (now (mask .entry)) (now (ours .entry))
+        ≡ call-done Radio (job-opens (now (held .entry)) (now (image .entry)) (now (mask .entry)) (now (ours .entry))
         (now (out .entry))) .out ⌝ }
 {
     let number = radio_image::input_refusal(mask, ours.len(), image.len());

@@ -8,7 +8,7 @@ use Prim.Native.Nat.{ℕ, _+_, _*_, _≤_}
 use lib.Dec.{eqb}
 use lib.ListN.{length, getD}
 use Rattle.exchange.specs.Exchange.{ended, ask, fed}
-use Rattle.exchange.specs.Calls.{heard, told, in-a-row, May-follow, Refused-unchanged}
+use Rattle.exchange.specs.Calls.{call-heard, told, in-a-row, May-follow, Refused-unchanged}
 use Rattle.radio_target.specs.declared.RadioTarget.{RadioTarget}
 use Rattle.radio_target.specs.State.{fresh-state, radio-stepped}
 use Rattle.radio_job.specs.Image.{JobInput, page-count}
@@ -72,15 +72,15 @@ pub record Radio-whole (g : JobInput) (x : RadioTold) (calls : List RadioCall) :
 abbrev pub Radio-calls-program : Type 0
 Radio-calls-program =
     (g : JobInput) (held out : List ℕ) (before : RadioTold) (calls : List RadioCall) → job-refusal (opens-job held out g) ≡ 0
-    → May-follow Radio (g .image) (heard Radio before (opens-job held out g)) calls
+    → May-follow Radio (g .image) (call-heard Radio before (opens-job held out g)) calls
     → Radio-whole g (told Radio before (opens-job held out g ∷ calls)) calls
 
 -- Lists with the same replies in a row are alike in all that they tell.
 abbrev pub Radio-calls-alike : Type 0
 Radio-calls-alike =
     (g : JobInput) (held out : List ℕ) (before : RadioTold) (calls others : List RadioCall) → job-refusal (opens-job held out g) ≡ 0
-    → May-follow Radio (g .image) (heard Radio before (opens-job held out g)) calls
-    → May-follow Radio (g .image) (heard Radio before (opens-job held out g)) others
+    → May-follow Radio (g .image) (call-heard Radio before (opens-job held out g)) calls
+    → May-follow Radio (g .image) (call-heard Radio before (opens-job held out g)) others
     → in-a-row Radio calls ≡ in-a-row Radio others
     → told Radio before (opens-job held out g ∷ calls) ≡ told Radio before (opens-job held out g ∷ others)
 
@@ -88,7 +88,7 @@ Radio-calls-alike =
 -- replies, all of them.
 pub record Some-radio-calls (g : JobInput) (held out : List ℕ) (before : RadioTold) (f : List ℕ) : Type 0 where
   pub calls : List RadioCall
-  pub follow : May-follow Radio (g .image) (heard Radio before (opens-job held out g)) calls
+  pub follow : May-follow Radio (g .image) (call-heard Radio before (opens-job held out g)) calls
   pub own : in-a-row Radio calls ≡ own-answers (job g) fresh-state f
 
 abbrev pub Radio-calls-exist : Type 0

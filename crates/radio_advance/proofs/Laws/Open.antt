@@ -10,7 +10,7 @@ use lib.Seq.{take-at, drop-at, take-length, length-take-le, drop-drop}
 use borrow.Author.Tests.{eq-eqb, ne-eqb, lt-ltb, le-ltb, le-leb}
 use borrow.Rule.Slice.PartMut.{midOf, putMid}
 use Rattle.exchange.specs.Exchange.{said}
-use Rattle.exchange.specs.Calls.{done}
+use Rattle.exchange.specs.Calls.{call-done}
 use Rattle.radio_job.specs.declared.JobPoint.the-variants.{AsksConfiguration}
 use Rattle.radio_job.specs.Image.{mask-fits, input-number, input-refusal}
 use Rattle.radio_job.specs.Job.{confirmed, fetched, job}
@@ -32,10 +32,10 @@ module _ (h im m d out : List ℕ) where
   call = job-opens h im m d out
 
   abbrev Answers : RadioOpened → (held now : List ℕ) → Type 0
-  Answers r held now = (r ≡ done Radio call .answer) × ((held ≡ done Radio call .held) × (now ≡ done Radio call .out))
+  Answers r held now = (r ≡ call-done Radio call .answer) × ((held ≡ call-done Radio call .held) × (now ≡ call-done Radio call .out))
 
   refuses : (n : ℕ) (r : RadioOpened) → job-refusal call ≡ n → (n ≡ 0 → ⊥) → r ≡ opens-number n → Answers r h out
-  unfolding done job-untouched
+  unfolding call-done job-untouched
   refuses n r e z a = rw (e, ne-eqb n 0 z) (a, (refl, refl))
 
   module _ (number : ℕ) (i : number ≡ input-number m (length d) (length im)) where
@@ -155,7 +155,7 @@ module _ (h im m d out : List ℕ) where
 
           pub opens : (r : RadioAdvanced) (now : List ℕ) → r ≡ say-answer AsksConfiguration im h₃ out → now ≡ say-out AsksConfiguration im h₃ out
               → Answers (record { number = 0; send = r .send; expect = r .expect }) h₃ now
-          unfolding done job-does
+          unfolding call-done job-does
           opens r now a q =
               rw accepted
               (ap (λ (x : RadioAdvanced). record { number = 0; send = x .send; expect = x .expect }) (a ∙ said-answer) ∙ as-opened, (three, q ∙ said-out))

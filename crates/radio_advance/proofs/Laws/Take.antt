@@ -11,7 +11,7 @@ use lib.Seq.{take-at, drop-at, take-add, take-take, take-append-le, length-take-
 use borrow.Author.Tests.{eq-eqb, ne-eqb, lt-ltb, le-ltb, le-leb, eqb-true}
 use Rattle.laws.proofs.Tests.{by-test}
 use Rattle.exchange.specs.Exchange.{Said, said, after}
-use Rattle.exchange.specs.Calls.{done}
+use Rattle.exchange.specs.Calls.{call-done}
 use Rattle.numbers.specs.Numbers.{bad-record, other-image, buffer-too-small}
 use Rattle.radio_job.specs.declared.Ending.{Ending}
 use Rattle.radio_job.specs.declared.JobPoint.{JobPoint}
@@ -263,10 +263,10 @@ module _ (h im q out : List ℕ) where
   call = job-takes h im q out
 
   abbrev Answers : RadioAdvanced → (held now : List ℕ) → Type 0
-  Answers r held now = (r ≡ done Radio call .answer) × ((held ≡ done Radio call .held) × (now ≡ done Radio call .out))
+  Answers r held now = (r ≡ call-done Radio call .answer) × ((held ≡ call-done Radio call .held) × (now ≡ call-done Radio call .out))
 
   refuses : (n : ℕ) (r : RadioAdvanced) → job-refusal call ≡ n → (n ≡ 0 → ⊥) → r ≡ takes-number n → Answers r h out
-  unfolding done job-untouched
+  unfolding call-done job-untouched
   refuses n r e z a = rw (e, ne-eqb n 0 z) (a, (refl, refl))
 
   -- a record that keeps no job
@@ -317,8 +317,8 @@ module _ (h im q out : List ℕ) where
       unfolding job-does
       does-is = ap (λ (u : Option JobState). takes-reply u h im q out) (kept-some h n p k)
 
-      done-is : done Radio call ≡ record { answer = takes-answer (says-next p h im q); held = held-next p h im q; out = message-put (says-next p h im q) out }
-      unfolding done
+      done-is : call-done Radio call ≡ record { answer = takes-answer (says-next p h im q); held = held-next p h im q; out = message-put (says-next p h im q) out }
+      unfolding call-done
       done-is =
           rw accepted
           (does-is

@@ -13,7 +13,7 @@ use Rattle.laws.proofs.Tests.{by-test}
 use Rattle.exchange.specs.Exchange.{Said, asks, ends, said, after, fed, ended, ask}
 use Rattle.exchange.specs.Machine.{Machine, Sound, after-replies, Replies-follow}
 use Rattle.exchange.specs.Machine as Machines
-use Rattle.exchange.specs.Calls.{Family, done, heard, Goes-on, Lists-are-replies, Lists-alike}
+use Rattle.exchange.specs.Calls.{Family, call-done, call-heard, Goes-on, Lists-are-replies, Lists-alike}
 use Rattle.exchange.proofs.Laws.Exchange.{fed-append}
 use Rattle.exchange.proofs.Laws.Machine.{replies-follow, parts-join}
 use Rattle.exchange.proofs.Laws.Calls.{lists-are-replies, lists-alike}

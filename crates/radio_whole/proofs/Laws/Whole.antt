@@ -12,7 +12,7 @@ use Rattle.laws.proofs.Tests.{by-test}
 use Rattle.exchange.specs.Exchange.{Said, said, ended, ask, after, fed}
 use Rattle.exchange.specs.Machine.{after-replies}
 use Rattle.exchange.specs.Machine as Machines
-use Rattle.exchange.specs.Calls.{done, heard, told, in-a-row, May-follow}
+use Rattle.exchange.specs.Calls.{call-done, call-heard, told, in-a-row, May-follow}
 use Rattle.exchange.proofs.Laws.Exchange.{fed-append, fed-ended}
 use Rattle.exchange.proofs.Laws.Calls.{refused-unchanged}
 use Rattle.radio_command.specs.Command.{built}
@@ -83,11 +83,11 @@ module _ (g : JobInput) (held out : List ℕ) (before : RadioTold) (ok : job-ref
   accepted = first-passes (input-refusal g) (length held) (length out) ok
 
   -- what an accepted opening tells
-  opening-told : heard Radio before (opens-job held out g) ≡ by-job g []
-  unfolding heard done job-does job-hears by-job message-put after-replies fed said job fetched confirmed built
+  opening-told : call-heard Radio before (opens-job held out g) ≡ by-job g []
+  unfolding call-heard call-done job-does job-hears by-job message-put after-replies fed said job fetched confirmed built
   opening-told = rw (eq-eqb (job-refusal (opens-job held out g)) 0 ok)
 
-  module _ (calls : List RadioCall) (may : May-follow Radio (g .image) (heard Radio before (opens-job held out g)) calls) where
+  module _ (calls : List RadioCall) (may : May-follow Radio (g .image) (call-heard Radio before (opens-job held out g)) calls) where
     abbrev rs : List (List ℕ)
     rs = in-a-row Radio calls
 
@@ -151,8 +151,8 @@ module _ (g : JobInput) (ok : input-refusal g ≡ 0) where
       ap (λ (u : Option JobState). later-number u (length (g .image)) 256) (f .held) ∙ rw (eq-eqb (length (g .image)) (job-state-after g qs .bytes) (f .fine .1))
 
   one-heard : (qs : List (List ℕ)) (r : List ℕ)
-      → heard Radio (by-job g qs) (job-takes (by-job g qs .held) (g .image) r (replicate 256 0)) ≡ by-job g (qs ++ r ∷ [])
-  unfolding heard done job-replies
+      → call-heard Radio (by-job g qs) (job-takes (by-job g qs .held) (g .image) r (replicate 256 0)) ≡ by-job g (qs ++ r ∷ [])
+  unfolding call-heard call-done job-replies
   one-heard qs r =
       let c = job-takes (by-job g qs .held) (g .image) r (replicate 256 0) in
       rw (eq-eqb (job-refusal c) 0 (taken qs r)) (goes-on g ok qs c (taken qs r) (refl, refl))
