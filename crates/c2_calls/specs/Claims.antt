@@ -18,7 +18,7 @@ use Rattle.c2_order.specs.Order.{session-order}
 use Rattle.c2_order.specs.Conversation.{session-limits}
 use Rattle.c2_order.specs.Point.{reached}
 use Rattle.c2_order.specs.Figure.{figure}
-use Rattle.c2_order.specs.Claims.{exchange-of, point-after, Ending}
+use Rattle.c2_order.specs.Claims.{exchange-of, point-after, Last-number}
 use Rattle.c2_session.specs.declared.Session.{Session}
 use Rattle.c2_session.specs.Code.Step.{session-step}
 use Rattle.c2_outcome.specs.Outcome.{number-of, offset-of}
@@ -110,7 +110,7 @@ Held-follows = (r : List ℕ) (s : Session) (image replies : List ℕ) → unpac
 abbrev pub Held-ends : Type 0
 Held-ends = (r : List ℕ) (s : Session) (image replies : List ℕ) → unpacked 20 256 r ≡ Held s → number-of (s .point) ≡ running
     → Bytes image → length image ≡ image-length s
-    → (number-of (session-fed s image replies .point) ≡ running) ⊎ Ending (number-of (session-fed s image replies .point))
+    → (number-of (session-fed s image replies .point) ≡ running) ⊎ Last-number (number-of (session-fed s image replies .point))
 
 -- The figure goes by the session and not by the image's bytes.
 abbrev pub Figure-of-any : Type 0

@@ -97,11 +97,11 @@ abbrev pub Figure-reached : Type 0
 Figure-reached = (l : Limits) (s : Settings) (first : ℕ) (image : List ℕ) → Positive l → Opening s first image → Reaching l s first image
 
 -- The numbers that end a session: 32, and 9 to 14.
-abbrev pub Ending : ℕ → Type 0
-Ending n = (n ≡ done) ⊎ ((bad-reply ≤ n) × (n ≤ compare-differs))
+abbrev pub Last-number : ℕ → Type 0
+Last-number n = (n ≡ done) ⊎ ((bad-reply ≤ n) × (n ≤ compare-differs))
 
 -- From every point of the order on, and whatever the replies, a session that has ended has one of these
 -- numbers.
 abbrev pub Ends-so : Type 0
 Ends-so = (l : Limits) (s : Settings) (first : ℕ) (image : List ℕ) → Opening s first image
-    → (x : Point) → Stands l (session-order s first image) x → (rs : List ℕ) (o : Outcome) → reached l x rs ≡ ended o → Ending (o .number)
+    → (x : Point) → Stands l (session-order s first image) x → (rs : List ℕ) (o : Outcome) → reached l x rs ≡ ended o → Last-number (o .number)

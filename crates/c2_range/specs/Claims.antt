@@ -11,7 +11,7 @@ use Rattle.c2_wire.specs.Place.{strobe-at, samples, count-limit}
 use Rattle.settings.specs.declared.Settings.{Settings}
 use Rattle.c2_order.specs.Acts.{Act}
 use Rattle.c2_order.specs.Conversation.{limits}
-use Rattle.c2_order.specs.Claims.{Ending}
+use Rattle.c2_order.specs.Claims.{Last-number}
 use Rattle.c2_order.specs.Point.{strobes-of, reads-of}
 use Rattle.c2_acts.specs.declared.Stage.{Stage}
 use Rattle.c2_session.specs.declared.Point.{Point}
@@ -42,7 +42,7 @@ pub record Point-exists (wait-limit poll-limit size pages : ℕ) (g : Stage) (i 
 
 -- An outcome is one that ends a session, with an offset inside the image for 14 and 0 otherwise.
 pub record Outcome-stands (bytes n o : ℕ) : Type 0 where
-  pub number : Ending n
+  pub number : Last-number n
   pub inside : n ≡ compare-differs → o < bytes
   pub otherwise : (n ≡ compare-differs → ⊥) → o ≡ 0
 

@@ -12,7 +12,7 @@ use Rattle.radio_job.specs.declared.Ending.{Ending}
 use Rattle.radio_job.specs.Image.{JobInput, input-refusal}
 use Rattle.radio_job.specs.Job.{Message, JobExchange, take-reply, job}
 use Rattle.radio_job.specs.State.{JobState, opened-job, job-left}
-use Rattle.radio_job.specs.Code.Advance.{job-advanced}
+use Rattle.radio_job.specs.Advance.{job-advanced}
 use Rattle.radio_record.specs.Record.{packed-job, unpacked-job}
 use Rattle.radio_calls.specs.declared.RadioOpened.{RadioOpened}
 use Rattle.radio_calls.specs.declared.RadioAdvanced.{RadioAdvanced}

@@ -12,7 +12,7 @@ use Rattle.radio_job.specs.declared.Ending.{Ending}
 use Rattle.radio_job.specs.Image.{JobInput}
 use Rattle.radio_job.specs.Job.{Message, JobExchange, still-runs, take-reply, job}
 use Rattle.radio_job.specs.State.{JobState, opened-job, job-left, state-fits}
-use Rattle.radio_job.specs.Code.Advance.{job-advanced}
+use Rattle.radio_job.specs.Advance.{job-advanced}
 use Rattle.radio_record.specs.Record.{packed-job, unpacked-job}
 use Rattle.radio_calls.specs.Calls.{RadioCall, job-opens, job-takes, job-refusal, Job-done, job-untouched, job-does, message-of}
 

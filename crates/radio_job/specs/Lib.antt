@@ -1,6 +1,6 @@
 pub mod Image
 pub mod Job
 pub mod State
-pub mod Code
+pub mod Advance
 pub mod Claims
 pub mod Examples

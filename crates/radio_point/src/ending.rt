@@ -7,7 +7,7 @@ ghost use Rattle.radio_job.specs.declared.JobPoint.the-variants.{FeedsPage, Tak
 ghost use Rattle.radio_job.specs.Image.{page-count};
 ghost use Rattle.radio_job.specs.Job.{name-ending, answer-ending};
 ghost use Rattle.radio_job.specs.State.{point-fits};
-ghost use Rattle.radio_job.specs.Code.Advance.{length-ending, last-ending, reply-ending};
+ghost use Rattle.radio_job.specs.Advance.{length-ending, last-ending, reply-ending};
 ghost use Rattle.radio_point.specs.Code.After.{ending-of-number};
 use numbers::DONE;
 use radio_command::BAD_MESSAGE;

@@ -6,7 +6,7 @@ ghost use lib.ListN.{length};
 ghost use Rattle.radio_job.specs.declared.JobPoint.the-variants.{FeedsPage, TakesPage};
 ghost use Rattle.radio_job.specs.Image.{pages-for};
 ghost use Rattle.radio_job.specs.State.{point-fits};
-ghost use Rattle.radio_job.specs.Code.Advance.{reply-ending, next-point};
+ghost use Rattle.radio_job.specs.Advance.{reply-ending, next-point};
 ghost use Rattle.radio_point.specs.Code.After.{point-by, job-point-after};
 use crate::ending::reply_ending;
 use crate::fits::point_fits;

@@ -8,14 +8,14 @@ use Prim.Native.Nat.{ℕ, _+_, _*_, _≤_}
 use lib.Dec.{eqb}
 use lib.ListN.{length, getD}
 use Rattle.exchange.specs.Exchange.{ended, ask, fed}
-use Rattle.exchange.specs.Calls.{call-heard, told, in-a-row, May-follow, Refused-unchanged}
+use Rattle.exchange.specs.Calls.{call-done, call-heard, told, in-a-row, May-follow}
 use Rattle.radio_target.specs.declared.RadioTarget.{RadioTarget}
 use Rattle.radio_target.specs.State.{fresh-state, radio-stepped}
 use Rattle.radio_job.specs.Image.{JobInput, page-count}
 use Rattle.radio_job.specs.Job.{JobExchange, take-reply, job, ends-done, ends-error}
 use Rattle.radio_job.specs.State.{job-left, state-fits}
 use Rattle.radio_record.specs.Record.{packed-job, unpacked-job}
-use Rattle.radio_calls.specs.Calls.{RadioCall, job-opens, job-refusal}
+use Rattle.radio_calls.specs.Calls.{RadioCall, job-opens, job-takes, job-refusal, Job-done}
 use Rattle.radio_calls.specs.Family.{Radio, RadioTold, job-state-after, by-job}
 use Rattle.radio_play.specs.Run.{JobRun, run-job}
 use Rattle.radio_play.specs.Flashes.{job-leaves, job-flashes}
@@ -53,15 +53,24 @@ pub record Radio-against (g : JobInput) (f : List ℕ) (x : RadioTold) (replies 
       → x .ending ≡ ends-error 1
   pub same : getD f 0x7F01 0 ≡ 0 → run-job (job g) fresh-state f .flash ≡ f
 
+-- A refused call: it answers its number and zeros, and leaves record and buffer as they were lent.
+abbrev pub Keeps-all : (c : RadioCall) → (number : ℕ) → Job-done c → Type 0
+Keeps-all (job-opens r im m d out) n y = (y .answer ≡ record { number = n; send = 0; expect = 0 }) × (y .held ≡ r) × (y .out ≡ out)
+Keeps-all (job-takes r im q out) n y =
+    (y .answer ≡ record { number = n; code = 0; offset = 0; send = 0; expect = 0 }) × (y .held ≡ r) × (y .out ≡ out)
+
 -- What is claimed of a list of calls after an accepted opening. C1: each refused one changes no byte that it
 -- is lent; what the calls tell is what the replies of the accepted ones in a row come to; the record is that
--- of a state of the job which leaves to say what those replies leave of the job. C2: with 3 n + 7 replies,
--- whatever they are, the job has ended. C3 and C4: `Radio-against`.
+-- of a state of the job, with the image's length and the mask of the opening, which leaves to say what those
+-- replies leave of the job. C2: with 3 n + 7 replies, whatever they are, the job has ended. C3 and C4:
+-- `Radio-against`.
 pub record Radio-whole (g : JobInput) (x : RadioTold) (calls : List RadioCall) : Type 0 where
-  pub refused : Refused-unchanged Radio
+  pub refused : (c : RadioCall) → (job-refusal c ≡ 0 → ⊥) → Keeps-all c (job-refusal c) (call-done Radio c)
   pub told-is : x ≡ by-job g (in-a-row Radio calls)
   pub held : x .held ≡ packed-job (job-state-after g (in-a-row Radio calls))
   pub kept : unpacked-job (x .held) ≡ some (job-state-after g (in-a-row Radio calls))
+  pub long : job-state-after g (in-a-row Radio calls) .bytes ≡ length (g .image)
+  pub mask : job-state-after g (in-a-row Radio calls) .mask ≡ g .mask
   pub fits : state-fits (job-state-after g (in-a-row Radio calls)) ≡ true
   pub leaves : job-left (g .image) (job-state-after g (in-a-row Radio calls)) ≡ fed take-reply (job g) (in-a-row Radio calls)
   pub ends : 3 * page-count (g .image) + 7 ≤ length (in-a-row Radio calls) → x .ending .number ≡ 0 → ⊥

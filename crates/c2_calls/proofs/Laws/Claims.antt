@@ -20,7 +20,7 @@ use Rattle.c2_order.specs.Acts.{Act}
 use Rattle.c2_order.specs.Order.{lead, order, session-order}
 use Rattle.c2_order.specs.Conversation.{Limits, session-limits, conversation}
 use Rattle.c2_order.specs.Point.{Stands, Exists-in, reached}
-use Rattle.c2_order.specs.Claims.{Opening, exchange-of, Ending}
+use Rattle.c2_order.specs.Claims.{Opening, exchange-of, Last-number}
 use Rattle.c2_order.proofs.Laws.Claims.{driven-on}
 use Rattle.c2_order.proofs.Laws.Ends.{ends-so}
 use Rattle.c2_session.specs.declared.Point.the-variants.{Running, Ended}
@@ -136,7 +136,7 @@ runs-there l order size pages (Ended n o) x h p e = absurd (⊎-elim (λ a. omeg
 
 -- the number of a session whose point of the order is this, where each end of that point is known
 number-known : (s : Session) (image : List ℕ) (y : SessionPoint) (x : Point.Point) → point-position s image y ≡ x
-    → ((o : Outcome) → x ≡ Point.ended o → Ending (o .number)) → (number-of y ≡ running) ⊎ Ending (number-of y)
+    → ((o : Outcome) → x ≡ Point.ended o → Last-number (o .number)) → (number-of y ≡ running) ⊎ Last-number (number-of y)
 unfolding point-position
 number-known s image (Running g i j k q c v) x e f = inl refl
 number-known s image (Ended n o) x e f = inr (f (record { number = n; offset = o }) (sym e))

@@ -15,7 +15,7 @@ use Rattle.c2_order.specs.Acts.{Act, send, poll, expect}
 use Rattle.c2_order.specs.Order.{session-order}
 use Rattle.c2_order.specs.Conversation.{Limits}
 use Rattle.c2_order.specs.Point.{Point, running, ended, strobes-of, begin, again, judged, settled, next, reached}
-use Rattle.c2_order.specs.Claims.{Ending, Ends-so}
+use Rattle.c2_order.specs.Claims.{Last-number, Ends-so}
 use Rattle.c2_order.proofs.Laws.Valid.{Every, none, more}
 use Rattle.c2_order.proofs.Laws.Order.{Ground, every-session}
 use Rattle.c2_order.proofs.Laws.Stands.{every-end, first-and-later}
@@ -24,7 +24,7 @@ use Rattle.c2_order.proofs.Laws.Stands.{every-end, first-and-later}
 abbrev Ends-well : Act → Type 0
 Ends-well (send ss) = Unit {0}
 Ends-well (poll ok) = Unit {0}
-Ends-well (expect x o) = Ending (o .number)
+Ends-well (expect x o) = Last-number (o .number)
 
 well : Ground Ends-well
 well = record { resets = tt; pauses = tt; addresses = λ a. tt; writes = λ b. tt; takes = tt; readies = tt; expects = λ x o h e. e }
@@ -32,7 +32,7 @@ well = record { resets = tt; pauses = tt; addresses = λ a. tt; writes = λ b. t
 -- a point from which every end is one of the numbers
 abbrev Well : Point → Type 0
 Well (running a acts p) = Ends-well a × Every Ends-well acts
-Well (ended o) = Ending (o .number)
+Well (ended o) = Last-number (o .number)
 
 begin-well : (acts : List Act) → Every Ends-well acts → Well (begin acts)
 unfolding begin

@@ -20,7 +20,7 @@ use Rattle.c2_wire.proofs.Laws.Frames.{masters, masters-frame, whole-address-wr
 use Rattle.settings.specs.declared.Settings.{Settings}
 use Rattle.c2_order.specs.Acts.{Act, poll, expect, reset-pulse, pause-20-ms, address-write, data-write, input-taken, output-ready, put, get, status, puts, compares, Block, erase, block-command, block-write, block-read}
 use Rattle.c2_order.specs.Order.{Page, pages, blocks, joined, lead, page-acts, order, session-order}
-use Rattle.c2_order.specs.Claims.{Ending}
+use Rattle.c2_order.specs.Claims.{Last-number}
 use Rattle.c2_order.proofs.Laws.Valid.{Framed, Sound, Every, none, more, _then_}
 
 -- a fact of each kind of act that orders are made of
@@ -31,14 +31,14 @@ pub record Ground (P : Act → Type 0) : Type 0 where
   pub writes : (b : ℕ) → P (data-write b)
   pub takes : P (poll input-taken)
   pub readies : P (poll output-ready)
-  pub expects : (x : ℕ) (o : Outcome) → x < 256 → Ending (o .number) → P (expect x o)
+  pub expects : (x : ℕ) (o : Outcome) → x < 256 → Last-number (o .number) → P (expect x o)
 
 module _ (P : Act → Type 0) (g : Ground P) where
   every-put : (b : ℕ) → Every P (put b)
   unfolding put
   every-put b = more (g .writes b) (more (g .takes) none)
 
-  every-get : (b : ℕ) (o : Outcome) → b < 256 → Ending (o .number) → Every P (get b o)
+  every-get : (b : ℕ) (o : Outcome) → b < 256 → Last-number (o .number) → Every P (get b o)
   unfolding get
   every-get b o h e = more (g .readies) (more (g .expects b o h e) none)
 

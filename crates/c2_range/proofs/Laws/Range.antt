@@ -16,7 +16,7 @@ use Rattle.settings.specs.declared.Settings.{Settings}
 use Rattle.settings.specs.Opening.{is-image, are-pages, opening-refusal}
 use Rattle.c2_order.specs.Acts.{Act}
 use Rattle.c2_order.specs.Conversation.{limits}
-use Rattle.c2_order.specs.Claims.{Ending}
+use Rattle.c2_order.specs.Claims.{Last-number}
 use Rattle.c2_order.specs.Point.{strobes-of, reads-of}
 use Rattle.c2_acts.specs.declared.Stage.{Stage}
 use Rattle.c2_session.specs.declared.Point.{Point}
@@ -137,14 +137,14 @@ module _ (w l size pages : ℕ) where
       )
 
 -- what the tests of an outcome say
-ends : (n : ℕ) → ends-session n ≡ true → Ending n
+ends : (n : ℕ) → ends-session n ≡ true → Last-number n
 unfolding ends-session
 ends n e =
     ⊎-elim (λ p. inl (eqb-true n 32 p))
     (λ p. let b = both (leb 9 n) (leb n 14) p in inr (leb-true 9 n (b .0), leb-true n 14 (b .1)))
     (either (eqb n 32) (leb 9 n && leb n 14) e)
 
-is-end : (n : ℕ) → Ending n → ends-session n ≡ true
+is-end : (n : ℕ) → Last-number n → ends-session n ≡ true
 unfolding ends-session
 is-end n (inl p) = first-of (eqb n 32) (leb 9 n && leb n 14) (eq-eqb n 32 p)
 is-end n (inr p) = second-of (eqb n 32) (leb 9 n && leb n 14) (rw (le-leb 9 n (p .0), le-leb n 14 (p .1)))

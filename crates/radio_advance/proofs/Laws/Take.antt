@@ -21,7 +21,7 @@ use Rattle.radio_job.specs.declared.JobPoint.the-variants.{TakesPage, SetsByte1
 use Rattle.radio_job.specs.Image.{merged, image-fits}
 use Rattle.radio_job.specs.Job.{Message, JobExchange, take-reply, confirmed, fetched}
 use Rattle.radio_job.specs.State.{JobState, point-leaves, job-left, point-fits, state-fits}
-use Rattle.radio_job.specs.Code.Advance.{length-ending, reply-ending, next-point, page-kept, job-advanced-by, job-advanced}
+use Rattle.radio_job.specs.Advance.{length-ending, reply-ending, next-point, page-kept, job-advanced-by, job-advanced}
 use Rattle.radio_job.proofs.Laws.Image.{merged-long, Sized, sized}
 use Rattle.radio_job.proofs.Laws.Fits.{Fitting, fitting, next-fits, ends-fit}
 use Rattle.radio_job.proofs.Laws.Advance.{advances}

@@ -21,7 +21,7 @@ use Rattle.radio_job.specs.declared.Ending.{Ending}
 use Rattle.radio_job.specs.Image.{JobInput, input-refusal}
 use Rattle.radio_job.specs.Job.{Message, JobExchange, take-reply, still-runs, fetched, confirmed, job}
 use Rattle.radio_job.specs.State.{JobState, opened-job, job-left, state-fits}
-use Rattle.radio_job.specs.Code.Advance.{job-advanced}
+use Rattle.radio_job.specs.Advance.{job-advanced}
 use Rattle.radio_job.proofs.Laws.Advance.{advances}
 use Rattle.radio_job.proofs.Laws.Fits.{fitting, stays-fit, stays-long, opened-fits}
 use Rattle.radio_record.specs.Record.{packed-job, unpacked-job}

@@ -20,8 +20,8 @@ use Rattle.radio_job.specs.Image.{pages-for, page-count, image-pages, im
 use Rattle.radio_job.specs.Job.{JobExchange, unless, take-reply, say, answer-ending, confirmed, fetched, fed-pages, page-ending}
 use Rattle.radio_job.specs.Job.{pages-compared, protects, sets-byte-0, restores, ends-bad, ends-done}
 use Rattle.radio_job.specs.State.{JobState, point-leaves, job-left, ending-fits, point-fits}
-use Rattle.radio_job.specs.Code.Advance.{length-ending, last-ending, reply-ending, next-point, page-kept, job-advanced-by}
-use Rattle.radio_job.specs.Code.Advance.{job-advanced}
+use Rattle.radio_job.specs.Advance.{length-ending, last-ending, reply-ending, next-point, page-kept, job-advanced-by}
+use Rattle.radio_job.specs.Advance.{job-advanced}
 use Rattle.radio_job.proofs.Laws.Image.{image-next, image-last}
 
 abbrev then-after : JobExchange → List ℕ → JobExchange

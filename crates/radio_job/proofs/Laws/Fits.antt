@@ -25,8 +25,8 @@ use Rattle.radio_job.specs.Job.{ends-bad, ends-done, ends-differing, sti
 use Rattle.radio_job.specs.Job.{shared}
 use Rattle.radio_job.specs.Job.{page-ending}
 use Rattle.radio_job.specs.State.{JobState, opened-job, ending-fits, point-fits, state-fits}
-use Rattle.radio_job.specs.Code.Advance.{length-ending, last-ending, reply-ending, next-point, page-kept, job-advanced-by}
-use Rattle.radio_job.specs.Code.Advance.{job-advanced}
+use Rattle.radio_job.specs.Advance.{length-ending, last-ending, reply-ending, next-point, page-kept, job-advanced-by}
+use Rattle.radio_job.specs.Advance.{job-advanced}
 use Rattle.radio_job.proofs.Laws.Image.{image-page-long, merged-long, mask-long, Sized, sized, accepted-input}
 
 pub false-true : false ≡ true → ⊥

@@ -14,7 +14,7 @@ use Rattle.radio_job.specs.declared.JobPoint.the-variants.{TakesPage}
 use Rattle.radio_job.specs.Image.{image-fits, page-count, image-page}
 use Rattle.radio_job.specs.Job.{same-bytes, shared, still-runs, ends-bad, page-ending}
 use Rattle.radio_job.specs.State.{point-fits}
-use Rattle.radio_job.specs.Code.Advance.{reply-ending}
+use Rattle.radio_job.specs.Advance.{reply-ending}
 use Rattle.radio_job.proofs.Laws.Image.{image-page-long}
 use Rattle.radio_job.proofs.Laws.Fits.{shares-all, shares-less}
 use Rattle.radio_image.specs.Page.{image-page-put}

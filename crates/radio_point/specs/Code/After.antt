@@ -10,7 +10,7 @@ use Rattle.radio_job.specs.declared.JobPoint.{JobPoint}
 use Rattle.radio_job.specs.declared.JobPoint.the-variants.{Finished}
 use Rattle.radio_job.specs.Image.{image-fits}
 use Rattle.radio_job.specs.State.{point-fits}
-use Rattle.radio_job.specs.Code.Advance.{reply-ending, next-point}
+use Rattle.radio_job.specs.Advance.{reply-ending, next-point}
 
 abbrev pub ending-of-number : (number : ℕ) → Ending
 ending-of-number n = record { number = n; code = 0; offset = 0 }

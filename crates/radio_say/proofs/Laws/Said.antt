@@ -22,7 +22,7 @@ use Rattle.radio_job.specs.declared.JobPoint.the-variants.{TakesPage, SetsByte1
 use Rattle.radio_job.specs.Image.{image-fits, pages-for, page-count, image-pages, image-page, merged}
 use Rattle.radio_job.specs.Job.{Message, JobExchange, command-message, confirmed, fetched, fed-pages, pages-compared, protects, restores}
 use Rattle.radio_job.specs.State.{JobState, point-leaves, job-left, point-fits}
-use Rattle.radio_job.specs.Code.Advance.{length-ending, reply-ending, next-point, page-kept, job-advanced-by, job-advanced}
+use Rattle.radio_job.specs.Advance.{length-ending, reply-ending, next-point, page-kept, job-advanced-by, job-advanced}
 use Rattle.radio_job.proofs.Laws.Image.{image-next, image-last, image-page-long}
 use Rattle.radio_calls.specs.declared.RadioAdvanced.{RadioAdvanced}
 use Rattle.radio_calls.specs.Calls.{takes-answer, message-of, message-put}

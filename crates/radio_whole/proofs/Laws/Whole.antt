@@ -7,14 +7,13 @@ use Prim.Native.Nat.{ℕ, zero, suc, _+_, _*_, _≤_}
 use native.Mathlib.Omega.{arith}
 use lib.Dec.{eqb, ltb}
 use lib.ListN.{length, take, drop, getD, replicate}
-use borrow.Author.Tests.{eqb-true, eqb-false, eq-eqb}
+use borrow.Author.Tests.{eqb-true, eqb-false, eq-eqb, ne-eqb}
 use Rattle.laws.proofs.Tests.{by-test}
 use Rattle.exchange.specs.Exchange.{Said, said, ended, ask, after, fed}
 use Rattle.exchange.specs.Machine.{after-replies}
 use Rattle.exchange.specs.Machine as Machines
 use Rattle.exchange.specs.Calls.{call-done, call-heard, told, in-a-row, May-follow}
 use Rattle.exchange.proofs.Laws.Exchange.{fed-append, fed-ended}
-use Rattle.exchange.proofs.Laws.Calls.{refused-unchanged}
 use Rattle.radio_command.specs.Command.{built}
 use Rattle.radio_target.specs.declared.RadioTarget.{RadioTarget}
 use Rattle.radio_target.specs.State.{fresh-state, radio-stepped}
@@ -22,11 +21,12 @@ use Rattle.radio_job.specs.declared.Ending.{Ending}
 use Rattle.radio_job.specs.Image.{JobInput, input-refusal, page-count}
 use Rattle.radio_job.specs.Job.{Message, JobExchange, take-reply, confirmed, fetched, job, ends-done, ends-error, ends-bad}
 use Rattle.radio_job.specs.State.{JobState, opened-job, job-left}
+use Rattle.radio_job.specs.Advance.{job-advanced, reply-ending}
 use Rattle.radio_job.proofs.Laws.Ends.{Has-ended, job-ends, ends-fed}
 use Rattle.radio_job.proofs.Laws.Fits.{opened-fits}
 use Rattle.radio_record.specs.Record.{packed-job, unpacked-job}
 use Rattle.radio_calls.specs.Calls.{RadioCall, job-opens, job-takes, later-number, room-number, first-number, job-refusal, job-does, message-put, opens-answer}
-use Rattle.radio_calls.specs.Calls.{message-of}
+use Rattle.radio_calls.specs.Calls.{message-of, job-untouched}
 use Rattle.radio_calls.specs.Family.{Radio, RadioTold, job-hears, job-replies, job-machine, job-state-after, ending-of, expect-of, by-job}
 use Rattle.radio_calls.proofs.Laws.Family.{goes-on, job-follows, same-fed, opened-leaves, job-lists, job-lists-alike}
 use Rattle.radio_play.specs.Run.{JobRun, run-job}
@@ -34,7 +34,7 @@ use Rattle.radio_play.specs.Flashes.{job-leaves, job-flashes}
 use Rattle.radio_play.proofs.Laws.Steps.{job-protected}
 use Rattle.radio_play.proofs.Laws.Claims.{job-programs, job-messages}
 use Rattle.radio_play.proofs.Laws.Cut.{job-cuts, job-again-restores}
-use Rattle.radio_whole.specs.Whole.{opens-job, own-answers, Protection-off, Radio-against, Radio-whole, Radio-calls-program}
+use Rattle.radio_whole.specs.Whole.{Keeps-all, opens-job, own-answers, Protection-off, Radio-against, Radio-whole, Radio-calls-program}
 use Rattle.radio_whole.specs.Whole.{Radio-calls-alike, Some-radio-calls, Radio-calls-exist}
 
 -- a reply of the length expected, and one of another
@@ -72,6 +72,25 @@ own-more e t f more =
 told-ending : (g : JobInput) (rs : List (List ℕ)) (o : Ending) → fed take-reply (job g) rs ≡ ended o → by-job g rs .ending ≡ o
 unfolding by-job said
 told-ending g rs o e = ap (λ (x : JobExchange). ending-of (said x)) e
+
+-- a refused call changes nothing, whatever its kind
+keeps-all : (c : RadioCall) → (job-refusal c ≡ 0 → ⊥) → Keeps-all c (job-refusal c) (call-done Radio c)
+unfolding call-done job-untouched
+keeps-all (job-opens r im m d out) h = rw (ne-eqb (job-refusal (job-opens r im m d out)) 0 h) (refl, refl, refl)
+keeps-all (job-takes r im q out) h = rw (ne-eqb (job-refusal (job-takes r im q out)) 0 h) (refl, refl, refl)
+
+-- a job keeps the mask of its opening
+mask-kept : (im : List ℕ) (s : JobState) (r : List ℕ) → job-advanced im s r .mask ≡ s .mask
+unfolding job-advanced
+mask-kept im s r = by-test (eqb (reply-ending (s .point) im r .number) 0) (λ e. rw e) (λ e. rw e)
+
+mask-after : (im : List ℕ) (s : JobState) (rs : List (List ℕ)) → after-replies job-machine im s rs .mask ≡ s .mask
+unfolding after-replies
+mask-after im s [] = refl
+mask-after im s (r ∷ rs) = mask-after im (job-advanced im s r) rs ∙ mask-kept im s r
+
+mask-stays : (g : JobInput) (rs : List (List ℕ)) → job-state-after g rs .mask ≡ g .mask
+mask-stays g rs = mask-after (g .image) (opened-job g) rs
 
 -- an accepted opening was given what the rules ask
 first-passes : (n h k : ℕ) → first-number n h k ≡ 0 → n ≡ 0
@@ -120,10 +139,12 @@ module _ (g : JobInput) (held out : List ℕ) (before : RadioTold) (ok : job-ref
         let f = job-follows (g .image) (opened-job g) rs (opened-fits g accepted, refl) in
         let held-is : x .held ≡ packed-job (job-state-after g rs) = ap (λ (y : RadioTold). y .held) told-all in
         record {
-          refused = refused-unchanged Radio;
+          refused = keeps-all;
           told-is = told-all;
           held = held-is;
           kept = ap unpacked-job held-is ∙ f .held;
+          long = sym (f .fine .1);
+          mask = mask-stays g rs;
           fits = f .fine .0;
           leaves = f .leaves ∙ same-fed (job-left (g .image) (opened-job g)) rs ∙ ap (λ (e : JobExchange). fed take-reply e rs) (opened-leaves g);
           ends = λ h z. let e = ends-fed (3 * page-count (g .image) + 7) (job g) rs (job-ends g) h in e .number (sym (ap (λ (y : Ending). y .number) (ap (λ (y : RadioTold). y .ending) told-all ∙ told-ending g rs (e .ending) (e .is))) ∙ z);

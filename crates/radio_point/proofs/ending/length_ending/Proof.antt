@@ -2,7 +2,7 @@
 -- the calls give.
 use borrow.Author.Tests.{eq-eqb, ne-eqb}
 use borrow.Author.Needs.{needs}
-use Rattle.radio_job.specs.Code.Advance.{length-ending}
+use Rattle.radio_job.specs.Advance.{length-ending}
 use Rattle.radio_point.proofs.ending.length_ending.Statement.{statement}
 use Rattle.radio_point.proofs.ending.length_ending.Tie as tie
 

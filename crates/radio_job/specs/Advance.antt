@@ -1,5 +1,5 @@
--- For the code: a job after a reply, point by point. `advances` of proofs/Laws/Advance is the law that it
--- leaves to say what the reply leaves of the exchange.
+-- A job after a reply, point by point: what its record keeps. `advances` of proofs/Laws/Advance is the law
+-- that it leaves to say what the reply leaves of the exchange.
 use mathlib.Core.Bool.{cond}
 use mathlib.Core.List.{List}
 use Prim.Native.Nat.{ℕ, _+_}
