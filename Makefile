@@ -6,10 +6,10 @@ BENCH := cargo run --quiet --release --offline --manifest-path bench/Cargo.toml 
 # The crates that something is made of: libraries for users; libraries that the comparison and the benchmark
 # link besides (proved/build.rs has both); the program; and those that stand right below them, proved in one
 # go.
-USERS := c2 dump hex
+USERS := c2 dump hex radio
 INSIDE := c2_wire_probe c2_run
 PROGRAM := flash
-BELOW := c2_record c2_figure c2_target_state dump_ranges hex_read hex_write
+BELOW := c2_record c2_figure c2_target_state dump_ranges hex_read hex_write radio_target_step radio_advance
 
 LIBRARY := $(USERS:%=target/staticlib/lib%.a)
 LIBRARIES := $(LIBRARY) $(INSIDE:%=target/staticlib/lib%.a)
@@ -19,7 +19,7 @@ SOURCES := $(wildcard crates/*/src/*.rt crates/*/src/*/*.rt)
 PREFIX ?= /usr/local
 VERSION = $(shell sed -n 's/^.define C2_VERSION_[MP][A-Z]* //p' include/c2.h | paste -sd.)
 
-EXAMPLES := $(patsubst %,target/examples/%,first driver waves flash dumps hex)
+EXAMPLES := $(patsubst %,target/examples/%,first driver waves flash dumps hex radio)
 OBJECTS := $(patsubst dist/%.c,target/c/%.o,$(wildcard dist/*.c))
 WAVES := target/waves/page.vcd
 SHORT := 200
@@ -36,7 +36,7 @@ help:
 	@echo "make library       build the libraries, $(LIBRARY); the headers are in include/"
 	@echo "make install       put headers, libraries and a pkg-config file below PREFIX, $(PREFIX) unless you say"
 	@echo "make flash         program a modelled target: IMAGE=file, or the image on standard input"
-	@echo "make examples      build and run the C examples: first, driver, waves, hex and dumps"
+	@echo "make examples      build and run the C examples: first, driver, waves, hex, dumps and radio"
 	@echo "make waves         write a session's strobes as a waveform, $(WAVES), for gtkwave or PulseView"
 	@echo "make dumps         tell where two dumps of a flash differ: A=file B=file; P=1024 for its page size"
 	@echo "make test          prove everything from nothing, then compare, and run the examples"
@@ -105,6 +105,7 @@ examples: $(EXAMPLES)
 	@printf ':0102000041BD\n:00000001FF\n' >target/examples/bad.hex
 	@target/examples/hex target/examples/good.hex
 	@! target/examples/hex target/examples/bad.hex
+	@target/examples/radio
 	@target/examples/waves $(SHORT) >target/examples/short.vcd
 	@sed '/^#/,$$d' target/examples/short.vcd | tr '\n' ' ' | \
 	    grep -q '^$$version .*$$timescale 1 ns $$end .*$$enddefinitions $$end $$'

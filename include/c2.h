@@ -74,7 +74,8 @@ enum {
 };
 
 /*
- * The numbers that come back, of every header here. c2_text.h has them in words.
+ * The numbers that come back, of every header here but radio.h, which has names of its own. c2_text.h has them
+ * in words.
  */
 enum {
     /* The session is running: do the step, give its reply. */

@@ -3,7 +3,7 @@
 use std::env;
 use std::path::{Path, PathBuf};
 
-const LIBRARIES: [&str; 5] = ["c2", "c2_wire_probe", "c2_run", "dump", "hex"];
+const LIBRARIES: [&str; 6] = ["c2", "c2_wire_probe", "c2_run", "dump", "hex", "radio"];
 const DEFAULT_DIR: &str = "../target/staticlib";
 
 fn library_dir() -> PathBuf {

@@ -22,7 +22,7 @@ same() {
 }
 within() {
     test -s $there || fail "$file has no numbers"
-    sort $there | comm -13 $work/numbers - >$work/diff
+    sort $there | comm -13 $work/${1:-numbers} - >$work/diff
     test ! -s $work/diff && return
     fail "$file differs from $list"
     sed 's/^/> /' $work/diff >&2
@@ -33,30 +33,58 @@ upper() {
     sed 's/\([a-z]\)\([A-Z]\)/\1_\2/g' | tr 'a-z-' 'A-Z_'
 }
 
-# A row of the list: its name with the number, and with the words.
-row='^| \([0-9][0-9]*\) | `C2_\([A-Z_]*\)` | \(.*\) | \(.*\) |$'
-sed -n "s/$row/\2 \1/p" $list | sort >$work/numbers
-sed -n "s/$row/\2 \3: \4/p" $list | sort >$work/words
+# A row of the list: its name with the number, and with the words. C2 and the radio module have tables of
+# their own; a name behind the prefix has one number, and a number one name.
+row='^| \([0-9][0-9]*\) | `PREFIX_\([A-Z_]*\)` | \(.*\) | \(.*\) |$'
+for family in c2 radio; do
+    this=$(echo "$row" | sed "s/PREFIX/$(echo $family | tr a-z A-Z)/")
+    sed -n "s/$this/\2 \1/p" $list | grep -v '^ERR_' | sort >$work/$family.numbers
+    sed -n "s/$this/\2 \3: \4/p" $list | grep -v '^ERR_' | sort >$work/$family.words
+    test -s $work/$family.numbers || fail "$list has no rows of $family"
+done
+this=$(echo "$row" | sed 's/PREFIX_/RADIO_ERR_/')
+sed -n "s/$this/\2 \1/p" $list | sort >$work/codes
+sed -n "s/$this/\2 \3: \4/p" $list | sort >$work/codes.words
+sort -u $work/c2.numbers $work/radio.numbers >$work/numbers
 count=$(wc -l <$work/numbers)
-test "$count" -gt 0 || fail "$list has no rows"
 for field in 1 2; do
     twice=$(cut -d' ' -f$field $work/numbers | sort | uniq -d)
     test -z "$twice" || fail "$list has $twice twice"
 done
 
-for file in crates/numbers/src/lib.rt compare/src/second/numbers.rs; do
-    sed -n 's/^pub const \([A-Z_]*\): u32 = \([0-9]*\);$/\1 \2/p' $file >$there
-    same numbers
-done
+# The radio module's own numbers stand in its lowest crate.
+constants='s/^pub const \([A-Z_]*\): u32 = \([0-9]*\);$/\1 \2/p'
+file=crates/numbers/src/lib.rt
+sed -n "$constants" $file crates/radio_command/src/lib.rt >$there
+same numbers
+file=compare/src/second/numbers.rs
+sed -n "$constants" $file >$there
+same numbers
 file=crates/numbers/specs/Numbers.antt
-sed -n 's/^\([a-z-]*\) = \([0-9]*\)$/\1 \2/p' $file | upper >$there
+sed -n 's/^\([a-z-]*\) = \([0-9]*\)$/\1 \2/p' $file crates/radio_command/specs/Numbers.antt | upper >$there
 same numbers
 file=include/c2.h
 sed -n '/C2_STEP_/d;s/^ *C2_\([A-Z_]*\) = \([0-9]*\).*/\1 \2/p' $file >$there
-same numbers
-file=include/c2_text.h
-sed -n '/^ *case C2_/{s/.*C2_\(.*\):/\1/;N;s/\n *return "\(.*\)";/ \1/;p;}' $file >$there
-same words
+same c2.numbers
+file=include/radio.h
+sed -n '/RADIO_ERR_/d;s/^ *RADIO_\([A-Z_]*\) = \([0-9]*\)\([, ].*\)*$/\1 \2/p' $file >$there
+same radio.numbers
+sed -n 's/^ *RADIO_ERR_\([A-Z_]*\) = \([0-9]*\)\([, ].*\)*$/\1 \2/p' $file >$there
+same codes
+file=crates/radio_target/specs/Deeds.antt
+sed -n 's/^err-\([a-z-]*\) = \([0-9]*\)$/\1 \2/p' $file | upper >$there
+within codes
+worded() {
+    file=include/$2_text.h
+    sed -n "/^ *case $1_/{s/.*$1_\(.*\):/\1/;N;s/\n *return \"\(.*\)\";/ \1/;p;}" $file >$there
+}
+worded C2 c2
+same c2.words
+worded RADIO radio
+sed -i '/^ERR_/d' $there
+same radio.words
+worded RADIO_ERR radio
+same codes.words
 file=bench/src/plain/wire.rs
 sed -n '/^pub enum Refusal/,/^}/s/^ *\([A-Za-z]*\) = \([0-9]*\),$/\1 \2/p' $file | upper >$there
 within
@@ -66,6 +94,9 @@ within
 file=bench/src/plain/session/face.rs
 sed -n 's/^ *(\([0-9]*\), .*) .*=> Some(Outcome::\([A-Za-z]*\).*),$/\2 \1/p' $file | upper >$there
 within
+file=bench/src/plain/radio.rs
+sed -n 's/^const \([A-Z_]*\): u32 = \([0-9]*\);$/\1 \2/p' $file >$there
+within radio.numbers
 
 test $status = 0 && echo "ok     numbers: $count, alike wherever they stand"
 exit $status

@@ -95,4 +95,62 @@ def hex(machine, rng):
         call(machine, 'c2_hex_read', [settings, lent(scattered[:rng.randrange(len(scattered) + 1)]), lent([0] * room)], 'hex')
 
 
-CALLS = {'c2': c2, 'dump': dump, 'hex': hex}
+COMMANDS = (0x4B, 0x8C, 0x6B, 0x6C, 0x69, 0x6A, 0x6D, 0x6E, 0x58, 0x99, 0x70, 0x71, 0x6F)
+
+
+def command(byte, *parameters):
+    """The eight bytes of a command of the radio module."""
+    content = [0xA5, byte, *parameters]
+    return [0xA5, 0x5A, *content, sum(content) % 256]
+
+
+def radio(machine, rng):
+    """Jobs against the modelled module, every command to it, bad replies, damaged records and states, refused calls."""
+    for length in (1, 300, 256):
+        radio_job(machine, rng, length)
+    flash = rng.choices(range(256), k=33024)
+    for byte in COMMANDS + (0x00,) + COMMANDS:
+        parameters = rng.choice((0, 1, 4, 5, 127, 128, 129)), rng.choice((0, 1, 2)), rng.randrange(256)
+        message = command(byte, *parameters)
+        room = rng.choice((256, 256, 300, 255, 8, 7))
+        call(machine, 'radio_build', [(8, byte), *((8, p) for p in parameters), lent([0] * room)], 'radio')
+        message[rng.randrange(8)] ^= rng.choice((0, 0, 1))
+        call(machine, 'radio_read', [lent(message[:rng.choice((8, 8, 7))])], 'radio')
+        state = rng.choice((((32, 0),) * 3, ((32, 0),) * 3, tuple((32, rng.randrange(5)) for _ in range(3))))
+        call(machine, 'radio_target_step', [state, lent(flash[:rng.choice((33024, 33024, 33023))]), lent(message),
+                                            lent([0] * room)], 'radio')
+
+
+def radio_job(machine, rng, length):
+    image, flash = rng.choices(range(256), k=length), rng.choices(range(1, 256), k=33024)
+    mask = [0 if i in (2, 3) else rng.choice((0, 255)) for i in range(256)]
+    data = rng.choices(range(256), k=256)
+    for kept, room in ((519, 256), (520, 255), (520, 256)):
+        held, out = [0] * kept, [0] * room
+        _, (_, send), _ = call(machine, 'radio_open', [lent(held), lent(image), lent(mask), lent(data), lent(out)], 'radio')
+    call(machine, 'radio_open', [lent(held[:]), lent(image), lent(mask[1:]), lent(data), lent(out[:])], 'radio')
+    call(machine, 'radio_open', [lent(held[:]), lent([]), lent(mask), lent(data), lent(out[:])], 'radio')
+    target, number = call(machine, 'radio_target_fresh', [], 'radio'), 0
+    while number == 0:
+        answer = [0] * 256
+        _, (_, came), target = call(machine, 'radio_target_step', [target, lent(flash), lent(out[:send]), lent(answer)], 'radio')
+        beside_radio(machine, rng, held, image, answer[:came])
+        (_, number), _, _, (_, send), _ = call(
+            machine, 'radio_advance', [lent(held), lent(image), lent(answer[:came]), lent(out)], 'radio')
+    beside_radio(machine, rng, held, image, [])
+
+
+def beside_radio(machine, rng, held, image, reply):
+    """Calls that leave the job as it is: on copies of its record, with damaged replies, other images, no room."""
+    damaged, other = list(held), list(reply)
+    damaged[rng.choice((0, 256, rng.randrange(512, 520)))] ^= 1 << rng.randrange(8)
+    if other:
+        other[rng.randrange(len(other))] ^= 1 << rng.randrange(8)
+    error = command(0x99, rng.randrange(9), 0, 0)
+    for record, lent_image, answer, room in ((damaged, image, reply, 256), (list(held), image, other, 256),
+                                             (list(held), image, error, 256), (list(held), image[1:], reply, 256),
+                                             (list(held), image, reply[1:], rng.choice((255, 256, 300)))):
+        call(machine, 'radio_advance', [lent(record), lent(lent_image), lent(answer), lent([0] * room)], 'radio')
+
+
+CALLS = {'c2': c2, 'dump': dump, 'hex': hex, 'radio': radio}

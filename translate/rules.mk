@@ -6,6 +6,7 @@ FACES := $(USERS)
 c2_HEADERS := include/c2.h include/c2_target.h
 dump_HEADERS := include/c2_dump.h
 hex_HEADERS := include/c2_hex.h
+radio_HEADERS := include/radio.h
 
 TRANSLATE := cargo run --quiet --offline --manifest-path translate/Cargo.toml --target-dir target/translate --
 MIR := $(FACES:%=target/mir/%.mir)

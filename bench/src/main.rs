@@ -11,6 +11,7 @@ mod dumps;
 mod harness;
 mod hex;
 mod plain;
+mod radio;
 mod rows;
 
 use std::hint::black_box;
@@ -90,7 +91,8 @@ fn run() -> Result<(), String> {
     frames::targets_agree()?;
     LISTS.into_iter().try_for_each(|(name, delays)| table(name, delays, options.repeat))?;
     dumps::table(options.repeat)?;
-    hex::table(options.repeat)
+    hex::table(options.repeat)?;
+    radio::table(options.repeat)
 }
 
 fn main() -> ExitCode {

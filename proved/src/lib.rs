@@ -7,3 +7,4 @@ pub mod c2_target;
 pub mod c2_wire;
 pub mod dump;
 pub mod hex;
+pub mod radio;

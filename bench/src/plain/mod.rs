@@ -2,6 +2,7 @@
 
 pub mod dump;
 pub mod hex;
+pub mod radio;
 pub mod session;
 pub mod target;
 pub mod wire;

@@ -3,6 +3,7 @@
 mod c2;
 mod dump;
 mod hex;
+mod radio;
 
 use crate::harness::check::Check;
 
@@ -18,6 +19,9 @@ const ALL: &[&[Check]] = &[
     c2::closed::CHECKS,
     dump::CHECKS,
     hex::CHECKS,
+    radio::commands::CHECKS,
+    radio::module::CHECKS,
+    radio::job::CHECKS,
 ];
 
 /// Every check; those of the program only if there is one.

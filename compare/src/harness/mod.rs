@@ -6,5 +6,6 @@ pub mod check;
 pub mod dump;
 pub mod hex;
 pub mod lent;
+pub mod radio;
 pub mod random;
 pub mod report;

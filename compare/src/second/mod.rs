@@ -5,4 +5,5 @@ pub mod c2;
 pub mod dump;
 pub mod hex;
 pub mod numbers;
+pub mod radio;
 pub mod settings;

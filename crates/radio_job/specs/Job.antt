@@ -23,7 +23,7 @@ pub record Message : Type 0 where
   pub bytes : List ℕ
   pub expect : ℕ
 
--- what is still-runs to be said, by the replies
+-- what is still to be said, by the replies
 abbrev pub JobExchange : Type 0
 JobExchange = Exchange Message (List ℕ) Ending
 

@@ -24,7 +24,7 @@ unfoldable pub flash-with : (image : List ℕ) → (pages b0 b1 : ℕ) → (rest
 flash-with im i b0 b1 rest info =
     take (256 * i) (padded im) ++ (erased-bytes (32512 - 256 * i) ++ (b0 ∷ b1 ∷ 0xFF ∷ 0xFF ∷ (rest ++ info)))
 
--- with so many pages of the image and a configuration still-runs erased
+-- with so many pages of the image and a configuration still erased
 abbrev pub flash-fed : (image : List ℕ) → (pages : ℕ) → (information : List ℕ) → List ℕ
 flash-fed im i info = flash-with im i 0xFF 0xFF (erased-bytes 252) info
 

@@ -68,7 +68,7 @@ module _ (h old : List ℕ) (l : length h ≡ 520) (lo : length old ≡ 256) whe
   all-long : length all ≡ 256
   all-long = merged-long 256 (mask-of h) (take 256 h) old mask-of-long page-of-long lo
 
-  -- what is still-runs there behind what was written
+  -- what is still there behind what was written
   behind : (i k : ℕ) → i ≤ 256 → i ≤ k → getD (take i all ++ drop i h) k 0 ≡ getD h k 0
   behind i k a b =
       let w = all-long in

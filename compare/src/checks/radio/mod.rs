@@ -1,0 +1,5 @@
+//! The radio module.
+
+pub mod commands;
+pub mod job;
+pub mod module;
