@@ -1,4 +1,4 @@
-/* Made from the MIR of crate c2, sha256 bf980bd8a9d9372aa6fb75055986d0f9115d32d6de31073889cbe9750de9ab3e. */
+/* Made from the MIR of crate c2, sha256 50a9853a78cc557ce3eddec15463147a8d971f2ae11f608ae18f00fd10142b0e. */
 /*
  * Made by `make c`, not to be edited. A function stands under its path in the proved code. Its result is
  * called result, its parameters a1, a2 .. and its other locals v.., by their numbers in the MIR. A statement
@@ -88,6 +88,10 @@ typedef struct {
 } c2_wire__Moved;
 
 typedef uint8_t c2_wire__Frame;
+
+typedef struct {
+    uint8_t at[2048];
+} array_2048_u8;
 
 typedef struct {
     c2_session__Session f0;
@@ -1719,60 +1723,223 @@ static c2_wire__Frame c2_session__script__task_frame(c2_acts__Task a1)
     return result;
 }
 
-/* c2_wire::script::driven */
-static uint64_t c2_wire__script__driven(uint8_t a1)
+/* c2_wire::script::around */
+static uint64_t c2_wire__script__around(c2_wire__Frame a1)
 {
     uint64_t result;
     uint64_t v2;
+    switch (a1) {
+    case 0u:
+        v2 = UINT64_C(8608472358044304176);
+        break;
+    case 1u:
+        v2 = UINT64_C(8608489872042853152);
+        break;
+    case 2u:
+        v2 = UINT64_C(8601875288277787184);
+        break;
+    default: /* 3 */
+        v2 = UINT64_C(8646591028576526880);
+        break;
+    }
+    result = v2;
+    return result;
+}
+
+/* c2_wire::script::byte_weight */
+static uint64_t c2_wire__script__byte_weight(c2_wire__Frame a1)
+{
+    uint64_t result;
+    uint64_t v2;
+    switch (a1) {
+    case 0u:
+        v2 = UINT64_C(4096);
+        break;
+    case 1u:
+        v2 = UINT64_C(0);
+        break;
+    case 2u:
+        v2 = UINT64_C(1048576);
+        break;
+    default: /* 3 */
+        v2 = UINT64_C(0);
+        break;
+    }
+    result = v2;
+    return result;
+}
+
+/* c2_wire::table::two */
+static uint64_t c2_wire__table__two(uint8_t a1, uint8_t a2)
+{
+    uint64_t result;
+    uint64_t v3;
+    uint64_t v4;
+    uint64_t v5;
+    v3 = (uint64_t)a1;
+    v4 = (uint64_t)a2;
+    v5 = v4 * UINT64_C(16);
+    result = v3 + v5;
+    return result;
+}
+
+/* c2_wire::table::word */
+static uint64_t c2_wire__table__word(slice_u8 a1, uint8_t a2)
+{
+    uint64_t result;
     uint64_t v3;
     uint64_t v4;
     uint64_t v5;
     uint64_t v6;
-    uint64_t v7;
-    uint64_t v8;
+    const uint8_t *v7;
+    uint8_t v8;
     uint64_t v9;
-    uint64_t v10;
-    uint64_t v11;
+    const uint8_t *v10;
+    uint8_t v11;
     uint64_t v12;
     uint64_t v13;
-    uint64_t v14;
-    uint64_t v15;
+    const uint8_t *v14;
+    uint8_t v15;
     uint64_t v16;
-    uint64_t v17;
-    uint64_t v18;
+    const uint8_t *v17;
+    uint8_t v18;
     uint64_t v19;
-    uint64_t v20;
-    v2 = (uint64_t)a1;
-    v3 = v2 / UINT64_C(2);
-    v4 = v3 / UINT64_C(2);
-    v5 = v4 / UINT64_C(2);
-    v6 = v5 / UINT64_C(2);
-    v7 = v6 / UINT64_C(2);
-    v8 = v7 / UINT64_C(2);
-    v9 = v8 / UINT64_C(2);
-    v12 = v2 % UINT64_C(2);
-    v13 = v3 % UINT64_C(2);
-    v14 = v13 * UINT64_C(16);
-    v15 = v12 + v14;
-    v16 = v4 % UINT64_C(2);
-    v17 = v16 * UINT64_C(256);
-    v18 = v15 + v17;
-    v19 = v5 % UINT64_C(2);
-    v20 = v19 * UINT64_C(4096);
-    v10 = v18 + v20;
-    v12 = v6 % UINT64_C(2);
-    v20 = v7 % UINT64_C(2);
-    v19 = v20 * UINT64_C(16);
-    v18 = v12 + v19;
-    v17 = v8 % UINT64_C(2);
-    v16 = v17 * UINT64_C(256);
-    v15 = v18 + v16;
-    v14 = v9 % UINT64_C(2);
-    v13 = v14 * UINT64_C(4096);
-    v11 = v15 + v13;
-    v12 = UINT64_C(572662306) + v10;
-    v13 = v11 * UINT64_C(65536);
-    result = v12 + v13;
+    const uint8_t *v20;
+    const uint8_t *v21;
+    const uint8_t *v22;
+    uint64_t v23;
+    const uint8_t *v24;
+    v3 = (uint64_t)a2;
+    v7 = a1.at + (size_t)v3;
+    v8 = *v7;
+    v9 = v3 + UINT64_C(256);
+    v10 = a1.at + (size_t)v9;
+    v11 = *v10;
+    v6 = c2_wire__table__two(v8, v11);
+    v13 = v3 + UINT64_C(512);
+    v14 = a1.at + (size_t)v13;
+    v15 = *v14;
+    v16 = v3 + UINT64_C(768);
+    v17 = a1.at + (size_t)v16;
+    v18 = *v17;
+    v12 = c2_wire__table__two(v15, v18);
+    v19 = v12 * UINT64_C(256);
+    v4 = v6 + v19;
+    v9 = v3 + UINT64_C(1024);
+    v20 = a1.at + (size_t)v9;
+    v8 = *v20;
+    v16 = v3 + UINT64_C(1280);
+    v21 = a1.at + (size_t)v16;
+    v15 = *v21;
+    v6 = c2_wire__table__two(v8, v15);
+    v13 = v3 + UINT64_C(1536);
+    v22 = a1.at + (size_t)v13;
+    v11 = *v22;
+    v23 = v3 + UINT64_C(1792);
+    v24 = a1.at + (size_t)v23;
+    v18 = *v24;
+    v19 = c2_wire__table__two(v11, v18);
+    v12 = v19 * UINT64_C(256);
+    v5 = v6 + v12;
+    v6 = v5 * UINT64_C(65536);
+    result = v4 + v6;
+    return result;
+}
+
+/* c2_wire::table::driven */
+static uint64_t c2_wire__table__driven(uint8_t a1)
+{
+    uint64_t result;
+    static const array_2048_u8 v2 = {{
+        2u, 3u, 2u, 3u, 2u, 3u, 2u, 3u, 2u, 3u, 2u, 3u, 2u, 3u, 2u, 3u, 2u, 3u, 2u, 3u, 2u, 3u, 2u, 3u, 2u,
+        3u, 2u, 3u, 2u, 3u, 2u, 3u, 2u, 3u, 2u, 3u, 2u, 3u, 2u, 3u, 2u, 3u, 2u, 3u, 2u, 3u, 2u, 3u, 2u, 3u,
+        2u, 3u, 2u, 3u, 2u, 3u, 2u, 3u, 2u, 3u, 2u, 3u, 2u, 3u, 2u, 3u, 2u, 3u, 2u, 3u, 2u, 3u, 2u, 3u, 2u,
+        3u, 2u, 3u, 2u, 3u, 2u, 3u, 2u, 3u, 2u, 3u, 2u, 3u, 2u, 3u, 2u, 3u, 2u, 3u, 2u, 3u, 2u, 3u, 2u, 3u,
+        2u, 3u, 2u, 3u, 2u, 3u, 2u, 3u, 2u, 3u, 2u, 3u, 2u, 3u, 2u, 3u, 2u, 3u, 2u, 3u, 2u, 3u, 2u, 3u, 2u,
+        3u, 2u, 3u, 2u, 3u, 2u, 3u, 2u, 3u, 2u, 3u, 2u, 3u, 2u, 3u, 2u, 3u, 2u, 3u, 2u, 3u, 2u, 3u, 2u, 3u,
+        2u, 3u, 2u, 3u, 2u, 3u, 2u, 3u, 2u, 3u, 2u, 3u, 2u, 3u, 2u, 3u, 2u, 3u, 2u, 3u, 2u, 3u, 2u, 3u, 2u,
+        3u, 2u, 3u, 2u, 3u, 2u, 3u, 2u, 3u, 2u, 3u, 2u, 3u, 2u, 3u, 2u, 3u, 2u, 3u, 2u, 3u, 2u, 3u, 2u, 3u,
+        2u, 3u, 2u, 3u, 2u, 3u, 2u, 3u, 2u, 3u, 2u, 3u, 2u, 3u, 2u, 3u, 2u, 3u, 2u, 3u, 2u, 3u, 2u, 3u, 2u,
+        3u, 2u, 3u, 2u, 3u, 2u, 3u, 2u, 3u, 2u, 3u, 2u, 3u, 2u, 3u, 2u, 3u, 2u, 3u, 2u, 3u, 2u, 3u, 2u, 3u,
+        2u, 3u, 2u, 3u, 2u, 3u, 2u, 2u, 3u, 3u, 2u, 2u, 3u, 3u, 2u, 2u, 3u, 3u, 2u, 2u, 3u, 3u, 2u, 2u, 3u,
+        3u, 2u, 2u, 3u, 3u, 2u, 2u, 3u, 3u, 2u, 2u, 3u, 3u, 2u, 2u, 3u, 3u, 2u, 2u, 3u, 3u, 2u, 2u, 3u, 3u,
+        2u, 2u, 3u, 3u, 2u, 2u, 3u, 3u, 2u, 2u, 3u, 3u, 2u, 2u, 3u, 3u, 2u, 2u, 3u, 3u, 2u, 2u, 3u, 3u, 2u,
+        2u, 3u, 3u, 2u, 2u, 3u, 3u, 2u, 2u, 3u, 3u, 2u, 2u, 3u, 3u, 2u, 2u, 3u, 3u, 2u, 2u, 3u, 3u, 2u, 2u,
+        3u, 3u, 2u, 2u, 3u, 3u, 2u, 2u, 3u, 3u, 2u, 2u, 3u, 3u, 2u, 2u, 3u, 3u, 2u, 2u, 3u, 3u, 2u, 2u, 3u,
+        3u, 2u, 2u, 3u, 3u, 2u, 2u, 3u, 3u, 2u, 2u, 3u, 3u, 2u, 2u, 3u, 3u, 2u, 2u, 3u, 3u, 2u, 2u, 3u, 3u,
+        2u, 2u, 3u, 3u, 2u, 2u, 3u, 3u, 2u, 2u, 3u, 3u, 2u, 2u, 3u, 3u, 2u, 2u, 3u, 3u, 2u, 2u, 3u, 3u, 2u,
+        2u, 3u, 3u, 2u, 2u, 3u, 3u, 2u, 2u, 3u, 3u, 2u, 2u, 3u, 3u, 2u, 2u, 3u, 3u, 2u, 2u, 3u, 3u, 2u, 2u,
+        3u, 3u, 2u, 2u, 3u, 3u, 2u, 2u, 3u, 3u, 2u, 2u, 3u, 3u, 2u, 2u, 3u, 3u, 2u, 2u, 3u, 3u, 2u, 2u, 3u,
+        3u, 2u, 2u, 3u, 3u, 2u, 2u, 3u, 3u, 2u, 2u, 3u, 3u, 2u, 2u, 3u, 3u, 2u, 2u, 3u, 3u, 2u, 2u, 3u, 3u,
+        2u, 2u, 3u, 3u, 2u, 2u, 3u, 3u, 2u, 2u, 3u, 3u, 2u, 2u, 2u, 2u, 3u, 3u, 3u, 3u, 2u, 2u, 2u, 2u, 3u,
+        3u, 3u, 3u, 2u, 2u, 2u, 2u, 3u, 3u, 3u, 3u, 2u, 2u, 2u, 2u, 3u, 3u, 3u, 3u, 2u, 2u, 2u, 2u, 3u, 3u,
+        3u, 3u, 2u, 2u, 2u, 2u, 3u, 3u, 3u, 3u, 2u, 2u, 2u, 2u, 3u, 3u, 3u, 3u, 2u, 2u, 2u, 2u, 3u, 3u, 3u,
+        3u, 2u, 2u, 2u, 2u, 3u, 3u, 3u, 3u, 2u, 2u, 2u, 2u, 3u, 3u, 3u, 3u, 2u, 2u, 2u, 2u, 3u, 3u, 3u, 3u,
+        2u, 2u, 2u, 2u, 3u, 3u, 3u, 3u, 2u, 2u, 2u, 2u, 3u, 3u, 3u, 3u, 2u, 2u, 2u, 2u, 3u, 3u, 3u, 3u, 2u,
+        2u, 2u, 2u, 3u, 3u, 3u, 3u, 2u, 2u, 2u, 2u, 3u, 3u, 3u, 3u, 2u, 2u, 2u, 2u, 3u, 3u, 3u, 3u, 2u, 2u,
+        2u, 2u, 3u, 3u, 3u, 3u, 2u, 2u, 2u, 2u, 3u, 3u, 3u, 3u, 2u, 2u, 2u, 2u, 3u, 3u, 3u, 3u, 2u, 2u, 2u,
+        2u, 3u, 3u, 3u, 3u, 2u, 2u, 2u, 2u, 3u, 3u, 3u, 3u, 2u, 2u, 2u, 2u, 3u, 3u, 3u, 3u, 2u, 2u, 2u, 2u,
+        3u, 3u, 3u, 3u, 2u, 2u, 2u, 2u, 3u, 3u, 3u, 3u, 2u, 2u, 2u, 2u, 3u, 3u, 3u, 3u, 2u, 2u, 2u, 2u, 3u,
+        3u, 3u, 3u, 2u, 2u, 2u, 2u, 3u, 3u, 3u, 3u, 2u, 2u, 2u, 2u, 3u, 3u, 3u, 3u, 2u, 2u, 2u, 2u, 3u, 3u,
+        3u, 3u, 2u, 2u, 2u, 2u, 3u, 3u, 3u, 3u, 2u, 2u, 2u, 2u, 3u, 3u, 3u, 3u, 2u, 2u, 2u, 2u, 2u, 2u, 2u,
+        2u, 3u, 3u, 3u, 3u, 3u, 3u, 3u, 3u, 2u, 2u, 2u, 2u, 2u, 2u, 2u, 2u, 3u, 3u, 3u, 3u, 3u, 3u, 3u, 3u,
+        2u, 2u, 2u, 2u, 2u, 2u, 2u, 2u, 3u, 3u, 3u, 3u, 3u, 3u, 3u, 3u, 2u, 2u, 2u, 2u, 2u, 2u, 2u, 2u, 3u,
+        3u, 3u, 3u, 3u, 3u, 3u, 3u, 2u, 2u, 2u, 2u, 2u, 2u, 2u, 2u, 3u, 3u, 3u, 3u, 3u, 3u, 3u, 3u, 2u, 2u,
+        2u, 2u, 2u, 2u, 2u, 2u, 3u, 3u, 3u, 3u, 3u, 3u, 3u, 3u, 2u, 2u, 2u, 2u, 2u, 2u, 2u, 2u, 3u, 3u, 3u,
+        3u, 3u, 3u, 3u, 3u, 2u, 2u, 2u, 2u, 2u, 2u, 2u, 2u, 3u, 3u, 3u, 3u, 3u, 3u, 3u, 3u, 2u, 2u, 2u, 2u,
+        2u, 2u, 2u, 2u, 3u, 3u, 3u, 3u, 3u, 3u, 3u, 3u, 2u, 2u, 2u, 2u, 2u, 2u, 2u, 2u, 3u, 3u, 3u, 3u, 3u,
+        3u, 3u, 3u, 2u, 2u, 2u, 2u, 2u, 2u, 2u, 2u, 3u, 3u, 3u, 3u, 3u, 3u, 3u, 3u, 2u, 2u, 2u, 2u, 2u, 2u,
+        2u, 2u, 3u, 3u, 3u, 3u, 3u, 3u, 3u, 3u, 2u, 2u, 2u, 2u, 2u, 2u, 2u, 2u, 3u, 3u, 3u, 3u, 3u, 3u, 3u,
+        3u, 2u, 2u, 2u, 2u, 2u, 2u, 2u, 2u, 3u, 3u, 3u, 3u, 3u, 3u, 3u, 3u, 2u, 2u, 2u, 2u, 2u, 2u, 2u, 2u,
+        3u, 3u, 3u, 3u, 3u, 3u, 3u, 3u, 2u, 2u, 2u, 2u, 2u, 2u, 2u, 2u, 3u, 3u, 3u, 3u, 3u, 3u, 3u, 3u, 2u,
+        2u, 2u, 2u, 2u, 2u, 2u, 2u, 2u, 2u, 2u, 2u, 2u, 2u, 2u, 2u, 3u, 3u, 3u, 3u, 3u, 3u, 3u, 3u, 3u, 3u,
+        3u, 3u, 3u, 3u, 3u, 3u, 2u, 2u, 2u, 2u, 2u, 2u, 2u, 2u, 2u, 2u, 2u, 2u, 2u, 2u, 2u, 2u, 3u, 3u, 3u,
+        3u, 3u, 3u, 3u, 3u, 3u, 3u, 3u, 3u, 3u, 3u, 3u, 3u, 2u, 2u, 2u, 2u, 2u, 2u, 2u, 2u, 2u, 2u, 2u, 2u,
+        2u, 2u, 2u, 2u, 3u, 3u, 3u, 3u, 3u, 3u, 3u, 3u, 3u, 3u, 3u, 3u, 3u, 3u, 3u, 3u, 2u, 2u, 2u, 2u, 2u,
+        2u, 2u, 2u, 2u, 2u, 2u, 2u, 2u, 2u, 2u, 2u, 3u, 3u, 3u, 3u, 3u, 3u, 3u, 3u, 3u, 3u, 3u, 3u, 3u, 3u,
+        3u, 3u, 2u, 2u, 2u, 2u, 2u, 2u, 2u, 2u, 2u, 2u, 2u, 2u, 2u, 2u, 2u, 2u, 3u, 3u, 3u, 3u, 3u, 3u, 3u,
+        3u, 3u, 3u, 3u, 3u, 3u, 3u, 3u, 3u, 2u, 2u, 2u, 2u, 2u, 2u, 2u, 2u, 2u, 2u, 2u, 2u, 2u, 2u, 2u, 2u,
+        3u, 3u, 3u, 3u, 3u, 3u, 3u, 3u, 3u, 3u, 3u, 3u, 3u, 3u, 3u, 3u, 2u, 2u, 2u, 2u, 2u, 2u, 2u, 2u, 2u,
+        2u, 2u, 2u, 2u, 2u, 2u, 2u, 3u, 3u, 3u, 3u, 3u, 3u, 3u, 3u, 3u, 3u, 3u, 3u, 3u, 3u, 3u, 3u, 2u, 2u,
+        2u, 2u, 2u, 2u, 2u, 2u, 2u, 2u, 2u, 2u, 2u, 2u, 2u, 2u, 3u, 3u, 3u, 3u, 3u, 3u, 3u, 3u, 3u, 3u, 3u,
+        3u, 3u, 3u, 3u, 3u, 2u, 2u, 2u, 2u, 2u, 2u, 2u, 2u, 2u, 2u, 2u, 2u, 2u, 2u, 2u, 2u, 2u, 2u, 2u, 2u,
+        2u, 2u, 2u, 2u, 2u, 2u, 2u, 2u, 2u, 2u, 2u, 2u, 3u, 3u, 3u, 3u, 3u, 3u, 3u, 3u, 3u, 3u, 3u, 3u, 3u,
+        3u, 3u, 3u, 3u, 3u, 3u, 3u, 3u, 3u, 3u, 3u, 3u, 3u, 3u, 3u, 3u, 3u, 3u, 3u, 2u, 2u, 2u, 2u, 2u, 2u,
+        2u, 2u, 2u, 2u, 2u, 2u, 2u, 2u, 2u, 2u, 2u, 2u, 2u, 2u, 2u, 2u, 2u, 2u, 2u, 2u, 2u, 2u, 2u, 2u, 2u,
+        2u, 3u, 3u, 3u, 3u, 3u, 3u, 3u, 3u, 3u, 3u, 3u, 3u, 3u, 3u, 3u, 3u, 3u, 3u, 3u, 3u, 3u, 3u, 3u, 3u,
+        3u, 3u, 3u, 3u, 3u, 3u, 3u, 3u, 2u, 2u, 2u, 2u, 2u, 2u, 2u, 2u, 2u, 2u, 2u, 2u, 2u, 2u, 2u, 2u, 2u,
+        2u, 2u, 2u, 2u, 2u, 2u, 2u, 2u, 2u, 2u, 2u, 2u, 2u, 2u, 2u, 3u, 3u, 3u, 3u, 3u, 3u, 3u, 3u, 3u, 3u,
+        3u, 3u, 3u, 3u, 3u, 3u, 3u, 3u, 3u, 3u, 3u, 3u, 3u, 3u, 3u, 3u, 3u, 3u, 3u, 3u, 3u, 3u, 2u, 2u, 2u,
+        2u, 2u, 2u, 2u, 2u, 2u, 2u, 2u, 2u, 2u, 2u, 2u, 2u, 2u, 2u, 2u, 2u, 2u, 2u, 2u, 2u, 2u, 2u, 2u, 2u,
+        2u, 2u, 2u, 2u, 3u, 3u, 3u, 3u, 3u, 3u, 3u, 3u, 3u, 3u, 3u, 3u, 3u, 3u, 3u, 3u, 3u, 3u, 3u, 3u, 3u,
+        3u, 3u, 3u, 3u, 3u, 3u, 3u, 3u, 3u, 3u, 3u, 2u, 2u, 2u, 2u, 2u, 2u, 2u, 2u, 2u, 2u, 2u, 2u, 2u, 2u,
+        2u, 2u, 2u, 2u, 2u, 2u, 2u, 2u, 2u, 2u, 2u, 2u, 2u, 2u, 2u, 2u, 2u, 2u, 2u, 2u, 2u, 2u, 2u, 2u, 2u,
+        2u, 2u, 2u, 2u, 2u, 2u, 2u, 2u, 2u, 2u, 2u, 2u, 2u, 2u, 2u, 2u, 2u, 2u, 2u, 2u, 2u, 2u, 2u, 2u, 2u,
+        3u, 3u, 3u, 3u, 3u, 3u, 3u, 3u, 3u, 3u, 3u, 3u, 3u, 3u, 3u, 3u, 3u, 3u, 3u, 3u, 3u, 3u, 3u, 3u, 3u,
+        3u, 3u, 3u, 3u, 3u, 3u, 3u, 3u, 3u, 3u, 3u, 3u, 3u, 3u, 3u, 3u, 3u, 3u, 3u, 3u, 3u, 3u, 3u, 3u, 3u,
+        3u, 3u, 3u, 3u, 3u, 3u, 3u, 3u, 3u, 3u, 3u, 3u, 3u, 3u, 2u, 2u, 2u, 2u, 2u, 2u, 2u, 2u, 2u, 2u, 2u,
+        2u, 2u, 2u, 2u, 2u, 2u, 2u, 2u, 2u, 2u, 2u, 2u, 2u, 2u, 2u, 2u, 2u, 2u, 2u, 2u, 2u, 2u, 2u, 2u, 2u,
+        2u, 2u, 2u, 2u, 2u, 2u, 2u, 2u, 2u, 2u, 2u, 2u, 2u, 2u, 2u, 2u, 2u, 2u, 2u, 2u, 2u, 2u, 2u, 2u, 2u,
+        2u, 2u, 2u, 3u, 3u, 3u, 3u, 3u, 3u, 3u, 3u, 3u, 3u, 3u, 3u, 3u, 3u, 3u, 3u, 3u, 3u, 3u, 3u, 3u, 3u,
+        3u, 3u, 3u, 3u, 3u, 3u, 3u, 3u, 3u, 3u, 3u, 3u, 3u, 3u, 3u, 3u, 3u, 3u, 3u, 3u, 3u, 3u, 3u, 3u, 3u,
+        3u, 3u, 3u, 3u, 3u, 3u, 3u, 3u, 3u, 3u, 3u, 3u, 3u, 3u, 3u, 3u, 3u, 2u, 2u, 2u, 2u, 2u, 2u, 2u, 2u,
+        2u, 2u, 2u, 2u, 2u, 2u, 2u, 2u, 2u, 2u, 2u, 2u, 2u, 2u, 2u, 2u, 2u, 2u, 2u, 2u, 2u, 2u, 2u, 2u, 2u,
+        2u, 2u, 2u, 2u, 2u, 2u, 2u, 2u, 2u, 2u, 2u, 2u, 2u, 2u, 2u, 2u, 2u, 2u, 2u, 2u, 2u, 2u, 2u, 2u, 2u,
+        2u, 2u, 2u, 2u, 2u, 2u, 2u, 2u, 2u, 2u, 2u, 2u, 2u, 2u, 2u, 2u, 2u, 2u, 2u, 2u, 2u, 2u, 2u, 2u, 2u,
+        2u, 2u, 2u, 2u, 2u, 2u, 2u, 2u, 2u, 2u, 2u, 2u, 2u, 2u, 2u, 2u, 2u, 2u, 2u, 2u, 2u, 2u, 2u, 2u, 2u,
+        2u, 2u, 2u, 2u, 2u, 2u, 2u, 2u, 2u, 2u, 2u, 2u, 2u, 2u, 2u, 2u, 2u, 2u, 2u, 2u, 3u, 3u, 3u, 3u, 3u,
+        3u, 3u, 3u, 3u, 3u, 3u, 3u, 3u, 3u, 3u, 3u, 3u, 3u, 3u, 3u, 3u, 3u, 3u, 3u, 3u, 3u, 3u, 3u, 3u, 3u,
+        3u, 3u, 3u, 3u, 3u, 3u, 3u, 3u, 3u, 3u, 3u, 3u, 3u, 3u, 3u, 3u, 3u, 3u, 3u, 3u, 3u, 3u, 3u, 3u, 3u,
+        3u, 3u, 3u, 3u, 3u, 3u, 3u, 3u, 3u, 3u, 3u, 3u, 3u, 3u, 3u, 3u, 3u, 3u, 3u, 3u, 3u, 3u, 3u, 3u, 3u,
+        3u, 3u, 3u, 3u, 3u, 3u, 3u, 3u, 3u, 3u, 3u, 3u, 3u, 3u, 3u, 3u, 3u, 3u, 3u, 3u, 3u, 3u, 3u, 3u, 3u,
+        3u, 3u, 3u, 3u, 3u, 3u, 3u, 3u, 3u, 3u, 3u, 3u, 3u, 3u, 3u, 3u, 3u, 3u, 3u, 3u, 3u, 3u, 3u,
+    }};
+    const uint8_t *v3;
+    slice_u8 v4;
+    v3 = v2.at;
+    v4.at = v3;
+    v4.length = UINT64_C(2048);
+    result = c2_wire__table__word(v4, a1);
     return result;
 }
 
@@ -1781,29 +1948,20 @@ static uint64_t c2_wire__script__script_of(c2_wire__Frame a1, uint8_t a2)
 {
     uint64_t result;
     uint64_t v3;
-    uint64_t v4;
+    _Bool v4;
     uint64_t v5;
     uint64_t v6;
     uint64_t v7;
-    switch (a1) {
-    case 0u:
-        v4 = c2_wire__script__driven(a2);
-        v5 = v4 * UINT64_C(4096);
-        v3 = UINT64_C(8608472358044304176) + v5;
-        break;
-    case 1u:
-        v3 = UINT64_C(8608489872042853152);
-        break;
-    case 2u:
-        v6 = c2_wire__script__driven(a2);
-        v7 = v6 * UINT64_C(1048576);
-        v3 = UINT64_C(8601875288277787184) + v7;
-        break;
-    default: /* 3 */
-        v3 = UINT64_C(8646591028576526880);
-        break;
+    v3 = c2_wire__script__byte_weight(a1);
+    v4 = v3 == UINT64_C(0);
+    if (v4) {
+        result = c2_wire__script__around(a1);
+        return result;
     }
-    result = v3;
+    v5 = c2_wire__script__around(a1);
+    v6 = c2_wire__table__driven(a2);
+    v7 = v6 * v3;
+    result = v5 + v7;
     return result;
 }
 

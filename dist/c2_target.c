@@ -1,4 +1,4 @@
-/* Made from the MIR of crate c2, sha256 bf980bd8a9d9372aa6fb75055986d0f9115d32d6de31073889cbe9750de9ab3e. */
+/* Made from the MIR of crate c2, sha256 50a9853a78cc557ce3eddec15463147a8d971f2ae11f608ae18f00fd10142b0e. */
 /*
  * Made by `make c`, not to be edited. A function stands under its path in the proved code. Its result is
  * called result, its parameters a1, a2 .. and its other locals v.., by their numbers in the MIR. A statement

@@ -320,6 +320,26 @@ pub fn listed(head: &str, items: &[String]) -> String {
     lines.join("\n")
 }
 
+/// A table of constants, which the compiler keeps with the code, with as many lines as it needs.
+fn table(declared: &str, numbers: &[u64]) -> String {
+    let numbers: Vec<_> = numbers.iter().map(|n| format!("{n}u")).collect();
+    let one = format!("    static const {declared} = {{{{{}}}}};\n", numbers.join(", "));
+    if one.len() <= COLUMNS {
+        return one;
+    }
+    let mut text = format!("    static const {declared} = {{{{");
+    let mut width = COLUMNS;
+    for number in numbers {
+        if width + number.len() + 2 > COLUMNS {
+            text += "\n       ";
+            width = 7;
+        }
+        text += &format!(" {number},");
+        width += number.len() + 2;
+    }
+    text + "\n    }};\n"
+}
+
 fn signature(types: &Types, uses: &Uses) -> Result<String> {
     let mut parameters = Vec::new();
     for local in 1..=uses.function.parameters {
@@ -350,9 +370,7 @@ pub fn function(types: &Types, functions: &Functions, uses: &Uses) -> Result<Str
             continue;
         }
         if let Some(numbers) = uses.tables.get(&local) {
-            let numbers: Vec<_> = numbers.iter().map(|n| format!("{n}u")).collect();
-            let declared = types.declaration(of, &writer.name(local))?;
-            text += &format!("    static const {declared} = {{{{{}}}}};\n", numbers.join(", "));
+            text += &table(&types.declaration(of, &writer.name(local))?, numbers);
         } else if *of != Type::Unit && uses.read.contains(&local) {
             text += &format!("    {};\n", types.declaration(of, &writer.name(local))?);
         }

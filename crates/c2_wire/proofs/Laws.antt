@@ -4,3 +4,4 @@ pub mod Exchange
 pub mod Place
 pub mod Frames
 pub mod Script
+pub mod Table

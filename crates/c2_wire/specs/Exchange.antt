@@ -1,7 +1,7 @@
 -- The exchange of the C2 wire: a step in its field asks, a bit comes back. Steps written, outcome and replies
 -- taken, for any list of replies, are read off the tree (demand 2).
 use mathlib.Core.Bool.{Bool, true, false, not, _||_}
-use mathlib.Core.List.{List, [], _∷_, map}
+use mathlib.Core.List.{List, map}
 use Prim.Native.Nat.{ℕ, zero, suc}
 use lib.ListN.{length}
 use Rattle.numbers.specs.Numbers.{running, bad-reply}

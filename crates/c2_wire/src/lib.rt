@@ -3,6 +3,7 @@
 
 mod replies;
 mod script;
+mod table;
 
 pub use replies::follow;
 pub use script::script_after;

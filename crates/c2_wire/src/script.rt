@@ -5,38 +5,47 @@ ghost use mathlib.Core.Path.{_≡_};
 ghost use mathlib.Core.Bool.{cond};
 ghost use Prim.Native.Nat.{_+_, _*_, _/_, _%_, _^_, _<_, _≤_};
 ghost use lib.Dec.{eqb};
-ghost use Rattle.c2_wire.specs.Code.Script.{code-word, driven-codes, frame-codes, kept, code-step};
+ghost use Rattle.c2_wire.specs.Code.Script.{code-word, frame-codes, frame-around, byte-weight, kept, code-step};
 use crate::Frame;
 use crate::RELEASED;
+use crate::table::driven;
 
-// The codes of the strobes that drive a byte, each two bits' worth of code and the bit.
-fn driven(byte: u8) -> u64
-    ensures { λ r. ⌜ r ≡ code-word (driven-codes byte) ⌝ }
-    ensures { λ r. ⌜ r ≤ 858993459 ⌝ }
+// What a frame has in its script beside the byte that it writes.
+fn around(kind: Frame) -> u64
+    ensures { λ r. ⌜ r ≡ frame-around kind ⌝ }
+    ensures { λ r. ⌜ r ≤ 0x7800000000000000 ⌝ }
 {
-    let b0 = byte as u64;
-    let b1 = b0 / 2;
-    let b2 = b1 / 2;
-    let b3 = b2 / 2;
-    let b4 = b3 / 2;
-    let b5 = b4 / 2;
-    let b6 = b5 / 2;
-    let b7 = b6 / 2;
-    let low = b0 % 2 + b1 % 2 * 16 + b2 % 2 * 256 + b3 % 2 * 4096;
-    let high = b4 % 2 + b5 % 2 * 16 + b6 % 2 * 256 + b7 % 2 * 4096;
-    0x22222222 + low + high * 65536
+    match kind {
+        Frame::AddressWrite => 0x7777700000000330,
+        Frame::AddressRead => 0x77777fedcba98320,
+        Frame::DataWrite => 0x7760000000022230,
+        Frame::DataRead => 0x77fedcba98622220,
+    }
 }
 
-// The script of a frame; the byte is the one that a write sends.
+// The weight in its script of the byte that a frame writes; 0 where it writes none.
+fn byte_weight(kind: Frame) -> u64
+    ensures { λ r. ⌜ r ≡ byte-weight kind ⌝ }
+    ensures { λ r. ⌜ r ≤ 1048576 ⌝ }
+{
+    match kind {
+        Frame::AddressWrite => 4096,
+        Frame::AddressRead => 0,
+        Frame::DataWrite => 1048576,
+        Frame::DataRead => 0,
+    }
+}
+
+// The script of a frame; the byte is the one that a write sends. The table of driven steps is asked at one
+// place, and for writes alone: the compiler builds it each time.
 pub fn script_of(kind: Frame, byte: u8) -> u64
     ensures { λ r. ⌜ r ≡ code-word (frame-codes kind byte) ⌝ }
 {
-    match kind {
-        Frame::AddressWrite => 0x7777700000000330 + driven(byte) * 4096,
-        Frame::AddressRead => 0x77777fedcba98320,
-        Frame::DataWrite => 0x7760000000022230 + driven(byte) * 1048576,
-        Frame::DataRead => 0x77fedcba98622220,
+    let weight = byte_weight(kind);
+    if weight == 0 {
+        return around(kind);
     }
+    around(kind) + driven(byte) * weight
 }
 
 // What is left of a script from a strobe on. No frame has a strobe past the sixteenth.

@@ -1,6 +1,6 @@
 -- Laws of exchanges: replies in parts and in a row, what an ended exchange does, ways through an exchange,
 -- and exchanges that drive C2D in fields of the master's alone.
-use mathlib.Core.Path.{_≡_, refl, sym, ap, _∙_}
+use mathlib.Core.Path.{_≡_, refl, ap, _∙_}
 use mathlib.Core.Bool.{Bool, true, false, not, _||_}
 use mathlib.Core.List.{List, [], _∷_, _++_, map}
 use Prim.Native.Nat.{ℕ, zero, suc, _+_}

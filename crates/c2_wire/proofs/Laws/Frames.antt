@@ -7,9 +7,9 @@ use Prim.Native.Nat.{ℕ, zero, suc, _+_}
 use native.Mathlib.Omega.{arith}
 use Rattle.laws.proofs.Tests.{both}
 use Rattle.c2_wire.specs.Bits.{bits}
-use Rattle.c2_wire.specs.Step.{Step, released, driven, drives}
+use Rattle.c2_wire.specs.Step.{Step, released, drives}
 use Rattle.c2_wire.specs.Field.{Field, STOP, master}
-use Rattle.c2_wire.specs.Exchange.{Exchange, strobe}
+use Rattle.c2_wire.specs.Exchange.{Exchange}
 use Rattle.c2_wire.specs.Frames.{Strobe, plain, sampled, waits, sends, ins-code, frame, waiting, strobes}
 use Rattle.c2_wire.specs.Place.{samples, longest}
 use Rattle.c2_wire.specs.declared.Frame.{Frame}

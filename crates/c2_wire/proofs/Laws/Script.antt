@@ -10,17 +10,16 @@ use borrow.Author.Tests.{lt-ltb, le-ltb, le-leb}
 use lib.Dec.{ltb}
 use lib.ListN.{length, getD, List·getD-eq-default, take, drop}
 use Rattle.laws.proofs.Below.{upto, same-below, each-below}
-use Rattle.c2_wire.specs.Bits.{odd, bits, bit}
+use Rattle.c2_wire.specs.Bits.{odd, bits}
 use Rattle.c2_wire.specs.Step.{driven, released, code}
 use Rattle.c2_wire.specs.Field.{STOP}
 use Rattle.c2_wire.specs.Frames.{plain, sends, ins-code, frame}
 use Rattle.c2_wire.specs.Place.{place, strobe-step, step-at, samples, follows, followed, strobe-at, count-limit}
-use Rattle.c2_wire.specs.Code.Script.{code-word, driven-codes, frame-codes, kept, code-step, code-follows}
+use Rattle.c2_wire.specs.Code.Script.{code-word, driven-codes, frame-codes, frame-around, byte-weight, kept, code-step, code-follows}
 use Rattle.c2_wire.specs.declared.Frame.{Frame}
 use Rattle.c2_wire.specs.declared.Frame.the-variants.{AddressWrite, AddressRead, DataWrite, DataRead}
 use Rattle.c2_wire.specs.declared.Place.{Place}
 use Rattle.c2_wire.proofs.Laws.Place.{Exists}
-use Rattle.c2_wire.proofs.Laws.Bits.{bit-odd}
 
 -- no frame has more than 15 strobes
 length-frame : (f : Frame) (a : ℕ) → length (frame f a) ≤ 15
@@ -31,10 +30,10 @@ length-frame DataWrite a = omega arith
 length-frame DataRead a = omega arith
 
 -- the code of a driven bit is its step, 2 or 3
-code-driven : (b : Bool) → code (driven b) ≡ 2 + bit b
-unfolding code bit
-code-driven true = refl
-code-driven false = refl
+at-most-3 : (b : Bool) → code (driven b) ≤ 3
+unfolding code
+at-most-3 true = omega arith
+at-most-3 false = omega arith
 
 driven-small : (b : Bool) → ltb (code (driven b)) 4 ≡ true
 unfolding code
@@ -202,30 +201,29 @@ pub follows-by-script : (f : Frame) (a l : ℕ) (p : Place) (b : Bool)
     → code-follows l (code-word (frame-codes f a) / 16 ^ kept (p .strobe) % 16) p b ≡ followed l (frame f a) p b
 follows-by-script f a l p b = ap (λ (c : ℕ). code-follows l c p b) (code-from (frame-codes f a) (codes-of f a) (p .strobe)) ∙ follows-by-code f a l p b
 
--- the word of a byte's driven steps, bit by bit
-pub driven-word : (a : ℕ) → code-word (driven-codes a) ≡ a % 2 + 2 + 16 * (a / 2 % 2 + 2 + 16 * (a / 2 / 2 % 2 + 2 + 16 * (a / 2 / 2 / 2 % 2 + 2 + 16 * (a / 2 / 2 / 2 / 2 % 2 + 2 + 16 * (a / 2 / 2 / 2 / 2 / 2 % 2 + 2 + 16 * (a / 2 / 2 / 2 / 2 / 2 / 2 % 2 + 2 + 16 * (a / 2 / 2 / 2 / 2 / 2 / 2 / 2 % 2 + 2)))))))
+-- the word of a byte's driven steps is small
+pub driven-word-small : (a : ℕ) → code-word (driven-codes a) ≤ 858993459
 unfolding code-word driven-codes bits
-driven-word a =
-    rw (
-      code-driven (odd a),
-      code-driven (odd (a / 2)),
-      code-driven (odd (a / 2 / 2)),
-      code-driven (odd (a / 2 / 2 / 2)),
-      code-driven (odd (a / 2 / 2 / 2 / 2)),
-      code-driven (odd (a / 2 / 2 / 2 / 2 / 2)),
-      code-driven (odd (a / 2 / 2 / 2 / 2 / 2 / 2)),
-      code-driven (odd (a / 2 / 2 / 2 / 2 / 2 / 2 / 2)),
+driven-word-small a =
+    omega (
+      arith,
+      at-most-3 (odd a),
+      at-most-3 (odd (a / 2)),
+      at-most-3 (odd (a / 2 / 2)),
+      at-most-3 (odd (a / 2 / 2 / 2)),
+      at-most-3 (odd (a / 2 / 2 / 2 / 2)),
+      at-most-3 (odd (a / 2 / 2 / 2 / 2 / 2)),
+      at-most-3 (odd (a / 2 / 2 / 2 / 2 / 2 / 2)),
+      at-most-3 (odd (a / 2 / 2 / 2 / 2 / 2 / 2 / 2)),
     )
-    (rw (bit-odd a, bit-odd (a / 2), bit-odd (a / 2 / 2), bit-odd (a / 2 / 2 / 2), bit-odd (a / 2 / 2 / 2 / 2), bit-odd (a / 2 / 2 / 2 / 2 / 2), bit-odd (a / 2 / 2 / 2 / 2 / 2 / 2), bit-odd (a / 2 / 2 / 2 / 2 / 2 / 2 / 2)) (omega arith))
 
--- the words of the frames that write
-pub address-write-word : (a : ℕ) → code-word (frame-codes AddressWrite a) ≡ 0x7777700000000330 + code-word (driven-codes a) * 4096
-unfolding code-word frame-codes driven-codes bits
-address-write-word a = omega arith
-
-pub data-write-word : (a : ℕ) → code-word (frame-codes DataWrite a) ≡ 0x7760000000022230 + code-word (driven-codes a) * 1048576
-unfolding code-word frame-codes driven-codes bits
-data-write-word a = omega arith
+-- a frame's word: what is around the byte that it writes, and the byte's own codes
+pub frame-word : (f : Frame) (a : ℕ) → code-word (frame-codes f a) ≡ frame-around f + code-word (driven-codes a) * byte-weight f
+unfolding code-word frame-codes driven-codes bits frame-around byte-weight
+frame-word AddressWrite a = omega arith
+frame-word AddressRead a = omega arith
+frame-word DataWrite a = omega arith
+frame-word DataRead a = omega arith
 
 -- a code is four bits
 pub sixteens : (q : ℕ) → 2 ^ (4 * q) ≡ 16 ^ q

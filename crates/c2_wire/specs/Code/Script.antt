@@ -1,10 +1,11 @@
 -- For the code: a frame as a word, its script. `step-by-code` and `follows-by-code` of proofs/Laws/Script
--- join the codes to the strobes of specs/Frames.antt, `word-first` and `word-rest` the word to its codes.
+-- join the codes to the strobes of specs/Frames.antt, `word-first` and `word-rest` the word to its codes,
+-- `frame-word` its parts, and `table-drives` of proofs/Laws/Table a table to the driven steps.
 use mathlib.Core.Bool.{Bool, cond}
 use mathlib.Core.List.{List, [], _∷_, _++_, map}
-use Prim.Native.Nat.{ℕ, _+_, _*_, _-_}
+use Prim.Native.Nat.{ℕ, _+_, _*_, _-_, _^_}
 use lib.Dec.{ltb, leb, eqb}
-use lib.ListN.{replicate}
+use lib.ListN.{replicate, getD}
 use Rattle.c2_wire.specs.Bits.{bits}
 use Rattle.c2_wire.specs.Step.{driven, code}
 use Rattle.c2_wire.specs.Place.{passes, takes-bit, waits-on}
@@ -23,6 +24,12 @@ code-word (c ∷ cs) = c + 16 * code-word cs
 unfoldable pub driven-codes : (byte : ℕ) → List ℕ
 driven-codes a = map (λ b. code (driven b)) (bits 8 a)
 
+-- the codes that a table has for a byte, 256 places apart
+unfoldable pub table-codes : List ℕ → (byte : ℕ) → List ℕ
+table-codes t a =
+    getD t a 0 ∷ getD t (a + 256) 0 ∷ getD t (a + 512) 0 ∷ getD t (a + 768) 0
+    ∷ getD t (a + 1024) 0 ∷ getD t (a + 1280) 0 ∷ getD t (a + 1536) 0 ∷ getD t (a + 1792) 0 ∷ []
+
 -- the codes of the strobes that sample a byte: 8 and the bit's number
 abbrev pub sampled-codes : List ℕ
 sampled-codes = 8 ∷ 9 ∷ 10 ∷ 11 ∷ 12 ∷ 13 ∷ 14 ∷ 15 ∷ []
@@ -33,6 +40,20 @@ frame-codes AddressWrite a = 0 ∷ 3 ∷ 3 ∷ driven-codes a ++ replicate 5 7
 frame-codes AddressRead a = 0 ∷ 2 ∷ 3 ∷ sampled-codes ++ replicate 5 7
 frame-codes DataWrite a = 0 ∷ 3 ∷ 2 ∷ 2 ∷ 2 ∷ driven-codes a ++ 6 ∷ 7 ∷ 7 ∷ []
 frame-codes DataRead a = 0 ∷ 2 ∷ 2 ∷ 2 ∷ 2 ∷ 6 ∷ sampled-codes ++ 7 ∷ 7 ∷ []
+
+-- a frame's word but for the byte that it writes, and the weight of that byte's codes in it; 0 where it
+-- writes none
+unfoldable pub frame-around : Frame → ℕ
+frame-around AddressWrite = 0x7777700000000330
+frame-around AddressRead = 0x77777fedcba98320
+frame-around DataWrite = 0x7760000000022230
+frame-around DataRead = 0x77fedcba98622220
+
+unfoldable pub byte-weight : Frame → ℕ
+byte-weight AddressWrite = 16 ^ 3
+byte-weight AddressRead = 0
+byte-weight DataWrite = 16 ^ 5
+byte-weight DataRead = 0
 
 -- the code by which a strobe is known: past the sixteenth all are alike
 unfoldable pub kept : (strobe : ℕ) → ℕ
