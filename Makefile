@@ -1,7 +1,7 @@
 # What can be done here; `make` alone lists it.
 
 CARGO := cargo run --quiet --offline --manifest-path compare/Cargo.toml --target-dir target/compare --
-BENCH := cargo run --quiet --release --offline --manifest-path bench/Cargo.toml --target-dir target/bench --
+BENCH := --quiet --release --offline --manifest-path bench/Cargo.toml --target-dir target/bench
 
 # The crates that something is made of: libraries for users; libraries that the comparison and the benchmark
 # link besides (proved/build.rs has both); the program; and those that stand right below them, proved in one
@@ -19,7 +19,7 @@ SOURCES := $(wildcard crates/*/src/*.rt crates/*/src/*/*.rt)
 PREFIX ?= /usr/local
 VERSION = $(shell sed -n 's/^.define C2_VERSION_[MP][A-Z]* //p' include/c2.h | paste -sd.)
 
-EXAMPLES := $(patsubst %,target/examples/%,first driver waves flash dumps hex radio)
+EXAMPLES := $(patsubst %,target/examples/%,first driver limit pairs waves flash dumps hex radio)
 OBJECTS := $(patsubst dist/%.c,target/c/%.o,$(wildcard dist/*.c))
 WAVES := target/waves/page.vcd
 SHORT := 200
@@ -29,22 +29,24 @@ WARNINGS := -Wall -Wextra -Wpedantic -Iinclude
 STRICT := $(WARNINGS) -Werror
 HEADERS := $(wildcard include/*.h)
 
-.PHONY: help library install flash test below compare compare-long numbers statements examples headers installed waves dumps bench prove clean
+.PHONY: help library install flash test below compare compare-long numbers devices statements examples headers installed waves dumps bench bench-count prove clean
 .NOTPARALLEL:
 
 help:
 	@echo "make library       build the libraries, $(LIBRARY); the headers are in include/"
 	@echo "make install       put headers, libraries and a pkg-config file below PREFIX, $(PREFIX) unless you say"
 	@echo "make flash         program a modelled target: IMAGE=file, or the image on standard input"
-	@echo "make examples      build and run the C examples: first, driver, waves, hex, dumps and radio"
+	@echo "make examples      build and run the C examples: first, driver, limit, pairs, waves, hex, dumps and radio"
 	@echo "make waves         write a session's strobes as a waveform, $(WAVES), for gtkwave or PulseView"
 	@echo "make dumps         tell where two dumps of a flash differ: A=file B=file; P=1024 for its page size"
 	@echo "make test          prove everything from nothing, then compare, and run the examples"
 	@echo "make compare       the comparison with a second implementation in Rust, half a minute"
 	@echo "make compare-long  the comparison over many more cases"
 	@echo "make numbers       compare every list of the numbers that come back with docs/NUMBERS.md"
+	@echo "make devices       open a session with the pairs of each family in docs/DEVICES.md"
 	@echo "make statements    compare the names in docs/STATEMENTS.md with the crates"
 	@echo "make bench         time the library beside plain Rust, some minutes; ARGS=--quick for less"
+	@echo "make bench-count   its instructions beside those stored, by valgrind; ARGS=--tables for all"
 	@echo "make c             prove what has changed, then make dist/, the library as C99, anew"
 	@echo "make cortex-m      code, stack and instructions of dist/ on a Cortex-M0+ and M4, under qemu"
 	@echo "make prove         prove what has changed since the last time"
@@ -89,6 +91,13 @@ compare-long: below $(FLASH) $(LIBRARIES)
 numbers:
 	@sh tools/numbers.sh
 
+# The pairs of docs/DEVICES.md as a reader pastes them: each passes 19, and programs a model that wants it.
+devices: $(OBJECTS)
+	@mkdir -p target/examples
+	@sh tools/devices.sh docs/DEVICES.md >target/examples/devices.c
+	@$(CC) -std=c11 $(STRICT) target/examples/devices.c $(OBJECTS) -o target/examples/devices
+	@target/examples/devices
+
 # Names in docs/STATEMENTS.md exist, and its map is whole.
 statements:
 	@sh tools/statements.sh
@@ -101,6 +110,9 @@ examples: $(EXAMPLES)
 	@sed 1d examples/first.c | diff - target/examples/readme.c
 	@target/examples/first
 	@target/examples/driver
+	@target/examples/limit
+	@target/examples/pairs
+	@$(MAKE) --no-print-directory devices
 	@printf ':100200006761696E206B6E6F62732C20746869720F\n:00000001FF\n' >target/examples/good.hex
 	@printf ':0102000041BD\n:00000001FF\n' >target/examples/bad.hex
 	@target/examples/hex target/examples/good.hex
@@ -158,7 +170,12 @@ dumps: target/examples/dumps
 
 # Never part of the tests: its figures are the machine's as much as the code's.
 bench: $(LIBRARIES)
-	@$(BENCH) $(ARGS)
+	@cargo run $(BENCH) -- $(ARGS)
+
+# Nor this: it wants valgrind. Instructions are exact, and one that a change adds shows.
+bench-count: $(LIBRARIES)
+	@cargo build $(BENCH)
+	@python3 -B bench/count.py target/bench/release/bench $(ARGS)
 
 # An example is a file or a folder. A C compiler is enough: the calls come from dist/.
 .SECONDEXPANSION:

@@ -1,4 +1,4 @@
-/* Made from the MIR of crate hex, sha256 17d59bafd26dff695c632f4f352fc5451117366541c89ae7d00c2267acdc1ecf. */
+/* Made from the MIR of crate hex, sha256 0847ebc1973e2b6a054ae20d94f91f25c7b57cf394b5563ed824a743b9e5741e. */
 /*
  * Made by `make c`, not to be edited. A function stands under its path in the proved code. Its result is
  * called result, its parameters a1, a2 .. and its other locals v.., by their numbers in the MIR. A statement
@@ -59,6 +59,10 @@ typedef struct {
 typedef struct {
     uint8_t at[8192];
 } array_8192_u8;
+
+typedef struct {
+    uint8_t at[4];
+} array_4_u8;
 
 typedef struct {
     uint8_t at[12];
@@ -1093,19 +1097,147 @@ static c2_hex_image hex_read__read__read_accepted(uint64_t a1, uint64_t a2, slic
     return result;
 }
 
+/* settings::registers::may_be_named */
+static _Bool settings__registers__may_be_named(_Bool a1, uint8_t a2, uint8_t a3)
+{
+    _Bool result;
+    _Bool v4;
+    _Bool v5;
+    v4 = a1;
+    if (v4) {
+        v5 = a2 < 3u;
+        if (v5) {
+            result = 0;
+            return result;
+        }
+        result = a2 != a3;
+        return result;
+    }
+    result = 1;
+    return result;
+}
+
+/* settings::registers::entries_fit */
+static _Bool settings__registers__entries_fit(uint8_t a1, const c2_pairs *a2)
+{
+    _Bool result;
+    array_4_u8 v3;
+    _Bool v4;
+    _Bool v5;
+    const uint8_t *v6;
+    const uint8_t *v7;
+    uint8_t v8;
+    _Bool v9;
+    _Bool v10;
+    const uint8_t *v11;
+    const uint8_t *v12;
+    uint8_t v13;
+    _Bool v14;
+    _Bool v15;
+    const uint8_t *v16;
+    const uint8_t *v17;
+    uint8_t v18;
+    _Bool v19;
+    const uint8_t *v20;
+    const uint8_t *v21;
+    uint8_t v22;
+    v3.at[0] = a2->registers[0];
+    v3.at[1] = a2->registers[1];
+    v3.at[2] = a2->registers[2];
+    v3.at[3] = a2->registers[3];
+    v4 = 4u < a2->count;
+    if (v4) {
+        result = 0;
+        return result;
+    }
+    v4 = 0u < a2->count;
+    v6 = v3.at;
+    v7 = v6 + (size_t)UINT64_C(0);
+    v8 = *v7;
+    v5 = settings__registers__may_be_named(v4, v8, a1);
+    if (v5) {
+        v10 = 1u < a2->count;
+        v11 = v3.at;
+        v12 = v11 + (size_t)UINT64_C(1);
+        v13 = *v12;
+        v9 = settings__registers__may_be_named(v10, v13, a1);
+        if (v9) {
+            v15 = 2u < a2->count;
+            v16 = v3.at;
+            v17 = v16 + (size_t)UINT64_C(2);
+            v18 = *v17;
+            v14 = settings__registers__may_be_named(v15, v18, a1);
+            if (v14) {
+                v19 = 3u < a2->count;
+                v20 = v3.at;
+                v21 = v20 + (size_t)UINT64_C(3);
+                v22 = *v21;
+                result = settings__registers__may_be_named(v19, v22, a1);
+                return result;
+            }
+        }
+    }
+    result = 0;
+    return result;
+}
+
+/* settings::registers::are_pairs */
+static _Bool settings__registers__are_pairs(uint8_t a1, const c2_pairs *a2)
+{
+    _Bool result;
+    _Bool v3;
+    v3 = a2->count == 0u;
+    if (v3) {
+        result = 1;
+        return result;
+    }
+    result = settings__registers__entries_fit(a1, a2);
+    return result;
+}
+
+/* settings::accepted::wait_refusal */
+static uint32_t settings__accepted__wait_refusal(const c2_settings *a1)
+{
+    uint32_t result;
+    c2_pairs v2;
+    _Bool v3;
+    _Bool v4;
+    v2.count = a1->pairs.count;
+    v2.registers[0] = a1->pairs.registers[0];
+    v2.registers[1] = a1->pairs.registers[1];
+    v2.registers[2] = a1->pairs.registers[2];
+    v2.registers[3] = a1->pairs.registers[3];
+    v2.values[0] = a1->pairs.values[0];
+    v2.values[1] = a1->pairs.values[1];
+    v2.values[2] = a1->pairs.values[2];
+    v2.values[3] = a1->pairs.values[3];
+    v3 = a1->wait_limit == 0u;
+    if (v3) {
+        result = UINT32_C(18);
+        return result;
+    }
+    v4 = settings__registers__are_pairs(a1->fpdat, &v2);
+    if (v4) {
+        result = UINT32_C(0);
+        return result;
+    }
+    result = UINT32_C(19);
+    return result;
+}
+
 /* settings::accepted::count_refusal */
-static uint32_t settings__accepted__count_refusal(uint32_t a1, uint32_t a2)
+static uint32_t settings__accepted__count_refusal(const c2_settings *a1, uint32_t a2)
 {
     uint32_t result;
     _Bool v3;
-    v3 = a1 == UINT32_C(0);
+    v3 = a1->page_count == UINT32_C(0);
     if (v3) {
         result = UINT32_C(3);
         return result;
     }
-    v3 = a1 <= a2;
+    v3 = a1->page_count <= a2;
     if (v3) {
-        result = UINT32_C(0);
+        result = settings__accepted__wait_refusal(a1);
         return result;
     }
     result = UINT32_C(3);
@@ -1124,12 +1256,12 @@ static uint32_t settings__accepted__refusal(const c2_settings *a1)
     }
     v2 = a1->page_size == UINT32_C(512);
     if (v2) {
-        result = settings__accepted__count_refusal(a1->page_count, UINT32_C(128));
+        result = settings__accepted__count_refusal(a1, UINT32_C(128));
         return result;
     }
     v2 = a1->page_size == UINT32_C(1024);
     if (v2) {
-        result = settings__accepted__count_refusal(a1->page_count, UINT32_C(64));
+        result = settings__accepted__count_refusal(a1, UINT32_C(64));
         return result;
     }
     result = UINT32_C(2);

@@ -14,7 +14,12 @@ typedef struct {
     unsigned long replies;
 } run;
 
-static const c2_settings DEVICE = {.device_id = 0x04, .fpdat = 0xB4, .page_size = PAGE, .page_count = PAGES};
+static const c2_settings DEVICE = {.device_id = 0x04,
+                                   .fpdat = 0xB4,
+                                   .page_size = PAGE,
+                                   .page_count = PAGES,
+                                   .wait_limit = 20,
+                                   .pairs = {0, {0}, {0}}};
 
 static run program(const uint8_t *image, size_t image_len) {
     static uint8_t flash[FLASH];
@@ -24,7 +29,8 @@ static run program(const uint8_t *image, size_t image_len) {
     run made = {.number = opened.number, .replies = 0};
     uint8_t step = (uint8_t)opened.step;
     while (made.number == C2_RUNNING) {
-        c2_replied replied = c2_target_step(DEVICE, target, flash, sizeof flash, NULL, 0, step);
+        c2_replied replied =
+            c2_target_step(DEVICE, DEVICE.pairs, target, flash, sizeof flash, NULL, 0, step);
         target = replied.target;
         made.number = c2_next(record, image, image_len, (uint8_t)replied.reply, &step).number;
         made.replies++;

@@ -7,7 +7,7 @@
 
 enum { PAGE = 512, PAGES = 32, FLASH = PAGE * PAGES, FILE_BYTES = 1 << 20 };
 
-static const c2_settings DEVICE = {0x04, 0xB4, PAGE, PAGES};
+static const c2_settings DEVICE = {0x04, 0xB4, PAGE, PAGES, 20, {0, {0}, {0}}};
 
 /* Plays a session against a fresh target and returns its number. */
 static uint32_t program(const uint8_t *image, size_t image_len, uint32_t first_page) {
@@ -18,7 +18,8 @@ static uint32_t program(const uint8_t *image, size_t image_len, uint32_t first_p
     uint32_t number = opened.number;
     uint8_t step = (uint8_t)opened.step;
     while (number == C2_RUNNING) {
-        c2_replied replied = c2_target_step(DEVICE, target, flash, sizeof flash, NULL, 0, step);
+        c2_replied replied =
+            c2_target_step(DEVICE, DEVICE.pairs, target, flash, sizeof flash, NULL, 0, step);
         target = replied.target;
         number = c2_next(record, image, image_len, (uint8_t)replied.reply, &step).number;
     }

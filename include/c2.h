@@ -2,9 +2,9 @@
  * Flash programming over the two-wire C2 interface: the driver's calls.
  *
  * A session programs one image into a device: it resets the device, compares its ID, turns its Programming
- * Interface on, and then erases, writes and reads back page after page. The session never touches a pin. It
- * names a step, the driver does that step on C2CK and C2D and reads C2D after it, and the reply, 0 or 1,
- * decides the step that follows.
+ * Interface on, writes the registers that the device wants first, and then erases, writes and reads back page
+ * after page. The session never touches a pin. It names a step, the driver does that step on C2CK and C2D and
+ * reads C2D after it, and the reply, 0 or 1, decides the step that follows.
  *
  * The record. Between calls a session is a record of 32 bytes, and nothing else: no call keeps a pointer, and
  * the library has no memory of its own. When a call has returned, the image, the replies and the step buffer
@@ -51,7 +51,7 @@ extern "C" {
  * compile your program anew when you link another version.
  */
 #define C2_VERSION_MAJOR 0
-#define C2_VERSION_MINOR 1
+#define C2_VERSION_MINOR 3
 #define C2_VERSION_PATCH 0
 #define C2_VERSION (C2_VERSION_MAJOR * 10000 + C2_VERSION_MINOR * 100 + C2_VERSION_PATCH)
 
@@ -84,11 +84,14 @@ enum {
     C2_DONE = 32,
 
     /* Refused openings. There is no session; correct what is named and open again. */
-    C2_BAD_FPDAT = 1,      /* FPDAT address below 3: take it from the device's data sheet */
-    C2_BAD_PAGE_SIZE = 2,  /* page size neither 512 nor 1,024 */
-    C2_BAD_PAGE_COUNT = 3, /* page count 0, or size times count above 65,536 */
-    C2_BAD_IMAGE = 4,      /* image empty, or not whole pages: fill it up, with 0xFF for instance */
-    C2_PAST_LAST_PAGE = 5, /* first page plus the image's pages above the page count */
+    C2_BAD_FPDAT = 1,       /* FPDAT address below 3: take it from the device's data sheet */
+    C2_BAD_PAGE_SIZE = 2,   /* page size neither 512 nor 1,024 */
+    C2_BAD_PAGE_COUNT = 3,  /* page count 0, or size times count above 65,536 */
+    C2_BAD_WAIT_LIMIT = 18, /* WAIT limit 0: give 20 for old units, else 1 to 255 */
+    C2_BAD_PAIRS = 19,      /* more than four pairs, or a register below 3 or equal to the FPDAT address: take
+                               them from docs/DEVICES.md or the maker's note */
+    C2_BAD_IMAGE = 4,       /* image empty, or not whole pages: fill it up, with 0xFF for instance */
+    C2_PAST_LAST_PAGE = 5,  /* first page plus the image's pages above the page count */
 
     /* Refused calls. No reply was taken and no lent byte has changed; the session, if there is one, stands
        where it stood. */
@@ -102,14 +105,14 @@ enum {
     /* Sessions that ended at a reply. The device has had no last reset: reset it or switch it off. The pages
        begun may be erased or written in part; a new session programs them anew. */
     C2_BAD_REPLY = 9,           /* a reply neither 0 nor 1: look for the fault in the driver */
-    C2_WAIT_LIMIT_REACHED = 10, /* the 20th zero in a WAIT: no device, or it does not answer; look at the
-                                   wiring */
+    C2_WAIT_LIMIT_REACHED = 10, /* as many zeros in a WAIT as its limit: no device, or it does not answer;
+                                   look at the wiring, or take a higher limit */
     C2_POLL_LIMIT_REACHED = 11, /* the 256th read of InBusy or OutReady in vain: the device hangs, or FPDAT is
                                    wrong */
     C2_OTHER_DEVICE = 12,       /* the device ID is not the one of the settings: another device; nothing was
                                    erased */
     C2_BAD_STATUS = 13,         /* the device answered a command with a status other than 0x0D: it may lack
-                                   the page, be locked, or want registers written first */
+                                   the page, be locked, or want other pairs */
     C2_COMPARE_DIFFERS = 14,    /* a byte read back differs from the image; the offset says which. Try again,
                                    then suspect the flash, or an image that was changed meanwhile */
 
@@ -132,12 +135,26 @@ enum {
     C2_BAD_DUMPS = 31 /* dumps of different length, or not whole pages: lend two dumps of one device */
 };
 
+/*
+ * Pairs of register and value, count of them: the first is registers[0] and values[0]. Entries from count on
+ * are not looked at.
+ */
+typedef struct {
+    uint8_t count;        /* at most 4 */
+    uint8_t registers[4]; /* each 3 to 255, but not the FPDAT address */
+    uint8_t values[4];    /* any bytes */
+} c2_pairs;
+
 /* The device. */
 typedef struct {
     uint8_t device_id;   /* the ID that the device must have; any byte */
     uint8_t fpdat;       /* address of its FPDAT register, 3 to 255 */
     uint32_t page_size;  /* bytes of a flash page, 512 or 1,024 */
     uint32_t page_count; /* pages of the flash, at least 1; size times count at most 65,536 */
+    uint8_t wait_limit;  /* so many zeros in a WAIT end a session, and one fewer with a 1 pass; 1 to 255, 20
+                            for old units */
+    c2_pairs pairs;      /* what the device wants before its flash is touched: each register is written with
+                            its value, in their order. docs/DEVICES.md has them for the maker's families */
 } c2_settings;
 
 /* The answer of a call that writes a file. */
@@ -148,7 +165,7 @@ typedef struct {
 
 /* The answer to c2_open. */
 typedef struct {
-    uint32_t number; /* C2_RUNNING, or 1 to 6 when refused */
+    uint32_t number; /* C2_RUNNING, or 1 to 6, 18 or 19 when refused */
     uint32_t step;   /* the first step, C2_STEP_RESET; C2_STEP_OFF when refused */
 } c2_opened;
 
@@ -172,9 +189,8 @@ typedef struct {
 /*
  * Opens a session that programs the image from page first_page on.
  *
- * Tests, in this order: the record is 32 bytes long (6); then the settings (1, 2, 3), the image's length (4)
- * and the pages (5), in the order of their numbers. What the record held before doesn't matter. Only the
- * image's length is looked at.
+ * Tests, in this order: the record is 32 bytes long (6); the settings (1, 2, 3, 18, 19); the image's length
+ * (4); the pages (5). What the record held before doesn't matter. Only the image's length is looked at.
  *
  * Accepted, it writes all 32 bytes of the record and answers C2_RUNNING with step C2_STEP_RESET: do that step
  * and give its reply to c2_advance or c2_next. Refused, it leaves the record as it was and answers the number
@@ -222,15 +238,16 @@ static inline c2_advanced c2_next(uint8_t *record, const uint8_t *image, size_t 
  * Answers 6 and 0 for a record that is not 32 bytes long or holds no session within its ranges. Any other
  * record gives the session's number, 0 while it runs, and the figure.
  *
- * The figure counts every WAIT still to come or under way to 20 strobes and every poll to 256 reads, less
- * those done. Each reply taken lowers it by at least 1, and no replies take more than it says; most devices
- * answer sooner and take far fewer. It is 0 exactly for an ended session. Just opened, a session of k pages
- * has, with B blocks of 256 bytes to a page (2 or 4),
+ * The figure counts every WAIT still to come or under way to its limit L in strobes and every poll to 256
+ * reads, less those done. Each reply taken lowers it by at least 1, and no replies take more than it says;
+ * most devices answer sooner and take far fewer. It is 0 exactly for an ended session. Just opened, a session
+ * of k pages and n pairs has, with B blocks of 256 bytes to a page (2 or 4) and P = 3,086 + L,
  *
- *     152 + k * (18,648 + 2 * B * 813,784)
+ *     16 + 4 * (14 + L) + n * (26 + L) + k * (12 + 6 * P + 2 * B * (12 + 262 * P))
  *
- * steps at most: 3,273,936 for one page of 512 bytes. That figure divides a progress bar: (start - now) /
- * start.
+ * steps at most. For L = 20 that is 152 + n * 46 + k * (18,648 + 2 * B * 813,784): 3,273,936 for one page of
+ * 512 bytes and no pairs. For L = 255, four pairs and 64 pages of 1,024 bytes it is 449,467,176. The figure
+ * at the start divides a progress bar: (start - now) / start.
  */
 c2_remaining c2_steps_left(const uint8_t *record, size_t record_len);
 

@@ -32,6 +32,11 @@ typedef struct {
     uint8_t address;   /* address register */
     uint8_t on;        /* 1 when the Programming Interface is on */
     uint8_t keys;      /* key writes in a row, 0 to 3 */
+    uint8_t met1;      /* 1 when the last value written to the first wanted register since the reset is the
+                          wanted one, */
+    uint8_t met2;      /* to the second, */
+    uint8_t met3;      /* to the third, */
+    uint8_t met4;      /* and to the fourth */
     uint8_t command;   /* the byte that the command waits for: 0 a new command, 1 the page of an erase, 2 its
                           0x00, 3 a block's high byte, 4 its low byte, 5 its length code, 6 a byte to write, 7
                           a byte past the end */
@@ -46,7 +51,7 @@ typedef struct {
 
 /* The answer to c2_target_step. */
 typedef struct {
-    uint32_t number;  /* 0; 1, 2, 3, C2_NO_POINT or C2_NO_STEP when refused */
+    uint32_t number;  /* 0; 1, 2, 3, 18, 19, C2_NO_POINT or C2_NO_STEP when refused */
     uint32_t reply;   /* 0 or 1; 1 when refused */
     c2_target target; /* the state after the step; the one given when refused */
 } c2_replied;
@@ -55,13 +60,20 @@ typedef struct {
 c2_target c2_target_fresh(void);
 
 /*
- * One step of the target. The flash is page_size times page_count bytes; the delays may be none.
+ * One step of the target. The flash is page_size times page_count bytes; the delays may be none. A WAIT sends
+ * as many zeros as its delay modulo wait_limit says.
  *
- * Tests, in this order: the settings (1, 2, 3), the flash's length and the state (17), and the step (16).
- * Refused, it changes no lent byte.
+ * wanted is what this device wants before its flash is touched, whatever the settings' pairs are: until the
+ * last value written to each of these registers since the reset is the wanted one, erase and block write
+ * answer status 0x00 to their command byte, end there and change no flash. A session with the same settings
+ * ends done if its pairs leave these values, else with C2_BAD_STATUS and the flash as it was. A count of 0
+ * wants nothing. Lend a target the same settings and the same wanted pairs throughout.
+ *
+ * Tests, in this order: the settings (1, 2, 3, 18, 19), the wanted pairs (19), the flash's length and the
+ * state (17), and the step (16). Refused, it changes no lent byte.
  */
-c2_replied c2_target_step(c2_settings settings, c2_target target, uint8_t *flash, size_t flash_len,
-                          const uint8_t *delays, size_t delays_len, uint8_t step);
+c2_replied c2_target_step(c2_settings settings, c2_pairs wanted, c2_target target, uint8_t *flash,
+                          size_t flash_len, const uint8_t *delays, size_t delays_len, uint8_t step);
 
 #ifdef __cplusplus
 }

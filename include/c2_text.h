@@ -18,6 +18,10 @@ static inline const char *c2_text(uint32_t number) {
         return "page size neither 512 nor 1,024: take it from the device's data sheet";
     case C2_BAD_PAGE_COUNT:
         return "page count 0, or more than 65,536 bytes of flash: correct the settings";
+    case C2_BAD_WAIT_LIMIT:
+        return "WAIT limit 0: give 20 for old units, else 1 to 255";
+    case C2_BAD_PAIRS:
+        return "more than four pairs, or a register below 3 or equal to the FPDAT address: take them from docs/DEVICES.md";
     case C2_BAD_IMAGE:
         return "image empty, or not whole pages: fill it up, with 0xFF for instance";
     case C2_PAST_LAST_PAGE:
@@ -31,13 +35,13 @@ static inline const char *c2_text(uint32_t number) {
     case C2_BAD_REPLY:
         return "reply neither 0 nor 1: look for the fault in the driver";
     case C2_WAIT_LIMIT_REACHED:
-        return "20 zeros in a WAIT: no device, or it does not answer; look at wiring and power";
+        return "zeros in a WAIT reached its limit: no device, or it does not answer; look at wiring, power and WAIT limit";
     case C2_POLL_LIMIT_REACHED:
         return "256 reads of the status in vain: the device hangs, or FPDAT is wrong";
     case C2_OTHER_DEVICE:
         return "another device ID than in the settings: nothing was erased; check the device and the settings";
     case C2_BAD_STATUS:
-        return "device refused a command: it may lack the page, be locked, or want registers written first";
+        return "device refused a command: it may lack the page, be locked, or want other pairs";
     case C2_COMPARE_DIFFERS:
         return "byte read back differs from the image, see the offset: open again; if it stays, suspect the flash";
     case C2_NO_STEP:

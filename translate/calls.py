@@ -12,35 +12,57 @@ def call(machine, name, arguments, crate='c2'):
     return machine.call(machine.exported(crate, name), arguments)
 
 
+def pairs_of(count, registers, values):
+    """c2_pairs; what is not named is any byte."""
+    return (8, count), Block(8, registers), Block(8, values)
+
+
+def some_pairs(rng, fpdat, counts=(0, 1, 2, 4)):
+    """Pairs that pass 19, few registers among them, so that some come twice."""
+    registers = [r for r in (3, 4, 0xB2, 0xEF, 255) if r != fpdat]
+    return pairs_of(rng.choice(counts), rng.choices(registers, k=4), rng.choices((0, 1, 0x83), k=4))
+
+
+def bad_pairs(rng, fpdat):
+    """Pairs that 19 refuses, mostly."""
+    made = some_pairs(rng, fpdat, (1, 4, 4, 5, 255))
+    made[1].elements[rng.randrange(4)] = rng.choice((0, 2, 3, fpdat))
+    return made
+
+
 def c2(machine, rng):
     """Sessions against the modelled target, bad replies, damaged records and states, refused openings."""
     left = LEFT
     while left > 0:
         size = rng.choice((512, 1024))
         count = rng.choice((1, 2, 3))
-        settings = (8, rng.randrange(256)), (8, rng.randrange(3, 256)), (32, size), (32, count)
+        limit, fpdat = (8, rng.choice((1, 2, 20, 20, 255))), rng.randrange(3, 256)
+        pairs = some_pairs(rng, fpdat)
+        settings = (8, rng.randrange(256)), (8, fpdat), (32, size), (32, count), limit, pairs
+        wanted = rng.choice((pairs, pairs, some_pairs(rng, fpdat)))
         image, flash = rng.choices(range(256), k=size), [0] * (size * count)
         record, delays, step = [0] * 32, rng.choices(range(256), k=rng.randrange(4)), 4
-        refused = settings[:3] + ((32, rng.choice((0, 129, count))),)
+        refused = settings[:3] + ((32, rng.choice((0, 129, count))), (8, rng.choice((0, 20))), bad_pairs(rng, fpdat))
         call(machine, 'c2_open', [lent(record), lent(image), refused, (32, rng.randrange(200))])
         call(machine, 'c2_open', [lent(record), lent(image), settings, (32, rng.randrange(count))])
         target = call(machine, 'c2_target_fresh', [])
         for _ in range(rng.choice((40, 100, 200))):
             left -= 1
-            _, (_, reply), target = call(machine, 'c2_target_step', [settings, target, lent(flash), lent(delays), (8, step)])
+            _, (_, reply), target = call(machine, 'c2_target_step',
+                                         [settings, wanted, target, lent(flash), lent(delays), (8, step)])
             steps = [0]
             reply = reply if rng.randrange(500) else rng.randrange(4)
             (_, number), _, _ = call(machine, 'c2_advance', [lent(record), lent(image), lent([reply]), lent(steps), (64, 0)])
             step = steps[0]
             if rng.randrange(12) == 0:
-                beside(machine, rng, (settings, record, image, flash, delays, target))
+                beside(machine, rng, (settings, wanted, record, image, flash, delays, target))
             if number:
                 break
 
 
 def beside(machine, rng, kept):
     """Calls that leave the session as it is: on a copy of its record, damaged, and of the target's state."""
-    settings, record, image, flash, delays, target = kept
+    settings, wanted, record, image, flash, delays, target = kept
     other = list(record)
     call(machine, 'c2_steps_left', [lent(other)])
     replies = rng.choices((0, 1, 1, 1, 2), k=rng.randrange(9))
@@ -51,7 +73,8 @@ def beside(machine, rng, kept):
     call(machine, 'c2_advance', [lent(other), lent(image), lent(replies), lent([0] * 16), (64, 0)])
     k = rng.randrange(len(target))
     damaged = target[:k] + ((target[k][0], rng.randrange(12)),) + target[k + 1:]
-    call(machine, 'c2_target_step', [settings, damaged, lent(list(flash)), lent(delays), (8, rng.randrange(9))])
+    other = rng.choice((wanted, wanted, bad_pairs(rng, settings[1][1])))
+    call(machine, 'c2_target_step', [settings, other, damaged, lent(list(flash)), lent(delays), (8, rng.randrange(9))])
 
 
 def dump(machine, rng):
@@ -81,7 +104,10 @@ def hex(machine, rng):
     """Files that are written and read back, files of scattered records, damaged ones, and buffers too short."""
     for _ in range(6):
         size, count = rng.choice(((512, 2), (1024, 1), (512, 3)))
-        settings = (8, rng.randrange(256)), (8, rng.randrange(2, 256)), (32, size), (32, rng.choice((count, count, 0)))
+        fpdat = rng.randrange(2, 256)
+        pairs = some_pairs(rng, fpdat) if rng.randrange(4) else bad_pairs(rng, fpdat)
+        settings = ((8, rng.randrange(256)), (8, fpdat), (32, size), (32, rng.choice((count, count, 0))),
+                    (8, rng.choice((20, 1, 255, 0))), pairs)
         image, room = rng.choices(range(256), k=size), rng.choice((0, 511, size, size * count))
         file = [0] * (size // 16 * 44 + rng.choice((11, 12, 20)))
         call(machine, 'c2_hex_write', [settings, (32, rng.randrange(3)), lent(image), lent(file)], 'hex')

@@ -14,7 +14,7 @@ import re
 import sys
 
 import calls
-from machine import Block, Machine, Pointer, Stuck, listed, statements
+from machine import Block, Machine, Pointer, Stuck, is_number, listed, statements
 
 SEED = 20127
 RANDOM = 24  # random calls kept of each function,
@@ -105,7 +105,7 @@ def value_bytes(value):
         return bytes([value])
     if isinstance(value, Block):
         return b''.join(map(number_bytes, value.elements))
-    if isinstance(value[0], int):
+    if is_number(value):
         return number_bytes(value[1])
     if isinstance(value[0], Pointer):
         elements = slice_elements(value)
@@ -233,7 +233,7 @@ class Writer:
             self.need(verb, of, member)
         self.head(verb, c)
         for _, (member, name) in pairs:
-            self.part(verb, member, name)
+            self.parts(verb, member, name)
         self.tail(verb)
 
     def enum(self, verb, c, variants):
@@ -254,12 +254,18 @@ class Writer:
         self.say('    }')
         self.tail(verb)
 
+    def parts(self, verb, c, name):
+        """A member, or the elements of one that is an array as C has it."""
+        array = re.fullmatch(r'(\w+)\[(\d+)\]', name)
+        if array:
+            self.say(f'    for (int i = 0; i < {array[2]}; i++)')
+            name = f'{array[1]}[i]'
+        self.part(verb, c, name)
+
     def array(self, verb, c):
-        element, member = self.text.structs[c][0]
-        name, count = re.fullmatch(r'(\w+)\[(\d+)\]', member).groups()
+        (element, member), = self.text.structs[c]
         self.head(verb, c)
-        self.say(f'    for (int i = 0; i < {count}; i++)')
-        self.part(verb, element, f'{name}[i]')
+        self.parts(verb, element, member)
         self.tail(verb)
 
     def slice(self, verb, c, width):
@@ -306,11 +312,13 @@ def c_types(of):
 
 
 def variant(fields, members):
-    """A variant's fields and their members: the first field of a type is in the first member of that type."""
+    """A variant's fields and their members: the first field of a type is in the first member of that type. A struct of
+    the header's has its own name in C; its member is called after the MIR's."""
     pairs = []
     for of in fields:
         taken = [member for _, member in pairs]
-        pairs.append((of, next(m for m in members[1:] if m[0] in c_types(of) and m not in taken)))
+        fits = [m for m in members[1:] if not c_types(of).isdisjoint((m[0], m[1].rsplit('_', 1)[0]))]
+        pairs.append((of, next(m for m in fits if m not in taken)))
     return pairs
 
 

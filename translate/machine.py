@@ -76,15 +76,15 @@ def listed(tree):
     return found
 
 
-def in_a_row(body, arrays):
-    """A body's statements, seq and skip taken apart; arrays are the locals that hold one."""
+def in_a_row(body, holds_array):
+    """A body's statements, seq and skip taken apart; holds_array tells of a place whether an array goes there."""
     found, todo = [], [body]
     while todo:
         tree = todo.pop()
         if isinstance(tree, list) and tree[0] == 'seq':
             todo += [tree[2], tree[1]]
         elif tree != 'skip':
-            found.append(statement(tree, arrays))
+            found.append(statement(tree, holds_array))
     return found
 
 
@@ -127,29 +127,29 @@ def value(tree, is_array):
     return 'repeat', operand(tree[1]), int(tree[2])
 
 
-def statement(tree, arrays):
+def statement(tree, holds_array):
     if tree == 'return':
         return ('return',)
     if tree[0] == 'assign':
         to = place(tree[1])
-        return 'assign', to, value(tree[2], to[0] in arrays and not to[1])
+        return 'assign', to, value(tree[2], holds_array(to))
     if tree[0] == 'call':
         return 'call', tree[1][1][1][1:-1], [operand(part) for part in listed(tree[2])], place(tree[3])
     if tree[0] == 'if':
-        return 'if', operand(tree[1]), in_a_row(tree[2], arrays), in_a_row(tree[3], arrays)
+        return 'if', operand(tree[1]), in_a_row(tree[2], holds_array), in_a_row(tree[3], holds_array)
     if tree[0] == 'switch':
         arms, default, rest = {}, None, tree[2]
         while rest != 'noDefault':
             if rest[0] == 'default':
-                default = in_a_row(rest[1], arrays)
+                default = in_a_row(rest[1], holds_array)
                 break
-            body = in_a_row(rest[2], arrays)
+            body = in_a_row(rest[2], holds_array)
             for key in listed(rest[1]):
                 arms.setdefault(int(key), body)
             rest = rest[3]
         return 'switch', operand(tree[1]), arms, default
     if tree[0] in ('block', 'loop'):
-        return tree[0], in_a_row(tree[1], arrays)
+        return tree[0], in_a_row(tree[1], holds_array)
     check(tree[0] == 'exit', tree[0])
     return 'exit', int(tree[1])
 
@@ -171,8 +171,17 @@ class Function:
         self.symbol = tree[1][1:-1]
         self.types = [local[1] for local in listed(item[4])]
         self.parameters = int(item[3])
-        arrays = {k for k, of in enumerate(self.types) if of[0] == 'tyArray'}
-        self.body = in_a_row(item[5], arrays)
+        self.declared = {pair[1][1:-1]: pair[2] for pair in (listed(tree[3]) if len(tree) == 4 else [])}
+        self.body = in_a_row(item[5], self.holds_array)
+
+    def holds_array(self, at):
+        local, steps = at
+        of = self.types[local]
+        for kind, number in steps:
+            if kind != 'field' or of[0] != 'tyNamed':
+                return False
+            of = listed(self.declared[of[1][1][1:-1]][1])[number]
+        return of[0] == 'tyArray'
 
 
 # ---- running
@@ -209,11 +218,16 @@ def op2(name, a, b):
     return {'eq': x == y, 'ne': x != y, 'lt': x < y, 'le': x <= y}[name]
 
 
+def is_number(of):
+    """Not a struct whose first field is a truth value, which Python takes for a number."""
+    return isinstance(of, tuple) and type(of[0]) is int
+
+
 def fresh(of):
     """A value of its own: what is written to its arrays does not show elsewhere."""
     if isinstance(of, Block):
         return of.copy()
-    if isinstance(of, tuple) and of and not isinstance(of[0], int):
+    if isinstance(of, tuple) and not is_number(of):
         return tuple(fresh(part) for part in of)
     return of
 
@@ -225,8 +239,7 @@ class Machine:
         for definition in listed(tree[1]):
             function = Function(definition)
             self.functions[function.symbol] = function
-            for pair in listed(definition[3]) if len(definition) == 4 else []:
-                self.declared[pair[1][1:-1]] = pair[2]
+            self.declared.update(function.declared)
         # gets each call's function and arguments, and gives None, or what to do with the result
         self.watch = None
         self.ran = set()

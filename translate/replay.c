@@ -60,12 +60,13 @@ static void add_call(uint32_t number) {
 
 /* ---- The model's state, number by number ---- */
 
-enum { BYTES = 19 };
+enum { BYTES = 23 };
 
 static void bytes_of(c2_target *t, uint8_t *bytes[BYTES]) {
-    uint8_t *all[BYTES] = {&t->point,   &t->heard, &t->value, &t->left,    &t->zeros, &t->effect, &t->byte,
-                           &t->collision, &t->address, &t->on,  &t->keys,    &t->command, &t->write, &t->page,
-                           &t->high,    &t->output, &t->passed, &t->busy,  &t->late};
+    uint8_t *all[BYTES] = {&t->point,     &t->heard,   &t->value, &t->left, &t->zeros,   &t->effect, &t->byte,
+                           &t->collision, &t->address, &t->on,    &t->keys, &t->met1,    &t->met2,   &t->met3,
+                           &t->met4,      &t->command, &t->write, &t->page, &t->high,    &t->output, &t->passed,
+                           &t->busy,      &t->late};
     memcpy(bytes, all, sizeof all);
 }
 
@@ -99,14 +100,32 @@ static c2_target made_up(c2_target t) {
 
 /* ---- Calls ---- */
 
+/* Mostly few registers, so that some come twice; what is not named is any byte. */
+static c2_pairs pairs(int accepted, uint8_t fpdat) {
+    static const uint32_t registers[] = {3, 4, 0xB2, 0xEF, 255, 0, 2};
+    static const uint32_t counts[] = {0, 0, 1, 2, 3, 4, 5, 255};
+    c2_pairs made;
+    made.count = (uint8_t)pick(counts, accepted || any(9) ? 6 : 8);
+    for (int i = 0; i < 4; i++) {
+        made.registers[i] = (uint8_t)(i < made.count && (accepted || any(20)) ? pick(registers, 5) : any(256));
+        if (i < made.count && accepted && made.registers[i] == fpdat)
+            made.registers[i] = 7;
+        made.values[i] = (uint8_t)(any(4) ? any(3) : any(256));
+    }
+    return made;
+}
+
 static c2_settings settings(int accepted) {
     static const uint32_t size[] = {512, 1024, 512, 1024, 0, 511, 0xFFFFFFFF};
     static const uint32_t count[] = {1, 2, 3, 64, 65, 128, 129, 0, 0xFFFFFFFF};
+    static const uint32_t limit[] = {1, 2, 19, 21, 100, 254, 255, 0};
     c2_settings made;
     made.device_id = (uint8_t)any(256);
     made.fpdat = (uint8_t)(accepted || any(20) ? 3 + any(253) : any(4));
     made.page_size = pick(size, accepted ? 2 : 7);
     made.page_count = pick(count, accepted ? 4 : 9);
+    made.wait_limit = (uint8_t)(any(2) ? 20 : pick(limit, accepted ? 7 : 8));
+    made.pairs = pairs(accepted, made.fpdat);
     return made;
 }
 
@@ -122,7 +141,8 @@ static void open_some(void) {
 }
 
 /* Calls beside the session: on a copy of its record, damaged or not, and on a state that is no target's. */
-static void beside(c2_settings s, c2_target target, uint32_t image_len, uint32_t flash_len, uint32_t delays_len) {
+static void beside(c2_settings s, c2_pairs w, c2_target target, uint32_t image_len, uint32_t flash_len,
+                   uint32_t delays_len) {
     static const uint32_t places[] = {0, 1, 5, 16, 63, 64, 65, 1000, 0x7FFFFFFF, 0xFFFFFFFF, 0xFFFFFFC0};
     uint8_t other[RECORD];
     memcpy(other, record, RECORD);
@@ -146,10 +166,11 @@ static void beside(c2_settings s, c2_target target, uint32_t image_len, uint32_t
     add_bytes(steps, STEPS);
 
     c2_settings others = any(9) ? s : settings(0);
+    c2_pairs wanted = any(9) ? w : pairs(0, s.fpdat);
     uint32_t other_flash = any(9) ? flash_len : any(FLASH + 1);
     c2_target state_of = made_up(target);
     uint8_t step = (uint8_t)any(9);
-    c2_replied replied = c2_target_step(others, state_of, flash, other_flash, delays, delays_len, step);
+    c2_replied replied = c2_target_step(others, wanted, state_of, flash, other_flash, delays, delays_len, step);
     add_call(replied.number);
     add(replied.reply);
     add_target(replied.target);
@@ -157,6 +178,7 @@ static void beside(c2_settings s, c2_target target, uint32_t image_len, uint32_t
 
 static void session(void) {
     c2_settings s = settings(1);
+    c2_pairs wanted = any(4) ? s.pairs : pairs(1, s.fpdat);
     uint32_t first = any(s.page_count), rest = s.page_count - first, pages = 1 + any(rest < 4 ? rest : 4);
     uint32_t image_len = pages * s.page_size, flash_len = s.page_size * s.page_count, delays_len = any(DELAYS + 1);
     fill(image, image_len, 256);
@@ -168,7 +190,7 @@ static void session(void) {
     add_call(opened.number);
     uint8_t step = (uint8_t)opened.step;
     for (uint32_t turns = 200 + any(60000); turns > 0 && step != C2_STEP_OFF; turns--) {
-        c2_replied replied = c2_target_step(s, target, flash, flash_len, delays, delays_len, step);
+        c2_replied replied = c2_target_step(s, wanted, target, flash, flash_len, delays, delays_len, step);
         target = replied.target;
         add_call(replied.number);
         add(replied.reply);
@@ -185,7 +207,7 @@ static void session(void) {
         if (any(10) == 0)
             add_bytes(record, RECORD);
         if (any(40) == 0)
-            beside(s, target, image_len, flash_len, delays_len);
+            beside(s, wanted, target, image_len, flash_len, delays_len);
     }
     add_bytes(flash, flash_len);
 }
@@ -193,7 +215,12 @@ static void session(void) {
 /* Lengths and places of more than 32 bits, where size_t has them: none may be cut. None of these is followed. */
 static int wide(void) {
     const size_t more = (size_t)UINT64_C(0x100000000);
-    const c2_settings s = {.device_id = 0x04, .fpdat = 0xB4, .page_size = 512, .page_count = 4};
+    const c2_settings s = {.device_id = 0x04,
+                           .fpdat = 0xB4,
+                           .page_size = 512,
+                           .page_count = 4,
+                           .wait_limit = 20,
+                           .pairs = {0, {0}, {0}}};
     const uint8_t reply = 1;
     int cut = 0;
     if (more == 0)
@@ -207,7 +234,7 @@ static int wide(void) {
     cut |= c2_advance(record, C2_RECORD_BYTES, image, 512, &reply, 1 + more, steps, 1, 0).number != C2_NO_ROOM;
     cut |= c2_advance(record, C2_RECORD_BYTES, image, 512, &reply, 1, steps, 1, more).number != C2_NO_ROOM;
     cut |= c2_advance(record, C2_RECORD_BYTES, image, 512, &reply, 1, steps, more, 0).number != C2_RUNNING;
-    cut |= c2_target_step(s, c2_target_fresh(), flash, 2048 + more, NULL, 0, 6).number != C2_NO_POINT;
+    cut |= c2_target_step(s, s.pairs, c2_target_fresh(), flash, 2048 + more, NULL, 0, 6).number != C2_NO_POINT;
     memset(record, 0, sizeof record);
     memset(steps, 0, sizeof steps);
     return cut;

@@ -7,6 +7,7 @@ use proved::dump::{self, Difference, Ranges};
 
 use crate::harness::job::Random;
 use crate::harness::measure::{self, Work};
+use crate::harness::tables::Tables;
 use crate::plain::dump as plain;
 
 const PAGE_SIZE: u32 = 512;
@@ -98,18 +99,14 @@ fn agree(row: &Row) -> Result<(), String> {
     Ok(())
 }
 
-pub fn table(repeat: usize) -> Result<(), String> {
-    println!("\ntwo dumps of 64 KiB, {TIMES} comparisons to a repetition, {repeat} repetitions\n");
-    println!("| ns a KiB | plain | ours | ours/plain | pair by pair |");
-    println!("|---|---|---|---|---|");
+pub fn table(tables: &mut Tables, repeat: usize) -> Result<(), String> {
+    let more = format!(", {TIMES} comparisons to a repetition, {repeat} repetitions");
+    tables.begin("two dumps of 64 KiB", &more, "ns a KiB");
     for row in &ROWS {
         agree(row)?;
         let mut plain = Comparing { dumps: Dumps::new(row.every), call: row.plain };
         let mut ours = Comparing { dumps: Dumps::new(row.every), call: row.ours };
-        let measured = measure::interleaved(&mut plain, &mut ours, KIB, repeat);
-        let ratio = measured.ours.median / measured.plain.median;
-        let (plain, ours, pairs) = (measured.plain, measured.ours, measured.pairs.quartiles());
-        println!("| {} | {plain} | {ours} | {ratio:.2} | {pairs} |", row.title);
+        tables.row(row.title, &measure::interleaved(&mut plain, &mut ours, KIB, repeat));
     }
     Ok(())
 }

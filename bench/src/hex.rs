@@ -3,13 +3,21 @@
 use std::hint::black_box;
 use std::ops::Range;
 
-use proved::c2::Settings;
+use proved::c2::{Pairs, Settings};
 use proved::hex::{HexImage, Written};
 
-use crate::harness::measure::{self, Comparison, Work};
+use crate::harness::measure::{self, Work};
+use crate::harness::tables::Tables;
 use crate::plain;
 
-const SETTINGS: Settings = Settings { device_id: 4, fpdat: 0xB4, page_size: 512, page_count: 128 };
+const SETTINGS: Settings = Settings {
+    device_id: 4,
+    fpdat: 0xB4,
+    page_size: 512,
+    page_count: 128,
+    wait_limit: 20,
+    pairs: Pairs::NONE,
+};
 const IMAGE: usize = 65_536;
 /// What a repetition is told in.
 const KIB: usize = IMAGE / 1_024;
@@ -74,11 +82,7 @@ fn file(image: &[u8], record: usize, shuffled: bool) -> Vec<u8> {
     (text + ":00000001FF\n").into_bytes()
 }
 
-fn print_row(title: &str, Comparison { plain, ours, pairs }: &Comparison) {
-    println!("| {title} | {plain} | {ours} | {:.2} | {} |", ours.median / plain.median, pairs.quartiles());
-}
-
-fn reading(title: &str, image: &[u8], file: &[u8], repeat: usize) -> Result<(), String> {
+fn reading(tables: &mut Tables, title: &str, image: &[u8], file: &[u8], repeat: usize) -> Result<(), String> {
     let side = |read: Read| Reading { read, file, image: vec![0; IMAGE] };
     let (mut plain, mut ours) = (side(plain::hex::read), side(proved::hex::read));
     for (name, work) in [("plain", &mut plain), ("ours", &mut ours)] {
@@ -87,19 +91,17 @@ fn reading(title: &str, image: &[u8], file: &[u8], repeat: usize) -> Result<(), 
             return Err(format!("{name} reads {title} as {came:?}"));
         }
     }
-    print_row(title, &measure::interleaved(&mut plain, &mut ours, KIB, repeat));
+    tables.row(title, &measure::interleaved(&mut plain, &mut ours, KIB, repeat));
     Ok(())
 }
 
-pub fn table(repeat: usize) -> Result<(), String> {
+pub fn table(tables: &mut Tables, repeat: usize) -> Result<(), String> {
     let image = black_box(image());
-    println!("\nIntel HEX, 64 KiB image, {repeat} repetitions\n");
-    println!("| ns a KiB of image | plain | ours | ours/plain | pair by pair |");
-    println!("|---|---|---|---|---|");
+    tables.begin("Intel HEX, 64 KiB image", &format!(", {repeat} repetitions"), "ns a KiB of image");
     for record in [16, 1] {
         for (order, shuffled) in [("rising", false), ("shuffled", true)] {
             let file = file(&image, record, shuffled);
-            reading(&format!("read, records of {record}, {order}"), &image, &file, repeat)?;
+            reading(tables, &format!("read, records of {record}, {order}"), &image, &file, repeat)?;
         }
     }
     let expected = file(&image, 16, false);
@@ -111,6 +113,6 @@ pub fn table(repeat: usize) -> Result<(), String> {
             return Err(format!("{name} writes another file: {came:?}"));
         }
     }
-    print_row("write", &measure::interleaved(&mut plain, &mut ours, KIB, repeat));
+    tables.row("write", &measure::interleaved(&mut plain, &mut ours, KIB, repeat));
     Ok(())
 }

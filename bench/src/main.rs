@@ -4,7 +4,7 @@
 //!     bench --only SIDE:ROW [--delays none|255] [--repeat N]
 //!
 //! The second form runs one row of one side, untimed and unchecked, for a profiler: SIDE is plain, ours or
-//! kept (the plain structs without the face), ROW many, one, target, loop or program.
+//! kept (the plain structs without the face), ROW many, few, one, target, loop or program.
 
 mod checks;
 mod dumps;
@@ -19,10 +19,11 @@ use std::process::ExitCode;
 
 use checks::{frames, sessions};
 use harness::job::{Job, Recording, Wired};
-use harness::measure::{self, Comparison, Work, PIECE};
+use harness::measure::{self, Work, PIECE};
 use harness::options::{Options, Side, LISTS};
 use harness::ours::Library;
 use harness::sides::Kept;
+use harness::tables::Tables;
 use plain::Plain;
 use rows::Row;
 
@@ -44,18 +45,17 @@ fn profile(side: Side, row: Row, options: &Options) {
     println!("{ran} steps");
 }
 
-fn table(name: &str, delays: &[u8], repeat: usize) -> Result<(), String> {
+fn table(tables: &mut Tables, name: &str, delays: &[u8], repeat: usize) -> Result<(), String> {
     // The compiler is not to know what the job is.
     let job = black_box(Job::new(delays));
     let recording = sessions::recorded(&job)?;
     let steps = recording.replies.len();
-    println!("\n16 KiB image, delays {name}: {steps} steps to a session, {repeat} repetitions\n");
-    println!("| ns a step | plain | ours | plain, steps/s | ours, steps/s | ours/plain | pair by pair |");
-    println!("|---|---|---|---|---|---|---|");
+    let more = format!(": {steps} steps to a session, {repeat} repetitions");
+    tables.begin(&format!("16 KiB image, delays {name}"), &more, "ns a step");
     for row in Row::ALL {
         let mut plain = work(Side::Plain, row, &job, &recording);
         let mut ours = work(Side::Ours, row, &job, &recording);
-        print_row(row, &measure::interleaved(plain.as_mut(), ours.as_mut(), steps, repeat));
+        tables.row(row.title(), &measure::interleaved(plain.as_mut(), ours.as_mut(), steps, repeat));
     }
     scale(&job, &recording, repeat);
     Ok(())
@@ -63,22 +63,13 @@ fn table(name: &str, delays: &[u8], repeat: usize) -> Result<(), String> {
 
 /// The plain structs without the face, for scale.
 fn scale(job: &Job, recording: &Recording, repeat: usize) {
-    println!("\n| ns a step | plain structs, kept by the caller | steps/s |");
-    println!("|---|---|---|");
+    println!("\n| ns a step | plain structs, kept by the caller |");
+    println!("|---|---|");
     for row in Row::KEPT {
         let mut kept = work(Side::Kept, row, job, recording);
         let summary = measure::alone(kept.as_mut(), recording.replies.len(), repeat);
-        println!("| {} | {summary} | {:.1} M |", row.title(), summary.millions());
+        println!("| {} | {summary} |", row.title());
     }
-}
-
-fn print_row(row: Row, Comparison { plain, ours, pairs }: &Comparison) {
-    let (title, ratio) = (row.title(), ours.median / plain.median);
-    let (plain_rate, our_rate) = (plain.millions(), ours.millions());
-    println!(
-        "| {title} | {plain} | {ours} | {plain_rate:.1} M | {our_rate:.1} M | {ratio:.2} | {} |",
-        pairs.quartiles()
-    );
 }
 
 fn run() -> Result<(), String> {
@@ -89,10 +80,15 @@ fn run() -> Result<(), String> {
     }
     sessions::troubled_sessions_agree()?;
     frames::targets_agree()?;
-    LISTS.into_iter().try_for_each(|(name, delays)| table(name, delays, options.repeat))?;
-    dumps::table(options.repeat)?;
-    hex::table(options.repeat)?;
-    radio::table(options.repeat)
+    let mut tables = Tables::default();
+    for (name, delays) in LISTS {
+        table(&mut tables, name, delays, options.repeat)?;
+    }
+    dumps::table(&mut tables, options.repeat)?;
+    hex::table(&mut tables, options.repeat)?;
+    radio::table(&mut tables, options.repeat)?;
+    tables.summary();
+    Ok(())
 }
 
 fn main() -> ExitCode {

@@ -6,7 +6,8 @@ use std::ops::Range;
 use proved::radio::{self, Advanced, Opened, Replied, Target};
 
 use crate::harness::job::Random;
-use crate::harness::measure::{self, Comparison, Work};
+use crate::harness::measure::{self, Work};
+use crate::harness::tables::Tables;
 use crate::plain::radio as plain;
 
 const PAGE: usize = 256;
@@ -176,23 +177,18 @@ fn damaged_agree(inputs: &Inputs, recorded: &[Played], random: &mut Random) -> R
     Ok(())
 }
 
-fn print_row(title: &str, Comparison { plain, ours, pairs }: &Comparison) {
-    println!("| {title} | {plain} | {ours} | {:.2} | {} |", ours.median / plain.median, pairs.quartiles());
-}
-
-pub fn table(repeat: usize) -> Result<(), String> {
+pub fn table(tables: &mut Tables, repeat: usize) -> Result<(), String> {
     let mut random = Random::new(3);
     let inputs = black_box(Inputs::new(&mut random));
     let recorded = recorded(&inputs)?;
     damaged_agree(&inputs, &recorded, &mut random)?;
-    println!("\nRadio module, image of {IMAGE} bytes: {REPLIES} replies to a job, {repeat} repetitions\n");
-    println!("| ns a reply | plain | ours | ours/plain | pair by pair |");
-    println!("|---|---|---|---|---|");
+    let more = format!(", image of {IMAGE} bytes: {REPLIES} replies to a job, {repeat} repetitions");
+    tables.begin("radio module", &more, "ns a reply");
     let rows = [("job", Row::Job), ("module", Row::Module), ("job against the module", Row::Both)];
     for (title, row) in rows {
         let work =
             |side| Whole { row, side, inputs: &inputs, recorded: &recorded, flash: inputs.flash.clone() };
-        print_row(title, &measure::interleaved(&mut work(PLAIN), &mut work(OURS), REPLIES, repeat));
+        tables.row(title, &measure::interleaved(&mut work(PLAIN), &mut work(OURS), REPLIES, repeat));
     }
     Ok(())
 }

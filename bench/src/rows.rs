@@ -8,12 +8,14 @@ use crate::harness::job::{Job, Recording, Wired, OFF};
 use crate::harness::measure::Work;
 use crate::harness::sides::{Session, Side, Target};
 
-/// Replies to a call in the row of many.
+/// Replies to a call in the row of many, and in that of few.
 const MANY: usize = 4096;
+const FEW: usize = 64;
 
 #[derive(Clone, Copy)]
 pub enum Row {
     Many,
+    Few,
     One,
     Target,
     Loop,
@@ -21,7 +23,7 @@ pub enum Row {
 }
 
 impl Row {
-    pub const ALL: [Row; 5] = [Row::Many, Row::One, Row::Target, Row::Loop, Row::Program];
+    pub const ALL: [Row; 6] = [Row::Many, Row::Few, Row::One, Row::Target, Row::Loop, Row::Program];
     /// Those of the structs that the caller keeps.
     pub const KEPT: [Row; 4] = [Row::Many, Row::One, Row::Target, Row::Loop];
 
@@ -29,6 +31,7 @@ impl Row {
     pub fn name(self) -> &'static str {
         match self {
             Row::Many => "many",
+            Row::Few => "few",
             Row::One => "one",
             Row::Target => "target",
             Row::Loop => "loop",
@@ -40,6 +43,7 @@ impl Row {
     pub fn title(self) -> &'static str {
         match self {
             Row::Many => "session, 4,096 replies a call",
+            Row::Few => "session, 64 replies a call",
             Row::One => "session, one reply a call",
             Row::Target => "target",
             Row::Loop => "whole loop, call by call",
@@ -49,7 +53,8 @@ impl Row {
 
     pub fn work<'a, S: Side + 'a>(self, job: &'a Job, recording: &'a Recording) -> Box<dyn Work + 'a> {
         match self {
-            Row::Many => Box::new(Many::<S::Session>::new(job, recording)),
+            Row::Many => Box::new(Many::<S::Session, MANY>::new(job, recording)),
+            Row::Few => Box::new(Many::<S::Session, FEW>::new(job, recording)),
             Row::One => Box::new(One::<S::Session>::new(job, recording)),
             Row::Target => Box::new(Alone::<S::Target>::new(job, recording)),
             Row::Loop => Box::new(Whole::<S>::new(job)),
@@ -58,27 +63,27 @@ impl Row {
     }
 }
 
-/// A session given the recorded replies, many to a call.
-struct Many<'a, S> {
+/// A session given the recorded replies, so many to a call.
+struct Many<'a, S, const REPLIES: usize> {
     job: &'a Job,
     recording: &'a Recording,
     session: S,
-    steps: [u8; MANY],
+    steps: [u8; REPLIES],
 }
 
-impl<'a, S: Session> Many<'a, S> {
+impl<'a, S: Session, const REPLIES: usize> Many<'a, S, REPLIES> {
     fn new(job: &'a Job, recording: &'a Recording) -> Self {
-        Many { job, recording, session: S::open(job).0, steps: [0; MANY] }
+        Many { job, recording, session: S::open(job).0, steps: [0; REPLIES] }
     }
 }
 
-impl<S: Session> Work for Many<'_, S> {
+impl<S: Session, const REPLIES: usize> Work for Many<'_, S, REPLIES> {
     fn restart(&mut self) {
         *self = Many::new(self.job, self.recording);
     }
 
     fn run(&mut self, piece: Range<usize>) {
-        for replies in self.recording.replies[piece].chunks(MANY) {
+        for replies in self.recording.replies[piece].chunks(REPLIES) {
             let taken = self.session.advance_all(replies, &self.job.image, &mut self.steps);
             black_box(&self.steps[..taken]);
         }
@@ -120,7 +125,7 @@ struct Alone<'a, T> {
 
 impl<'a, T: Target> Alone<'a, T> {
     fn new(job: &'a Job, recording: &'a Recording) -> Self {
-        Alone { job, recording, target: T::fresh(job.settings), flash: job.blank_flash() }
+        Alone { job, recording, target: T::fresh(job), flash: job.blank_flash() }
     }
 }
 

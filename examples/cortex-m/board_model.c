@@ -21,7 +21,12 @@ __attribute__((section(".kept"))) static struct {
     uint32_t sleeps, strobes, faults;
 } device;
 
-static const c2_settings SETTINGS = {.device_id = 0x04, .fpdat = 0xB4, .page_size = PAGE, .page_count = PAGES};
+static const c2_settings SETTINGS = {.device_id = 0x0B,
+                                     .fpdat = 0xB4,
+                                     .page_size = PAGE,
+                                     .page_count = PAGES,
+                                     .wait_limit = 20,
+                                     .pairs = {1, {0xB6}, {0x10}}};
 static const uint8_t DELAYS[] = {0, 3, 1, 0, 7, 19, 2};
 static const uint32_t POWERED = 0x600DF00D;
 
@@ -38,7 +43,8 @@ void board_start(void) {
 }
 
 static void target_step(uint8_t step) {
-    c2_replied replied = c2_target_step(SETTINGS, device.target, device.flash, FLASH, DELAYS, sizeof DELAYS, step);
+    c2_replied replied = c2_target_step(SETTINGS, SETTINGS.pairs, device.target, device.flash, FLASH, DELAYS,
+                                        sizeof DELAYS, step);
     device.target = replied.target;
     device.sent = replied.reply == 1;
     device.faults += replied.number != 0;

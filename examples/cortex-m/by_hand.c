@@ -4,14 +4,16 @@
  */
 #include "c2.h"
 
-enum { LEAD, ERASE, WRITE, READ, CLOSE };
+enum { LEAD, ERASE, WRITE, READ, CLOSE, PAIRS };
 enum { RESET, PAUSE, ADDRESS, SEND, INPUT, OUTPUT, IDENT, STATUS, COMPARE };
 
 /* The acts of each stage. */
-static const uint16_t acts_in[5] = {8, 13, 525, 525, 1};
+static const uint16_t acts_in[6] = {8, 13, 525, 525, 1, 2};
 
 typedef struct {
-    unsigned size, first, pages, fpdat, id;                                /* the session */
+    unsigned size, first, pages, fpdat, id, limit;                         /* the session; its WAITs' limit */
+    unsigned pair_count;                                                   /* its pairs, as the record has */
+    const uint8_t *pairs;                                                  /* them: register, value, ... */
     unsigned number, offset, stage, page, block, act, strobe, count, bits; /* its point */
     unsigned task, byte;                                                   /* the act's */
 } session;
@@ -24,6 +26,8 @@ static unsigned task_of(unsigned stage, unsigned act) {
         return lead[act];
     case CLOSE:
         return RESET;
+    case PAIRS:
+        return act == 0 ? ADDRESS : SEND;
     case ERASE:
         return act == 0 ? ADDRESS : erase[act % 4];
     default:
@@ -48,13 +52,27 @@ static int zeros(const uint8_t *p, int n) {
     return any == 0;
 }
 
-static int settings_in_range(unsigned fpdat, unsigned size, unsigned count) {
+/* Whether these registers may be written, so many at every so many bytes. */
+static int are_registers(const uint8_t *registers, unsigned count, unsigned apart, unsigned fpdat) {
+    if (count > 4)
+        return 0;
+    for (unsigned i = 0; i < count * apart; i += apart)
+        if (registers[i] < 3 || registers[i] == fpdat)
+            return 0;
+    return 1;
+}
+
+static int settings_in_range(unsigned fpdat, unsigned size, unsigned count, unsigned limit, c2_pairs pairs) {
     if (fpdat < 3)
         return C2_BAD_FPDAT;
     if (size != 512 && size != 1024)
         return C2_BAD_PAGE_SIZE;
     if (count == 0 || count > 65536 / size)
         return C2_BAD_PAGE_COUNT;
+    if (limit == 0)
+        return C2_BAD_WAIT_LIMIT;
+    if (!are_registers(pairs.registers, pairs.count, 1, fpdat))
+        return C2_BAD_PAIRS;
     return 0;
 }
 
@@ -67,7 +85,10 @@ static int held(const uint8_t *r, size_t len, session *s) {
     s->size = r[2] | r[3] << 8;
     s->first = r[5];
     s->pages = r[6];
-    if (s->fpdat < 3 || r[4] == 0)
+    s->limit = r[18];
+    s->pair_count = r[19];
+    s->pairs = r + 20;
+    if (s->fpdat < 3 || r[4] == 0 || s->limit == 0)
         return 0;
     if (s->size == 512) {
         if (r[4] > 128)
@@ -77,7 +98,10 @@ static int held(const uint8_t *r, size_t len, session *s) {
             return 0;
     } else
         return 0;
-    if (s->pages == 0 || s->first + s->pages > r[4] || !zeros(r + 18, 14))
+    if (s->pages == 0 || s->first + s->pages > r[4])
+        return 0;
+    if (!are_registers(s->pairs, s->pair_count, 2, s->fpdat) ||
+        !zeros(s->pairs + 2 * s->pair_count, 12 - 2 * (int)s->pair_count))
         return 0;
     s->number = r[7];
     s->offset = r[8] | r[9] << 8;
@@ -93,11 +117,11 @@ static int held(const uint8_t *r, size_t len, session *s) {
     s->strobe = r[15];
     s->count = r[16];
     s->bits = r[17];
-    if (s->offset || s->stage > CLOSE)
+    if (s->offset || s->stage > PAIRS)
         return 0;
     unsigned block = s->stage == WRITE || s->stage == READ;
-    if (s->page >= (block || s->stage == ERASE ? s->pages : 1) || s->block >= (block ? s->size / 256 : 1) ||
-        s->act >= acts_in[s->stage])
+    unsigned pages = block || s->stage == ERASE ? s->pages : s->stage == PAIRS ? s->pair_count : 1;
+    if (s->page >= pages || s->block >= (block ? s->size / 256 : 1) || s->act >= acts_in[s->stage])
         return 0;
     s->task = task_of(s->stage, s->act);
     unsigned strobes = 15, counts = 1, first = 32;
@@ -111,7 +135,7 @@ static int held(const uint8_t *r, size_t len, session *s) {
         break;
     case SEND:
         if (s->strobe == 13)
-            counts = 20;
+            counts = s->limit;
         break;
     case INPUT:
     case OUTPUT:
@@ -121,7 +145,7 @@ static int held(const uint8_t *r, size_t len, session *s) {
         break;
     default:
         if (s->strobe == 5)
-            counts = 20;
+            counts = s->limit;
         first = 6;
         break;
     }
@@ -143,6 +167,8 @@ static unsigned sent(const session *s, const uint8_t *image) {
         return s->act == 0 ? s->fpdat : s->act == 1 ? 8 : s->act == 5 ? (s->first + s->page) & 255 : 0;
     case CLOSE:
         return 0;
+    case PAIRS:
+        return s->pairs[2 * s->page + s->act];
     default:
         if (s->stage == WRITE && s->act >= 11) {
             i = block_offset(s) + (s->act - 11) / 2;
@@ -173,7 +199,13 @@ static void onward(session *s, const uint8_t *image) {
         s->act = 0;
         switch (s->stage) {
         case LEAD:
-            s->stage = ERASE;
+            s->stage = s->pair_count ? PAIRS : ERASE;
+            break;
+        case PAIRS:
+            if (++s->page == s->pair_count) {
+                s->page = 0;
+                s->stage = ERASE;
+            }
             break;
         case ERASE:
             s->stage = WRITE;
@@ -246,7 +278,7 @@ static void waits(session *s, unsigned one) {
     if (one) {
         s->count = 0;
         s->strobe++;
-    } else if (++s->count == 20)
+    } else if (++s->count == s->limit)
         end(s, C2_WAIT_LIMIT_REACHED, 0);
 }
 
@@ -333,7 +365,7 @@ c2_opened c2_open(uint8_t *r, size_t record_len, const uint8_t *image, size_t im
     (void)image;
     if (record_len != 32)
         return o;
-    o.number = (uint32_t)settings_in_range(t.fpdat, t.page_size, t.page_count);
+    o.number = (uint32_t)settings_in_range(t.fpdat, t.page_size, t.page_count, t.wait_limit, t.pairs);
     if (o.number)
         return o;
     if (image_len == 0 || image_len % t.page_size) {
@@ -352,6 +384,12 @@ c2_opened c2_open(uint8_t *r, size_t record_len, const uint8_t *image, size_t im
     r[4] = (uint8_t)t.page_count;
     r[5] = (uint8_t)first;
     r[6] = (uint8_t)(image_len / t.page_size);
+    r[18] = t.wait_limit;
+    r[19] = t.pairs.count;
+    for (unsigned i = 0; i < t.pairs.count; i++) {
+        r[20 + 2 * i] = t.pairs.registers[i];
+        r[21 + 2 * i] = t.pairs.values[i];
+    }
     o.step = C2_STEP_RESET;
     return o;
 }
@@ -399,14 +437,34 @@ c2_advanced c2_advance(uint8_t *r, size_t record_len, const uint8_t *image, size
 static unsigned less(unsigned a, unsigned b) {
     return a < b ? 0 : a - b;
 }
-enum { BYTE = 14 + 20 + 256 * 12, BLOCK = 12 + 262 * BYTE, ERASES = 12 + 6 * BYTE };
-static unsigned cost(unsigned task) {
-    static const uint16_t costs[9] = {1, 1, 12, 34, 3072, 3072, 34, 34, 34};
-    return costs[task];
+
+/* The most steps of a put or a get: a frame of 14 strobes and its WAIT, and a poll. */
+static unsigned put_or_get(unsigned limit) {
+    return 14 + limit + 256 * 12;
+}
+
+static unsigned cost(const session *s) {
+    switch (s->task) {
+    case RESET:
+    case PAUSE:
+        return 1;
+    case ADDRESS:
+        return 12;
+    case INPUT:
+    case OUTPUT:
+        return 256 * 12;
+    default:
+        return 14 + s->limit;
+    }
+}
+
+/* What the lead has after this act: at the first act 70 strobes and four WAITs. */
+static unsigned lead_after(const session *s) {
+    static const uint8_t strobes[8] = {70, 56, 55, 43, 29, 15, 1, 0}, waits[8] = {4, 3, 3, 3, 2, 1, 0, 0};
+    return strobes[s->act] + waits[s->act] * s->limit;
 }
 
 c2_remaining c2_steps_left(const uint8_t *r, size_t record_len) {
-    static const uint8_t lead[8] = {150, 116, 115, 103, 69, 35, 1, 0};
     session s;
     c2_remaining a = {C2_BAD_RECORD, 0};
     if (!held(r, record_len, &s))
@@ -414,7 +472,8 @@ c2_remaining c2_steps_left(const uint8_t *r, size_t record_len) {
     a.number = s.number;
     if (s.number)
         return a;
-    unsigned n, w = s.task == SEND ? 13 : 5, B = s.size / 256, page = ERASES + 2 * B * BLOCK;
+    unsigned n, w = s.task == SEND ? 13 : 5, B = s.size / 256;
+    unsigned both = put_or_get(s.limit), block = 12 + 262 * both, page = 12 + 6 * both + 2 * B * block;
     switch (s.task) {
     case RESET:
     case PAUSE:
@@ -428,18 +487,20 @@ c2_remaining c2_steps_left(const uint8_t *r, size_t record_len) {
         n = 12 - s.strobe + (255 - s.count) * 12;
         break;
     default:
-        n = s.strobe < w ? 34 - s.strobe : s.strobe == w ? 14 - w + 20 - s.count : 15 - s.strobe;
+        n = s.strobe <= w ? 14 - s.strobe + s.limit - s.count : 15 - s.strobe;
         break;
     }
     if (s.stage == LEAD)
-        n += lead[s.act] + s.pages * page + 1;
+        n += lead_after(&s) + s.pair_count * (26 + s.limit) + s.pages * page + 1;
+    else if (s.stage == PAIRS)
+        n += (s.act ? 0 : 14 + s.limit) + (s.pair_count - s.page - 1) * (26 + s.limit) + s.pages * page + 1;
     else if (s.stage != CLOSE) {
-        n += less(acts_in[s.stage] - 1u, s.act) / 2 * BYTE;
+        n += less(acts_in[s.stage] - 1u, s.act) / 2 * both;
         if (s.act % 2)
-            n += BYTE - cost(s.task);
+            n += both - cost(&s);
         n += (s.pages - s.page - 1) * page + 1;
         n +=
-            s.stage == ERASE ? 2 * B * BLOCK : (B - s.block - 1) * BLOCK + (s.stage == WRITE ? B * BLOCK : 0);
+            s.stage == ERASE ? 2 * B * block : (B - s.block - 1) * block + (s.stage == WRITE ? B * block : 0);
     }
     a.steps = n;
     return a;

@@ -8,7 +8,12 @@
 enum { STEPS_AT_A_TIME = 128, FIRST_PAGE = 1 };
 
 /* The device, from its data sheet, and the image, here in the processor's own flash. */
-static const c2_settings DEVICE = {.device_id = 0x04, .fpdat = 0xB4, .page_size = 512, .page_count = 4};
+static const c2_settings DEVICE = {.device_id = 0x0B,
+                                   .fpdat = 0xB4,
+                                   .page_size = 512,
+                                   .page_count = 4,
+                                   .wait_limit = 20,
+                                   .pairs = {1, {0xB6}, {0x10}}}; /* its flash timing */
 static const uint8_t IMAGE[512] = "gain knobs, third try";
 
 static void pulse(uint32_t low_us, uint32_t high_us) {

@@ -77,7 +77,12 @@ static uint32_t number_after(uint8_t *record, const uint8_t *replies, uint32_t c
 }
 
 int main(void) {
-    const c2_settings settings = {.device_id = 0x04, .fpdat = 0xB4, .page_size = PAGE, .page_count = PAGES};
+    const c2_settings settings = {.device_id = 0x04,
+                                  .fpdat = 0xB4,
+                                  .page_size = PAGE,
+                                  .page_count = PAGES,
+                                  .wait_limit = 20,
+                                  .pairs = {0, {0}, {0}}};
     uint8_t record[C2_RECORD_BYTES], beside[C2_RECORD_BYTES], replies[MANY];
     uint32_t taken = 0, sum = 2166136261u;
     gauge();
@@ -93,7 +98,7 @@ int main(void) {
     uint32_t number = opened.number, waiting = 0;
     while (number == C2_RUNNING) {
         begin();
-        c2_replied replied = c2_target_step(settings, target, flash, FLASH, 0, 0, step);
+        c2_replied replied = c2_target_step(settings, settings.pairs, target, flash, FLASH, 0, 0, step);
         end(&target_meter);
         target = replied.target;
         uint8_t reply = (uint8_t)replied.reply;

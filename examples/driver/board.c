@@ -17,8 +17,8 @@ static void fault_if(board *b, bool fault) {
 }
 
 static void target_step(board *b, uint8_t step) {
-    c2_replied replied =
-        c2_target_step(DEVICE, b->target, b->flash, sizeof b->flash, DELAYS, sizeof DELAYS, step);
+    c2_replied replied = c2_target_step(DEVICE, DEVICE.pairs, b->target, b->flash, sizeof b->flash, DELAYS,
+                                        sizeof DELAYS, step);
     fault_if(b, replied.number != 0);
     b->target = replied.target;
     b->sent = replied.reply == 1;

@@ -7,7 +7,7 @@
 
 enum { PAGE = 512, PAGES = 32, FLASH = PAGE * PAGES };
 
-static const c2_settings DEVICE = {0x04, 0xB4, PAGE, PAGES};
+static const c2_settings DEVICE = {0x04, 0xB4, PAGE, PAGES, 20, {0, {0}, {0}}};
 
 typedef struct {
     c2_target target;

@@ -25,7 +25,12 @@ typedef struct {
 } session;
 
 static void open_session(session *s, const uint8_t *delays, size_t delays_len) {
-    c2_settings device = {.device_id = 0x04, .fpdat = 0xB4, .page_size = 512, .page_count = 32};
+    c2_settings device = {.device_id = 0x04,
+                          .fpdat = 0xB4,
+                          .page_size = 512,
+                          .page_count = 32,
+                          .wait_limit = 20,
+                          .pairs = {0, {0}, {0}}};
     memcpy(s->image, "gain knobs, third try", 22);
     s->device = device;
     s->target = c2_target_fresh();
@@ -40,8 +45,8 @@ static void open_session(session *s, const uint8_t *delays, size_t delays_len) {
 static void next_frame(session *s, frame *f, uint64_t *limit) {
     frame_begin(f);
     while (!f->whole && *limit > 0) {
-        c2_replied replied = c2_target_step(s->device, s->target, s->flash, sizeof s->flash, s->delays,
-                                            s->delays_len, s->step);
+        c2_replied replied = c2_target_step(s->device, s->device.pairs, s->target, s->flash, sizeof s->flash,
+                                            s->delays, s->delays_len, s->step);
         uint8_t reply = (uint8_t)replied.reply;
         s->target = replied.target;
         frame_take(f, s->step, reply);

@@ -20,7 +20,7 @@ typedef struct {
     driver by;
 } strobe;
 
-/* The longest frame has 32 bits of DATA and 20 strobes of WAIT: 58 strobes. */
+/* The longest frame of the device here has 32 bits of DATA and 20 strobes of WAIT: 58 strobes. */
 enum { MOST_STROBES = 64 };
 
 /*

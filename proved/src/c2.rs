@@ -3,6 +3,19 @@
 /// The length of a session's record.
 pub const RECORD_BYTES: usize = 32;
 
+/// Pairs of register and value; entries from the count on are not looked at.
+#[repr(C)]
+#[derive(Clone, Copy, Debug, Default, PartialEq, Eq)]
+pub struct Pairs {
+    pub count: u8,
+    pub registers: [u8; 4],
+    pub values: [u8; 4],
+}
+
+impl Pairs {
+    pub const NONE: Pairs = Pairs { count: 0, registers: [0; 4], values: [0; 4] };
+}
+
 #[repr(C)]
 #[derive(Clone, Copy, Debug, PartialEq, Eq)]
 pub struct Settings {
@@ -10,6 +23,8 @@ pub struct Settings {
     pub fpdat: u8,
     pub page_size: u32,
     pub page_count: u32,
+    pub wait_limit: u8,
+    pub pairs: Pairs,
 }
 
 #[repr(C)]

@@ -26,7 +26,7 @@ extern "C" {
     ) -> Run;
 }
 
-/// The run takes at most `budget` replies.
+/// The run takes at most `budget` replies; the target wants no pairs.
 #[inline]
 pub fn program(
     settings: Settings,

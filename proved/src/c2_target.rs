@@ -1,6 +1,6 @@
 //! include/c2_target.h: the modelled target.
 
-use crate::c2::Settings;
+use crate::c2::{Pairs, Settings};
 
 /// A target's state; the header tells what the numbers mean.
 #[repr(C)]
@@ -22,6 +22,10 @@ pub struct State {
     pub address: u8,
     pub on: u8,
     pub keys: u8,
+    pub met1: u8,
+    pub met2: u8,
+    pub met3: u8,
+    pub met4: u8,
     pub command: u8,
     pub write: u8,
     pub page: u8,
@@ -45,6 +49,7 @@ extern "C" {
 
     pub fn c2_target_step(
         settings: Settings,
+        wanted: Pairs,
         target: State,
         flash: *mut u8,
         flash_len: usize,
@@ -60,8 +65,18 @@ pub fn fresh() -> State {
 }
 
 #[inline]
-pub fn step(settings: Settings, target: State, flash: &mut [u8], delays: &[u8], step: u8) -> Replied {
+pub fn step(
+    settings: Settings,
+    wanted: Pairs,
+    target: State,
+    flash: &mut [u8],
+    delays: &[u8],
+    step: u8,
+) -> Replied {
     let (flash_start, delays_start) = (flash.as_mut_ptr(), delays.as_ptr());
+    let (flash_len, delays_len) = (flash.len(), delays.len());
     // SAFETY: each pointer is that of a slice with its length beside it, and a `&mut` overlaps no other.
-    unsafe { c2_target_step(settings, target, flash_start, flash.len(), delays_start, delays.len(), step) }
+    unsafe {
+        c2_target_step(settings, wanted, target, flash_start, flash_len, delays_start, delays_len, step)
+    }
 }

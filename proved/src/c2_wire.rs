@@ -40,7 +40,8 @@ pub fn step(ins: u8, byte: u8, strobe: usize) -> u8 {
 
 pub fn follow(ins: u8, strobe: usize, count: usize, bits: usize, reply: u8, limit: usize) -> Moved {
     let [strobe, count, bits, limit] = [strobe, count, bits, limit].map(narrow);
-    let Followed { kind, strobe, count, bits } = unsafe { wire_follow(ins, strobe, count, bits, reply, limit) };
+    let Followed { kind, strobe, count, bits } =
+        unsafe { wire_follow(ins, strobe, count, bits, reply, limit) };
     let [kind, strobe, count, bits] = [kind, strobe, count, bits].map(|number| number as usize);
     Moved { kind, strobe, count, bits }
 }

@@ -52,7 +52,7 @@ impl Writer<'_> {
             let given = self.operand(of)?;
             let fits = matches!(&want, Type::Array { length, of } if length == count && &**of == given.of());
             ensure!(fits && matches!(given, Given::Constant(..)), "a repeated {:?} as {want:?}", given.of());
-            let name = target.member("at").value();
+            let name = target.elements();
             self.say(format!("for (uint32_t i = 0; i < UINT32_C({count}); i++) {{"));
             self.say(format!("    {name}[i] = {};", given.text()));
             self.say("}");
@@ -66,6 +66,7 @@ impl Writer<'_> {
             lines.iter().for_each(|line| self.say(line));
             return Ok(());
         }
+        ensure!(!target.bare, "an array of the header's that is made of what a pointer points to");
         self.say(format!("{} = {text};", target.value()));
         Ok(())
     }
@@ -82,19 +83,26 @@ impl Writer<'_> {
     ) -> Result<Option<Vec<String>>> {
         let is_array = matches!(want, Type::Array { .. });
         let parts = match value {
-            Value::Use(from) if self.types.has_members(want)? => {
+            Value::Use(from) if is_array || self.types.has_members(want)? => {
                 return self.copied(target, &self.operand(from)?).map(Some)
             }
             Value::Aggregate(parts) if is_array || self.types.has_members(want)? => parts,
             _ => return Ok(None),
         };
         // C makes a whole value first: assigned one by one, none of its parts may stand where it goes.
-        let inside = parts.iter().any(|part| matches!(part, Operand::Copy(place) if place.local == to.local));
-        if inside || self.uses.is_addressed(to.local) || target.pointer {
+        // Elements of an array are reached by a pointer alone, so another member of its struct may be among
+        // them.
+        let stands_there = |part: &Operand| match part {
+            Operand::Copy(place) if target.bare => place.steps.iter().any(|s| matches!(s, Step::Deref(_))),
+            Operand::Copy(place) => place.local == to.local,
+            _ => false,
+        };
+        let lent = !target.bare && self.uses.is_addressed(to.local);
+        if parts.iter().any(stands_there) || lent || target.pointer {
             return Ok(None);
         }
         if is_array {
-            let at = target.member("at").value();
+            let at = target.elements();
             let elements = self.elements(parts, want)?;
             let line = |(k, given): (usize, &Given)| format!("{at}[{k}] = {};", given.text());
             return Ok(Some(elements.iter().enumerate().map(line).collect()));
@@ -102,7 +110,7 @@ impl Writer<'_> {
         let (named, left) = self.parts(parts, want)?;
         let mut lines = Vec::new();
         for (name, given) in &named {
-            lines.extend(self.copied(&target.member(name), given)?);
+            lines.extend(self.copied(&self.member(target, want, name, given.of()), given)?);
         }
         for (name, of) in &left {
             lines.extend(self.cleared(&target.member(name), of)?);
@@ -127,6 +135,10 @@ impl Writer<'_> {
                     |leaf: &str| format!("{} = {};", target.member(leaf).value(), from.member(leaf).value());
                 Ok(self.types.leaves(of)?.iter().map(|(leaf, _)| line(leaf)).collect())
             }
+            Given::Place(from, Type::Array { length, .. }) if target.bare || from.bare => {
+                let (to, from) = (target.elements(), from.elements());
+                Ok((0..*length).map(|k| format!("{to}[{k}] = {from}[{k}];")).collect())
+            }
             _ => Ok(vec![format!("{} = {};", target.value(), given.text())]),
         }
     }
@@ -149,7 +161,7 @@ impl Writer<'_> {
                         format!("&{}", spot.text)
                     }
                 }
-                _ => given.text(),
+                _ => self.whole(given)?,
             });
         }
         let (target, want) = self.place(to)?;

@@ -38,13 +38,20 @@ impl Declaration {
     }
 }
 
+/// A member of a struct: its type, its name, and how many elements an array has.
+struct Member {
+    of: String,
+    name: String,
+    length: Option<u64>,
+}
+
 pub struct Header {
     pub file: String,
     /// Every word of it and of the headers that it includes.
     pub words: Vec<String>,
     /// The names that it defines for the preprocessor: numbers, and the mark of the header.
     macros: Vec<String>,
-    structs: HashMap<String, Vec<(String, String)>>,
+    structs: HashMap<String, Vec<Member>>,
     functions: Vec<Declaration>,
 }
 
@@ -181,8 +188,7 @@ impl Header {
                         if of == "}" {
                             break;
                         }
-                        fields.push((of, tokens.name()?));
-                        tokens.expect(";")?;
+                        fields.push(member(of, &mut tokens)?);
                     }
                     let name = tokens.name()?;
                     tokens.expect(";")?;
@@ -221,10 +227,21 @@ impl Header {
             refuse!("{symbol} is no struct")
         };
         ensure!(fields.len() == inner.len(), "{c} has {} fields, {symbol} has {}", fields.len(), inner.len());
-        for ((c, _), of) in fields.iter().zip(&inner) {
-            self.ensure_same(types, of, c)?;
+        for (member, of) in fields.iter().zip(&inner) {
+            match (of, member.length) {
+                (Type::Array { length, of }, Some(found)) => {
+                    ensure!(
+                        found == *length,
+                        "{} of {c} has {found} elements, the MIR {length}",
+                        member.name
+                    );
+                    self.ensure_same(types, of, &member.of)?;
+                }
+                (_, None) => self.ensure_same(types, of, &member.of)?,
+                _ => refuse!("{} of {c} is an array, the MIR has {of:?}", member.name),
+            }
         }
-        let fields = fields.iter().map(|(_, name)| name.clone()).collect();
+        let fields = fields.iter().map(|member| member.name.clone()).collect();
         types.name_face(symbol, Face { name: c.to_string(), fields })
     }
 
@@ -275,6 +292,20 @@ impl Header {
         }
         Ok(text)
     }
+}
+
+/// A member of a struct after its type: `name;`, or `name[number];` for an array.
+fn member(of: String, tokens: &mut Tokens) -> Result<Member> {
+    let name = tokens.name()?;
+    let length = match tokens.next()?.as_str() {
+        ";" => return Ok(Member { of, name, length: None }),
+        "[" => tokens.next()?,
+        other => refuse!("the header has {other} after the member {name}"),
+    };
+    let Ok(length) = length.parse() else { refuse!("{name} has {length} elements") };
+    tokens.expect("]")?;
+    tokens.expect(";")?;
+    Ok(Member { of, name, length: Some(length) })
 }
 
 /// An enum without a name: `NAME = number` each, decimal or hexadecimal, a comma between them.

@@ -75,7 +75,7 @@ const EDITS: [Edit; 16] = [
 const HEADER_EDITS: [Edit; 11] = [
     ("uint8_t byte;", "uint16_t byte;", "the header has uint16_t"),
     ("uint8_t byte;", "uint8_t byte; uint8_t more;", "3 fields"),
-    ("uint8_t byte;", "uint8_t byte[2];", "["),
+    ("uint8_t byte;", "uint8_t byte[2];", "byte of toy_answer is an array"),
     ("const uint8_t *list", "uint8_t *list", "not lent as the MIR has it"),
     ("size_t list_len, ", "", "the length of list"),
     ("size_t place", "uint32_t place", "the header has uint32_t"),
@@ -84,6 +84,60 @@ const HEADER_EDITS: [Edit; 11] = [
     ("#define TOY_LIMIT 3", "#define uint8_t uint16_t", "by uint16_t"),
     ("enum {", "union {", "where a name is wanted"),
     ("toy_answer toy_at", "extern toy_answer toy_at", "where ( is wanted"),
+];
+
+/// `toy_put(settings, place, value)` gives the settings' pairs with a value written into their array, if
+/// there is such a place, and else with the array replaced by three others and the value.
+const ARRAYS: &str = r#"program
+(lcons (fn-def "toy::toy_put" (fnItem 0 lnil 3
+  (lcons (local (tyNamed (pair "toy::Pairs" lnil)) valueLocal)
+  (lcons (local (tyNamed (pair "toy::Settings" lnil)) valueLocal)
+  (lcons (local (tyInt 64) valueLocal) (lcons (local (tyInt 8) valueLocal)
+  (lcons (local (tyNamed (pair "toy::Pairs" lnil)) memorySlot) (lcons (local tyBool valueLocal)
+  (lcons (local tyPtr valueLocal) (lcons (local tyPtr valueLocal)
+  (lcons (local (tyArray (tyInt 8) (lenLit 4)) valueLocal) lnil)))))))))
+  (seq (assign (place 4 lnil) (rvOpd (copy (place 1 (lcons (field 1) lnil)))))
+  (seq (assign (place 5 lnil) (op2 (lt unsigned) (copy (place 2 lnil)) (int 64 4)))
+  (seq (if (copy (place 5 lnil))
+    (seq (assign (place 6 lnil) (addrOf (place 4 (lcons (field 1) lnil))))
+    (seq (assign (place 7 lnil) (op2 offset (copy (place 6 lnil)) (copy (place 2 lnil))))
+    (assign (place 7 (lcons (deref (tyInt 8)) lnil)) (rvOpd (copy (place 3 lnil))))))
+    (seq (assign (place 8 lnil) (aggregate (lcons (int 8 1) (lcons (int 8 2) (lcons (int 8 3)
+      (lcons (copy (place 3 lnil)) lnil))))))
+    (assign (place 4 lnil) (aggregate (lcons (copy (place 1 (lcons (field 0) lnil)))
+      (lcons (copy (place 8 lnil)) lnil))))))
+  (seq (assign (place 0 lnil) (rvOpd (copy (place 4 lnil)))) return)))))
+  (lcons (pair "toy::Settings" (fields (tcons (tyInt 8) (tcons (tyNamed (pair "toy::Pairs" lnil)) tnil))))
+  (lcons (pair "toy::Pairs" (fields (tcons (tyInt 8) (tcons (tyArray (tyInt 8) (lenLit 4)) tnil)))) lnil)))
+lnil) (fnRef "rt_empty::main")"#;
+
+const ARRAYS_HEADER: &str = "
+#include <stdint.h>
+typedef struct {
+    uint8_t count;
+    uint8_t values[4];
+} toy_pairs;
+typedef struct {
+    uint8_t id;
+    toy_pairs pairs;
+} toy_settings;
+toy_pairs toy_put(toy_settings settings, size_t place, uint8_t value);
+";
+
+const ARRAYS_EDITS: [Edit; 3] = [
+    ("(deref (tyInt 8))", "(deref (tyInt 16))", "Array { length: 4"),
+    ("(int 8 3)\n", "(int 16 3)\n", "parts [Int(8), Int(8), Int(16), Int(8)]"),
+    ("(tyArray (tyInt 8) (lenLit 4)) valueLocal", "(tyArray (tyInt 8) (lenLit 5)) valueLocal", "parts"),
+];
+
+const ARRAYS_HEADER_EDITS: [Edit; 7] = [
+    ("uint8_t values[4];", "uint8_t values[3];", "values of toy_pairs has 3 elements, the MIR 4"),
+    ("uint8_t values[4];", "uint8_t values;", "the header has uint8_t where the MIR has Array"),
+    ("uint8_t values[4];", "uint16_t values[4];", "the header has uint16_t"),
+    ("uint8_t values[4];", "uint8_t values[4][1];", "where ; is wanted"),
+    ("uint8_t values[4];", "uint8_t values[LENGTH];", "values has LENGTH elements"),
+    ("uint8_t count;", "uint8_t count[1];", "count of toy_pairs is an array"),
+    ("toy_pairs pairs;", "toy_pairs pairs[1];", "pairs of toy_settings is an array"),
 ];
 
 fn translated(mir: &str, header: &str) -> Result<Vec<(String, String)>> {
@@ -110,21 +164,42 @@ fn reason(mir: &str, header: &str) -> String {
     translated(mir, header).err().map_or("nothing".to_string(), |why| why.to_string())
 }
 
-#[test]
-fn every_edit_of_the_mir_is_refused() {
-    for (old, new, why) in EDITS {
-        assert!(MIR.contains(old), "{old}");
-        let told = reason(&MIR.replacen(old, new, 1), HEADER);
+/// Each edit, of the MIR or of the header, is refused for its reason.
+fn refused(mir: &str, header: &str, edits: &[Edit], of_header: bool) {
+    for &(old, new, why) in edits {
+        let text = if of_header { header } else { mir };
+        assert!(text.contains(old), "{old}");
+        let edited = text.replacen(old, new, 1);
+        let told = if of_header { reason(mir, &edited) } else { reason(&edited, header) };
         assert!(told.contains(why), "{old} -> {new}: {told}");
     }
 }
 
 #[test]
+fn every_edit_of_the_mir_is_refused() {
+    refused(MIR, HEADER, &EDITS, false);
+    refused(ARRAYS, ARRAYS_HEADER, &ARRAYS_EDITS, false);
+}
+
+#[test]
 fn every_edit_of_the_header_is_refused() {
-    for (old, new, why) in HEADER_EDITS {
-        assert!(HEADER.contains(old), "{old}");
-        let told = reason(MIR, &HEADER.replacen(old, new, 1));
-        assert!(told.contains(why), "{old} -> {new}: {told}");
+    refused(MIR, HEADER, &HEADER_EDITS, true);
+    refused(ARRAYS, ARRAYS_HEADER, &ARRAYS_HEADER_EDITS, true);
+}
+
+/// The header's arrays are copied element by element, and lent where they lie; none has a struct of its own.
+#[test]
+fn arrays_of_the_header_are_translated() {
+    let made = translated(ARRAYS, ARRAYS_HEADER).expect("it is translated");
+    for line in [
+        "static toy_pairs toy__toy_put(const toy_settings *a1, uint64_t a2, uint8_t a3)",
+        "v4.values[3] = a1->pairs.values[3];",
+        "v6 = v4.values;",
+        "v8.at[3] = a3;",
+        "v4 = (toy_pairs){.count = a1->id, .values = {v8.at[0], v8.at[1], v8.at[2], v8.at[3]}};",
+        "return toy__toy_put(&settings, place, value);",
+    ] {
+        assert!(made[0].1.contains(line), "{line}: {}", made[0].1);
     }
 }
 

@@ -62,6 +62,11 @@ impl Types {
         Ok(())
     }
 
+    /// Whether it is a struct of the header, whose arrays stand in it as they are.
+    pub fn is_face(&self, of: &Type) -> bool {
+        matches!(of, Type::Named(symbol) if self.faces.contains_key(symbol))
+    }
+
     pub fn is_enum(&self, symbol: &str) -> Result<bool> {
         Ok(matches!(self.declared(symbol)?, Declared::Enum(_)))
     }
@@ -139,16 +144,21 @@ impl Types {
         })
     }
 
-    /// What is assigned one by one when the whole is: members of members, each as C names it within the
-    /// whole.
+    /// What is assigned one by one when the whole is: members of members, and elements of the header's
+    /// arrays, each as C names it within the whole.
     pub fn leaves(&self, of: &Type) -> Result<Members<Type>> {
         let mut found = Vec::new();
         for (name, inner) in self.members(of)? {
             if self.has_members(&inner)? {
                 let inner = self.leaves(&inner)?;
                 found.extend(inner.into_iter().map(|(rest, of)| (format!("{name}.{rest}"), of)));
-            } else {
-                found.push((name, inner));
+                continue;
+            }
+            match inner {
+                Type::Array { length, of: element } if self.is_face(of) => {
+                    found.extend((0..length).map(|k| (format!("{name}[{k}]"), (*element).clone())));
+                }
+                _ => found.push((name, inner)),
             }
         }
         Ok(found)
@@ -221,11 +231,13 @@ impl Types {
         }
         open.push(of.clone());
         let members = self.members(of)?;
-        for (_, inner) in &members {
+        for (_, inner) in
+            members.iter().filter(|(_, inner)| !(self.is_face(of) && matches!(inner, Type::Array { .. })))
+        {
             self.define(inner, open, done, lines)?;
         }
         open.pop();
-        if matches!(of, Type::Named(symbol) if self.faces.contains_key(symbol)) {
+        if self.is_face(of) {
             return Ok(());
         }
         let declared =

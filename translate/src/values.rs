@@ -9,16 +9,27 @@ use crate::types::Members;
 pub struct Spot {
     pub text: String,
     pub pointer: bool,
+    /// An array as the header's structs have it: C neither assigns it whole nor hands it over.
+    pub bare: bool,
 }
 
 impl Spot {
     pub fn member(&self, name: &str) -> Spot {
         let text = format!("{}{}{name}", self.text, if self.pointer { "->" } else { "." });
-        Spot { text, pointer: false }
+        Spot { text, pointer: false, bare: false }
     }
 
     pub fn value(&self) -> String {
         format!("{}{}", if self.pointer { "*" } else { "" }, self.text)
+    }
+
+    /// The elements of an array.
+    pub fn elements(&self) -> String {
+        if self.bare {
+            self.text.clone()
+        } else {
+            self.member("at").value()
+        }
     }
 }
 
@@ -43,6 +54,11 @@ impl Given {
     }
 }
 
+/// Each element of an array in C.
+fn one_by_one(from: &Spot, length: u64) -> Vec<String> {
+    (0..length).map(|k| format!("{}[{k}]", from.elements())).collect()
+}
+
 fn pointee(of: &Type) -> Option<&Type> {
     match of {
         Type::Reference { to, .. } => Some(to),
@@ -53,14 +69,17 @@ fn pointee(of: &Type) -> Option<&Type> {
 impl Writer<'_> {
     pub fn place(&self, place: &Place) -> Result<(Spot, Type)> {
         let mut of = self.uses.locals[place.local].clone();
-        let mut spot =
-            Spot { text: self.name(place.local), pointer: self.uses.by_pointer(self.types, place.local)? };
+        let mut spot = Spot {
+            text: self.name(place.local),
+            pointer: self.uses.by_pointer(self.types, place.local)?,
+            bare: false,
+        };
         let mut steps = place.steps.iter();
         while let Some(step) = steps.next() {
             let (next, then) = match (step, &of) {
                 (Step::Deref(to), Type::Reference { to: found, .. }) => {
                     ensure!(to == &**found, "a {found:?} followed as {to:?}");
-                    (Spot { text: spot.value(), pointer: true }, to.clone())
+                    (Spot { text: spot.value(), pointer: true, bare: false }, to.clone())
                 }
                 (Step::Variant(k), Type::Named(symbol)) => {
                     let members = self.types.variant(symbol, *k)?;
@@ -81,13 +100,29 @@ impl Writer<'_> {
                 (Step::Field(k), Type::Named(symbol)) => {
                     let fields = self.types.fields(symbol)?;
                     let Some((name, then)) = fields.get(*k) else { refuse!("field {k} of {symbol}") };
-                    (spot.member(name), then.clone())
+                    (self.member(&spot, &of, name, then), then.clone())
                 }
                 _ => refuse!("the step {step:?} from {of:?}"),
             };
             (spot, of) = (next, then);
         }
         Ok((spot, of))
+    }
+
+    /// A member of a struct, by its name and its type.
+    pub fn member(&self, whole: &Spot, of: &Type, name: &str, part: &Type) -> Spot {
+        let bare = self.types.is_face(of) && matches!(part, Type::Array { .. });
+        Spot { bare, ..whole.member(name) }
+    }
+
+    /// An operand as C hands it over: an array of the header's goes into a struct of its own.
+    pub fn whole(&self, given: &Given) -> Result<String> {
+        match given {
+            Given::Place(from, of @ Type::Array { length, .. }) if from.bare => {
+                Ok(format!("({}){{{{{}}}}}", self.types.c(of)?, one_by_one(from, *length).join(", ")))
+            }
+            _ => Ok(given.text()),
+        }
     }
 
     pub fn operand(&self, operand: &Operand) -> Result<Given> {
@@ -118,7 +153,7 @@ impl Writer<'_> {
                 let given = self.operand(from)?;
                 let pointers = pointee(want).is_some() && pointee(given.of()) == pointee(want);
                 ensure!(given.of() == want || pointers, "a {:?} where a {want:?} goes", given.of());
-                Ok(given.text())
+                self.whole(&given)
             }
             Value::Op(op, a, b) => self.operation(*op, &self.operand(a)?, &self.operand(b)?, want),
             Value::Not(a) => {
@@ -147,7 +182,7 @@ impl Writer<'_> {
     fn address(&self, place: &Place, want: &Type) -> Result<String> {
         let (spot, of) = self.place(place)?;
         match (&of, pointee(want)) {
-            (Type::Array { of, .. }, Some(to)) if **of == *to => Ok(spot.member("at").value()),
+            (Type::Array { of, .. }, Some(to)) if **of == *to => Ok(spot.elements()),
             (Type::Int(_), Some(to)) if of == *to && spot.pointer => Ok(spot.text),
             _ => refuse!("the address of a {of:?} as {want:?}"),
         }
@@ -253,8 +288,16 @@ impl Writer<'_> {
         if !self.types.has_members(want)? {
             return Ok(named[0].1.text());
         }
-        let members: Vec<_> =
-            named.iter().map(|(name, given)| format!(".{name} = {}", given.text())).collect();
+        let mut members = Vec::new();
+        for (name, given) in &named {
+            let text = match given {
+                Given::Place(from, Type::Array { length, .. }) if self.types.is_face(want) => {
+                    format!("{{{}}}", one_by_one(from, *length).join(", "))
+                }
+                _ => self.whole(given)?,
+            };
+            members.push(format!(".{name} = {text}"));
+        }
         Ok(format!("({}){{{}}}", self.types.c(want)?, members.join(", ")))
     }
 }

@@ -1,7 +1,7 @@
 //! Records and states with one number changed. Both faces must answer alike, and a refused call changes
 //! nothing.
 
-use proved::c2::{Advanced, Settings, RECORD_BYTES};
+use proved::c2::{Advanced, Pairs, Settings, RECORD_BYTES};
 use proved::c2_target::{Replied, State};
 
 use crate::harness::face::Face;
@@ -16,7 +16,7 @@ const WANTED: usize = 10_000;
 const EDGES: [u16; 12] = [2, 3, 8, 13, 14, 15, 18, 19, 20, 32, 33, 256];
 
 /// Numbers of two bytes in a record: page size, image offset, act.
-const PAIRS: [usize; 3] = [2, 8, 13];
+const OF_TWO_BYTES: [usize; 3] = [2, 8, 13];
 
 pub struct Damage {
     random: Random,
@@ -47,6 +47,7 @@ impl Lent {
 #[derive(Clone)]
 pub struct Held {
     pub settings: Settings,
+    pub wanted: Pairs,
     pub state: State,
     pub flash: Vec<u8>,
 }
@@ -54,12 +55,12 @@ pub struct Held {
 impl Held {
     fn step<F: Face>(&self, delays: &[u8], step: u8) -> (Replied, Vec<u8>) {
         let mut flash = self.flash.clone();
-        let replied = F::step(self.settings, self.state, &mut flash, delays, step);
+        let replied = F::step(self.settings, self.wanted, self.state, &mut flash, delays, step);
         (replied, flash)
     }
 
     /// The numbers of the state that have one byte.
-    fn bytes(&mut self) -> [&mut u8; 19] {
+    fn bytes(&mut self) -> [&mut u8; 23] {
         let s = &mut self.state;
         [
             &mut s.point,
@@ -73,6 +74,10 @@ impl Held {
             &mut s.address,
             &mut s.on,
             &mut s.keys,
+            &mut s.met1,
+            &mut s.met2,
+            &mut s.met3,
+            &mut s.met4,
             &mut s.command,
             &mut s.write,
             &mut s.page,
@@ -135,7 +140,7 @@ impl Damage {
     pub fn record(&mut self, record: &[u8; RECORD_BYTES], image: &[u8]) -> Result<(), String> {
         let mut record = record.to_vec();
         let at = self.random.below(RECORD_BYTES as u32) as usize;
-        if PAIRS.contains(&at) {
+        if OF_TWO_BYTES.contains(&at) {
             let number = u16::from_le_bytes([record[at], record[at + 1]]);
             record[at..at + 2].copy_from_slice(&self.other(number, image.len()).to_le_bytes());
         } else {
@@ -193,18 +198,18 @@ impl Damage {
 
     /// One number of a state is changed, and then it takes a step on both sides.
     pub fn state(&mut self, mut held: Held, delays: &[u8]) -> Result<(), String> {
-        match self.random.below(24) as usize {
-            at @ 0..19 => {
+        match self.random.below(28) as usize {
+            at @ 0..23 => {
                 let edge = held.settings.page_count as usize;
                 let number = &mut *held.bytes()[at];
                 *number = self.other((*number).into(), edge) as u8;
             }
-            at @ 19..23 => {
+            at @ 23..27 => {
                 // A block that ends just past the flash: its start goes by its length, and its length by its
                 // start.
-                let partner = usize::from(*held.words()[(at - 19) ^ 1]);
+                let partner = usize::from(*held.words()[(at - 23) ^ 1]);
                 let edge = (held.flash.len() + 1).wrapping_sub(partner);
-                let number = &mut *held.words()[at - 19];
+                let number = &mut *held.words()[at - 23];
                 *number = self.other(*number, edge);
             }
             _ => held.state.place = u64::MAX >> self.random.below(64),
@@ -214,14 +219,22 @@ impl Damage {
         self.step(held, delays, step)
     }
 
-    /// Now and then the settings or the length of the flash are wrong.
+    /// Now and then the settings, the wanted pairs or the length of the flash are wrong.
     fn misplaced(&mut self, mut held: Held) -> Held {
+        let (at, register) = (self.random.below(4) as usize, self.random.below(4) as u8);
         match self.random.below(64) {
             0 => held.settings.fpdat = self.random.below(5) as u8,
             1 => held.settings.page_size = self.random.below(1500),
             2 => held.settings.page_count = self.random.below(200),
             3 => held.settings.page_count = self.random.next(),
             4 => held.flash.push(0),
+            5 => held.settings.wait_limit = self.random.below(4) as u8,
+            6 => held.settings.pairs.count = self.random.below(7) as u8,
+            7 => held.settings.pairs.registers[at] = register,
+            8 => held.settings.pairs.registers[at] = held.settings.fpdat,
+            9 => held.wanted.count = self.random.below(7) as u8,
+            10 => held.wanted.registers[at] = register,
+            11 => held.wanted.registers[at] = held.settings.fpdat,
             _ => {}
         }
         held
@@ -230,16 +243,17 @@ impl Damage {
     fn step(&mut self, held: Held, delays: &[u8], step: u8) -> Result<(), String> {
         let (plain, plain_flash) = held.step::<Plain>(delays, step);
         let (ours, our_flash) = held.step::<Library>(delays, step);
-        let Held { settings, state, flash } = &held;
+        let Held { settings, wanted, state, flash } = &held;
+        let inputs = || format!("{settings:?}, wanted {wanted:?}, {state:?}, step {step}");
         if plain != ours {
-            return Err(format!("{settings:?}, {state:?}, step {step}: plain {plain:?}, ours {ours:?}"));
+            return Err(format!("{}: plain {plain:?}, ours {ours:?}", inputs()));
         }
         if plain_flash != our_flash {
-            return Err(format!("{settings:?}, {state:?}, step {step}: the flash differs"));
+            return Err(format!("{}: the flash differs", inputs()));
         }
         let refused = ours.number != 0;
         if refused && (our_flash != *flash || ours.target != *state || ours.reply != 1) {
-            return Err(format!("{settings:?}, {state:?}, step {step}: refused, but something has changed"));
+            return Err(format!("{}: refused, but something has changed", inputs()));
         }
         self.count(refused);
         Ok(())

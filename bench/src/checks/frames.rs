@@ -1,6 +1,6 @@
 //! Targets given frames that no session sends, and stray steps: all sides must reply alike.
 
-use proved::c2::Settings;
+use proved::c2::{Pairs, Settings};
 use proved::c2_target::State;
 
 use crate::checks::damage::{Damage, Held};
@@ -8,7 +8,7 @@ use crate::harness::face::Face;
 use crate::harness::job::Random;
 use crate::harness::ours::Library;
 use crate::plain::target;
-use crate::plain::wire::{command, ins, Ranges, FPCTL, KEYS};
+use crate::plain::wire::{command, ins, named, Ranges, FPCTL, KEYS};
 use crate::plain::Plain;
 
 const TARGETS: u64 = 20;
@@ -34,6 +34,7 @@ struct Trio<'a> {
     random: Random,
     damage: &'a mut Damage,
     settings: Settings,
+    wanted: Pairs,
     delays: Vec<u8>,
     kept: target::Target,
     state: State,
@@ -45,18 +46,23 @@ struct Trio<'a> {
 impl Trio<'_> {
     fn new(seed: u64, damage: &mut Damage) -> Trio<'_> {
         let mut random = Random::new(seed);
+        let fpdat = 3 + random.below(253) as u8;
         let settings = Settings {
             device_id: 0x04,
-            fpdat: 3 + random.below(253) as u8,
+            fpdat,
             page_size: 512 << random.below(2),
             page_count: 1 + random.below(4),
+            wait_limit: random.wait_limit(),
+            pairs: random.pairs(fpdat),
         };
+        let wanted = random.pairs(fpdat);
         let flash: Vec<u8> = (0..settings.flash_len()).map(|_| random.next() as u8).collect();
         Trio {
             damage,
             settings,
+            wanted,
             delays: (0..random.below(4)).map(|_| random.below(30) as u8).collect(),
-            kept: target::Target::fresh(settings).expect("the settings are in range"),
+            kept: target::Target::fresh(settings, wanted).expect("the settings are in range"),
             state: Library::fresh(),
             kept_flash: flash.clone(),
             plain_flash: flash.clone(),
@@ -93,7 +99,8 @@ impl Trio<'_> {
     }
 
     fn address(&mut self) -> u8 {
-        [0, FPCTL, self.settings.fpdat, self.settings.fpdat][self.random.below(4) as usize]
+        let register = self.wanted.registers[self.random.below(4) as usize];
+        [0, FPCTL, register, self.settings.fpdat, self.settings.fpdat][self.random.below(5) as usize]
     }
 
     fn byte(&mut self) -> u8 {
@@ -118,7 +125,19 @@ impl Trio<'_> {
             self.address_read()?;
         }
         self.step(5)?;
+        if self.random.below(4) > 0 {
+            self.prepare()?;
+        }
         self.address_write(self.settings.fpdat)
+    }
+
+    /// Writes what the device wants.
+    fn prepare(&mut self) -> Result<(), String> {
+        let pairs: Vec<_> = named(&self.wanted).collect();
+        pairs.into_iter().try_for_each(|(register, value)| {
+            self.address_write(register)?;
+            self.data_write(value)
+        })
     }
 
     fn address_write(&mut self, address: u8) -> Result<(), String> {
@@ -170,13 +189,16 @@ impl Trio<'_> {
     /// The step on all sides; seldom a stray one in its place, which may be no step at all.
     fn step(&mut self, step: u8) -> Result<u8, String> {
         if self.random.below(DAMAGED) == 0 {
-            let Trio { settings, state, .. } = *self;
-            self.damage.state(Held { settings, state, flash: self.our_flash.clone() }, &self.delays)?;
+            let Trio { settings, wanted, state, .. } = *self;
+            let held = Held { settings, wanted, state, flash: self.our_flash.clone() };
+            self.damage.state(held, &self.delays)?;
         }
         let step = if self.random.below(1000) == 0 { self.random.below(9) as u8 } else { step };
         let kept = self.kept.step(step, &mut self.kept_flash, &self.delays);
-        let plain = Plain::step(self.settings, self.state, &mut self.plain_flash, &self.delays, step);
-        let ours = Library::step(self.settings, self.state, &mut self.our_flash, &self.delays, step);
+        let plain =
+            Plain::step(self.settings, self.wanted, self.state, &mut self.plain_flash, &self.delays, step);
+        let ours =
+            Library::step(self.settings, self.wanted, self.state, &mut self.our_flash, &self.delays, step);
         let kept = kept.map_or_else(|refusal| (refusal.into(), 1), |reply| (0, reply.into()));
         if plain != ours || kept != (ours.number, ours.reply) {
             return Err(format!("step {step}: kept {kept:?}, plain {plain:?}, ours {ours:?}"));

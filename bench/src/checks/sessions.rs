@@ -1,12 +1,13 @@
 //! All sides must do the same job before their times mean anything.
 
-use proved::c2::Settings;
+use proved::c2::{Pairs, Settings};
 use proved::c2_run::Run;
 
 use crate::checks::damage::Damage;
 use crate::harness::job::{Job, Random, Recording, Wired, OFF};
 use crate::harness::ours::Library;
 use crate::harness::sides::{Kept, Side};
+use crate::plain::wire::named;
 use crate::plain::Plain;
 
 /// Every side on the same job, in lock-step.
@@ -141,20 +142,33 @@ fn troubled_session(seed: u64, damage: &mut Damage) -> Result<u32, String> {
 fn small_job(random: &mut Random) -> Job {
     let page_size = 512 << random.below(2);
     let page_count = 1 + random.below(3);
+    let fpdat = 3 + random.below(253) as u8;
     let settings = Settings {
         device_id: random.next() as u8,
-        fpdat: 3 + random.below(253) as u8,
+        fpdat,
         page_size,
         page_count,
+        wait_limit: random.wait_limit(),
+        pairs: random.pairs(fpdat),
     };
     let pages = 1 + random.below(page_count.min(2));
     let longest = [1, 3, 20, 40][random.below(4) as usize];
     Job {
         settings,
+        wanted: if random.below(8) == 0 { random.pairs(fpdat) } else { last_pair(&settings.pairs) },
         first_page: random.below(page_count - pages + 1),
         image: (0..pages * page_size).map(|_| random.next() as u8).collect(),
         delays: (0..random.below(9)).map(|_| random.below(longest) as u8).collect(),
     }
+}
+
+/// The last pair alone, which a session leaves in its register; none of none.
+fn last_pair(pairs: &Pairs) -> Pairs {
+    named(pairs).last().map_or(Pairs::NONE, |(register, value)| Pairs {
+        count: 1,
+        registers: [register; 4],
+        values: [value; 4],
+    })
 }
 
 /// What a bad line does to the replies from some turn on.

@@ -3,7 +3,7 @@
 use std::marker::PhantomData;
 use std::slice;
 
-use proved::c2::{Advanced, Opened, Settings, RECORD_BYTES};
+use proved::c2::{Advanced, Opened, Pairs, Settings, RECORD_BYTES};
 use proved::c2_target::{Replied, State};
 
 use crate::harness::job::Job;
@@ -15,7 +15,14 @@ pub trait Face {
     fn open(record: &mut [u8], image: &[u8], settings: Settings, first_page: u32) -> Opened;
     fn advance(record: &mut [u8], image: &[u8], replies: &[u8], steps: &mut [u8], place: usize) -> Advanced;
     fn fresh() -> State;
-    fn step(settings: Settings, state: State, flash: &mut [u8], delays: &[u8], step: u8) -> Replied;
+    fn step(
+        settings: Settings,
+        wanted: Pairs,
+        state: State,
+        flash: &mut [u8],
+        delays: &[u8],
+        step: u8,
+    ) -> Replied;
 }
 
 #[cold]
@@ -74,18 +81,19 @@ impl<F: Face> sides::Session for Session<F> {
 /// A target whose state is handed in and back by value at each step.
 pub struct Target<F> {
     settings: Settings,
+    wanted: Pairs,
     pub state: State,
     face: PhantomData<F>,
 }
 
 impl<F: Face> sides::Target for Target<F> {
-    fn fresh(settings: Settings) -> Self {
-        Target { settings, state: F::fresh(), face: PhantomData }
+    fn fresh(job: &Job) -> Self {
+        Target { settings: job.settings, wanted: job.wanted, state: F::fresh(), face: PhantomData }
     }
 
     #[inline]
     fn step(&mut self, step: u8, flash: &mut [u8], delays: &[u8]) -> u8 {
-        let replied = F::step(self.settings, self.state, flash, delays, step);
+        let replied = F::step(self.settings, self.wanted, self.state, flash, delays, step);
         if replied.number != 0 {
             refused(replied.number);
         }

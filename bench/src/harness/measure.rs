@@ -36,11 +36,6 @@ impl Summary {
     pub fn quartiles(&self) -> String {
         format!("{:.2} ({:.2}-{:.2})", self.median, self.lower, self.upper)
     }
-
-    /// Millions of steps a second, where the figures are nanoseconds to a step.
-    pub fn millions(&self) -> f64 {
-        1e3 / self.median
-    }
 }
 
 /// The median; then the least and the quartiles.

@@ -7,3 +7,4 @@ pub mod measure;
 pub mod options;
 pub mod ours;
 pub mod sides;
+pub mod tables;

@@ -1,6 +1,6 @@
 //! The proved library, behind the same face.
 
-use proved::c2::{self, Advanced, Opened, Settings};
+use proved::c2::{self, Advanced, Opened, Pairs, Settings};
 use proved::c2_target::{self, Replied, State};
 
 use crate::harness::face::Face;
@@ -22,7 +22,14 @@ impl Face for Library {
     }
 
     #[inline]
-    fn step(settings: Settings, state: State, flash: &mut [u8], delays: &[u8], step: u8) -> Replied {
-        c2_target::step(settings, state, flash, delays, step)
+    fn step(
+        settings: Settings,
+        wanted: Pairs,
+        state: State,
+        flash: &mut [u8],
+        delays: &[u8],
+        step: u8,
+    ) -> Replied {
+        c2_target::step(settings, wanted, state, flash, delays, step)
     }
 }

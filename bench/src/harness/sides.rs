@@ -1,6 +1,5 @@
 //! The sides behind one trait, so that the same loops run them.
 
-use proved::c2::Settings;
 use proved::c2_run::{self, Run};
 
 use crate::harness::face;
@@ -20,7 +19,7 @@ pub trait Session: Sized {
 
 /// A modelled target.
 pub trait Target {
-    fn fresh(settings: Settings) -> Self;
+    fn fresh(job: &Job) -> Self;
     fn step(&mut self, step: u8, flash: &mut [u8], delays: &[u8]) -> u8;
     fn collision(&self) -> bool;
 }
@@ -37,7 +36,8 @@ impl Side for Library {
     type Target = face::Target<Library>;
 
     #[inline]
-    fn program(Job { settings, first_page, image, delays }: &Job, flash: &mut [u8], budget: usize) -> Run {
+    fn program(job: &Job, flash: &mut [u8], budget: usize) -> Run {
+        let Job { settings, first_page, image, delays, .. } = job;
         c2_run::program(*settings, *first_page, image, flash, delays, budget)
     }
 }
@@ -47,7 +47,8 @@ impl Side for Plain {
     type Target = face::Target<Plain>;
 
     #[inline]
-    fn program(Job { settings, first_page, image, delays }: &Job, flash: &mut [u8], budget: usize) -> Run {
+    fn program(job: &Job, flash: &mut [u8], budget: usize) -> Run {
+        let Job { settings, first_page, image, delays, .. } = job;
         plain::program(*settings, *first_page, image, flash, delays, budget)
     }
 }
@@ -92,8 +93,8 @@ impl Session for session::Session {
 }
 
 impl Target for target::Target {
-    fn fresh(settings: Settings) -> Self {
-        accepted(target::Target::fresh(settings))
+    fn fresh(job: &Job) -> Self {
+        accepted(target::Target::fresh(job.settings, job.wanted))
     }
 
     #[inline]

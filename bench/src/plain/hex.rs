@@ -4,6 +4,8 @@
 use proved::c2::Settings;
 use proved::hex::{HexImage, Written};
 
+use crate::plain::wire::Ranges;
+
 const FLASH_LIMIT: usize = 65_536;
 const RECORD: usize = 16;
 const LINE: usize = 44;
@@ -14,15 +16,7 @@ fn refused(number: u32, line: u64) -> HexImage {
 }
 
 fn settings_refusal(settings: &Settings) -> Option<u32> {
-    if settings.fpdat < 3 {
-        Some(1)
-    } else if settings.page_size != 512 && settings.page_size != 1024 {
-        Some(2)
-    } else if !(1..=FLASH_LIMIT as u32 / settings.page_size).contains(&settings.page_count) {
-        Some(3)
-    } else {
-        None
-    }
+    settings.check().err().map(u32::from)
 }
 
 #[inline]

@@ -7,7 +7,7 @@ pub mod session;
 pub mod target;
 pub mod wire;
 
-use proved::c2::{Advanced, Opened, Settings};
+use proved::c2::{Advanced, Opened, Pairs, Settings};
 use proved::c2_run::Run;
 use proved::c2_target::{Replied, State};
 
@@ -33,12 +33,20 @@ impl Face for Plain {
     }
 
     #[inline]
-    fn step(settings: Settings, state: State, flash: &mut [u8], delays: &[u8], step: u8) -> Replied {
-        target::step(settings, state, flash, delays, step)
+    fn step(
+        settings: Settings,
+        wanted: Pairs,
+        state: State,
+        flash: &mut [u8],
+        delays: &[u8],
+        step: u8,
+    ) -> Replied {
+        target::step(settings, wanted, state, flash, delays, step)
     }
 }
 
-/// A whole run in one call: what is lent is tested once, and nothing is packed between two steps.
+/// A whole run in one call, against a target that wants no pairs: what is lent is tested once, and nothing is
+/// packed between two steps.
 #[inline(never)]
 pub fn program(
     settings: Settings,
@@ -64,7 +72,7 @@ fn ran(
     if flash.len() != settings.flash_len() {
         return Err(Refusal::NoPoint);
     }
-    let mut target = Target::fresh(settings)?;
+    let mut target = Target::fresh(settings, Pairs::NONE)?;
     let mut replies = 0;
     while step != Step::Off && replies < budget {
         let reply = target.reply(step, flash, delays);

@@ -4,7 +4,7 @@ mod face;
 
 pub use face::{advance, open};
 
-use proved::c2::Settings;
+use proved::c2::{Pairs, Settings};
 
 use crate::plain::wire::{command, ins, status, Ranges, Refusal, Step, BLOCK, COMMAND_OK, FPCTL, KEYS};
 
@@ -94,7 +94,7 @@ impl Frame {
         Frame::new(Kind::DataRead, ins::DATA_READ.into(), 4)
     }
 
-    fn advance(&mut self, reply: bool) -> Progress {
+    fn advance(&mut self, reply: bool, wait_limit: u8) -> Progress {
         match self.field {
             Field::Start => self.drive(self.width),
             Field::Driven { left: 0 } => self.release(match self.kind {
@@ -107,7 +107,7 @@ impl Frame {
                 Kind::DataRead => Field::Sampled { left: 8 },
                 _ => Field::Stop,
             }),
-            Field::Wait { zeros } if zeros + 1 == Session::WAIT_LIMIT => Progress::NoAnswer,
+            Field::Wait { zeros } if zeros + 1 == wait_limit => Progress::NoAnswer,
             Field::Wait { zeros } => self.release(Field::Wait { zeros: zeros + 1 }),
             Field::Sampled { left } => {
                 self.value = self.value >> 1 | u8::from(reply) << 7;
@@ -139,6 +139,8 @@ enum Task {
     SelectFpctl,
     Key(usize),
     Pause,
+    SelectRegister(u8),
+    WriteRegister(u8),
     SelectFpdat,
     Put,
     AwaitInput,
@@ -181,7 +183,6 @@ pub struct Session {
 }
 
 impl Session {
-    const WAIT_LIMIT: u8 = 20;
     const POLL_LIMIT: u16 = 256;
 
     /// Opens a session that programs the image from `first_page` on; its first step is a reset.
@@ -264,7 +265,7 @@ impl Session {
         let Some(frame) = &mut self.frame else {
             return self.after_pulse();
         };
-        match frame.advance(reply == 1) {
+        match frame.advance(reply == 1, self.settings.wait_limit) {
             Progress::Next(step) => step,
             Progress::Complete(value) => self.after_frame(value, image),
             Progress::NoAnswer => self.end(Outcome::WaitLimitReached),
@@ -275,7 +276,7 @@ impl Session {
         match self.task {
             Task::FirstReset => self.begin(Task::ReadId, Frame::data_read()),
             Task::SecondReset => self.begin(Task::SelectFpctl, Frame::address_write(FPCTL)),
-            Task::Pause => self.begin_command(Command::Erase),
+            Task::Pause => self.prepare(0),
             _ => self.end(Outcome::Done),
         }
     }
@@ -287,6 +288,11 @@ impl Session {
             Task::SelectFpctl => self.put_key(0),
             Task::Key(index) if index + 1 == KEYS.len() => self.pulse(Task::Pause, Step::Pause),
             Task::Key(index) => self.put_key(index + 1),
+            Task::SelectRegister(number) => {
+                let value = self.settings.pairs.values[usize::from(number)];
+                self.begin(Task::WriteRegister(number), Frame::data_write(value))
+            }
+            Task::WriteRegister(number) => self.prepare(number + 1),
             Task::SelectFpdat => self.begin_entry(image),
             Task::Put => self.poll(Task::AwaitInput),
             Task::AwaitInput if value & status::IN_BUSY == 0 => self.next_entry(image),
@@ -318,6 +324,15 @@ impl Session {
 
     fn put_key(&mut self, index: usize) -> Step {
         self.begin(Task::Key(index), Frame::data_write(KEYS[index]))
+    }
+
+    /// The pairs from this number on, and then the first page.
+    fn prepare(&mut self, number: u8) -> Step {
+        let Pairs { count, registers, .. } = self.settings.pairs;
+        if number == count {
+            return self.begin_command(Command::Erase);
+        }
+        self.begin(Task::SelectRegister(number), Frame::address_write(registers[usize::from(number)]))
     }
 
     fn poll(&mut self, task: Task) -> Step {

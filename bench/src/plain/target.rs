@@ -4,9 +4,11 @@ mod face;
 
 pub use face::step;
 
-use proved::c2::Settings;
+use proved::c2::{Pairs, Settings};
 
-use crate::plain::wire::{command, ins, status, Ranges, Refusal, Step, BLOCK, COMMAND_OK, FPCTL, KEYS};
+use crate::plain::wire::{
+    check_pairs, command, ins, named, status, Ranges, Refusal, Step, BLOCK, COMMAND_OK, FPCTL, KEYS,
+};
 
 /// Bits heard of a field, lowest first.
 #[derive(Clone, Copy, Default)]
@@ -94,10 +96,13 @@ enum Output {
 #[derive(Clone)]
 pub struct Target {
     settings: Settings,
+    wanted: Pairs,
     address: u8,
     interface_on: bool,
     collision: bool,
     keys: usize,
+    /// Of each wanted pair, whether its value was the last one written to its register since the reset.
+    met: [bool; 4],
     delay_place: usize,
     field: Field,
     command: Command,
@@ -107,14 +112,17 @@ pub struct Target {
 }
 
 impl Target {
-    pub fn fresh(settings: Settings) -> Result<Target, Refusal> {
+    pub fn fresh(settings: Settings, wanted: Pairs) -> Result<Target, Refusal> {
         settings.check()?;
+        check_pairs(&wanted, settings.fpdat)?;
         Ok(Target {
             settings,
+            wanted,
             address: 0,
             interface_on: false,
             collision: false,
             keys: 0,
+            met: [false; 4],
             delay_place: 0,
             field: Field::Start,
             command: Command::New,
@@ -143,7 +151,7 @@ impl Target {
         match step {
             Step::Released | Step::Low | Step::High => return self.strobe(step, flash, delays),
             Step::Reset => self.reset(),
-            Step::Pause => self.interface_on |= self.keys == KEYS.len() && matches!(self.field, Field::Start),
+            Step::Pause => self.interface_on |= self.keys == KEYS.len(),
             Step::Off => {}
         }
         1
@@ -153,6 +161,7 @@ impl Target {
         self.address = 0;
         self.interface_on = false;
         self.keys = 0;
+        self.met = [false; 4];
         self.field = Field::Start;
         self.command = Command::New;
         self.drop_output();
@@ -175,7 +184,7 @@ impl Target {
             Field::Data(heard) => (after_data(heard.and(line)), line),
             Field::LongData { left } => (after_long_data(left - 1), line),
             Field::WaitBegins(rest) => {
-                let zeros = self.next_delay(delays) % 20;
+                let zeros = self.next_delay(delays) % self.settings.wait_limit;
                 self.wait(zeros, rest, flash)
             }
             Field::Wait { zeros, rest } => self.wait(zeros, rest, flash),
@@ -284,8 +293,17 @@ impl Target {
             _ => 0,
         };
         if self.fpdat_selected() {
-            self.put(byte, flash, delays);
+            return self.put(byte, flash, delays);
         }
+        for ((register, value), met) in named(&self.wanted).zip(&mut self.met) {
+            if register == self.address {
+                *met = value == byte;
+            }
+        }
+    }
+
+    fn prepared(&self) -> bool {
+        self.met[..self.wanted.count.into()].iter().all(|&met| met)
     }
 
     fn count_read(&mut self) {
@@ -321,7 +339,7 @@ impl Target {
     /// The command's next byte: what it waits for then, and what it answers.
     fn obey(&self, byte: u8, flash: &mut [u8]) -> (Command, Output) {
         match self.command {
-            Command::New => new_command(byte),
+            Command::New => self.new_command(byte),
             Command::ErasePage if u32::from(byte) < self.settings.page_count => {
                 (Command::EraseConfirm { page: byte }, Output::Status(COMMAND_OK))
             }
@@ -346,6 +364,18 @@ impl Target {
             Command::BytePastEnd { left } => {
                 block_written(Command::BytePastEnd { left: left - 1 }, left - 1, COMMAND_FAILED)
             }
+        }
+    }
+
+    /// What changes flash is turned away until all wanted pairs are met.
+    fn new_command(&self, byte: u8) -> (Command, Output) {
+        match byte {
+            command::PAGE_ERASE if self.prepared() => (Command::ErasePage, Output::Status(COMMAND_OK)),
+            command::BLOCK_WRITE if self.prepared() => {
+                (Command::High(Access::Write), Output::Status(COMMAND_OK))
+            }
+            command::BLOCK_READ => (Command::High(Access::Read), Output::Status(COMMAND_OK)),
+            _ => (Command::New, Output::Status(COMMAND_FAILED)),
         }
     }
 }
@@ -390,15 +420,6 @@ fn after_bit(value: u8, left: u8, effect: Effect) -> Field {
         return Field::Sent { value, left, effect };
     }
     Field::Stop(effect)
-}
-
-fn new_command(byte: u8) -> (Command, Output) {
-    match byte {
-        command::PAGE_ERASE => (Command::ErasePage, Output::Status(COMMAND_OK)),
-        command::BLOCK_WRITE => (Command::High(Access::Write), Output::Status(COMMAND_OK)),
-        command::BLOCK_READ => (Command::High(Access::Read), Output::Status(COMMAND_OK)),
-        _ => (Command::New, Output::Status(COMMAND_FAILED)),
-    }
 }
 
 fn begin_block(access: Access, at: usize, code: u8, flash_len: usize) -> (Command, Output) {

@@ -1,6 +1,6 @@
 //! What the plain session and the plain target share: steps, INS codes, keys, commands, settings.
 
-use proved::c2::Settings;
+use proved::c2::{Pairs, Settings};
 
 /// One step on the wire.
 #[derive(Clone, Copy, PartialEq, Eq, Debug)]
@@ -86,12 +86,28 @@ pub enum Refusal {
     NoRoom = 8,
     NoStep = 16,
     NoPoint = 17,
+    BadWaitLimit = 18,
+    BadPairs = 19,
 }
 
 impl From<Refusal> for u32 {
     fn from(refusal: Refusal) -> u32 {
         refusal as u32
     }
+}
+
+/// The registers of the pairs that are named, each with its value.
+pub fn named(pairs: &Pairs) -> impl Iterator<Item = (u8, u8)> {
+    pairs.registers.into_iter().zip(pairs.values).take(pairs.count.into())
+}
+
+/// What plain Rust asks of pairs, of settings or of a target.
+pub fn check_pairs(pairs: &Pairs, fpdat: u8) -> Result<(), Refusal> {
+    let few = usize::from(pairs.count) <= pairs.registers.len();
+    if few && named(pairs).all(|(register, _)| register >= 3 && register != fpdat) {
+        return Ok(());
+    }
+    Err(Refusal::BadPairs)
 }
 
 /// What plain Rust asks of the settings.
@@ -111,7 +127,10 @@ impl Ranges for Settings {
         if self.page_count == 0 || self.page_count > 65_536 / self.page_size {
             return Err(Refusal::BadPageCount);
         }
-        Ok(())
+        if self.wait_limit == 0 {
+            return Err(Refusal::BadWaitLimit);
+        }
+        check_pairs(&self.pairs, self.fpdat)
     }
 
     fn flash_len(&self) -> usize {

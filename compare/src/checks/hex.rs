@@ -1,12 +1,13 @@
 //! Intel HEX: directed files with the answers that document 02 gives, every place of a line damaged, records
 //! of every shape, damaged files, and the writer.
 
+use crate::harness::c2::pairs::{any_pairs, random_pairs};
 use crate::harness::check::{Check, Run};
 use crate::harness::hex::{read, write};
 use crate::harness::random::Random;
 use crate::harness::report::{expect, expect_bytes, Checked, Failure};
 use crate::second::hex::writer::line;
-use crate::second::settings::Settings;
+use crate::second::settings::{Pairs, Settings};
 
 pub const CHECKS: &[Check] = &[
     Check { name: "hex: files with the answers that the paper gives", run: directed },
@@ -21,7 +22,7 @@ pub const CHECKS: &[Check] = &[
 const END: &str = ":00000001FF\n";
 
 fn settings(page_size: u32, page_count: u32) -> Settings {
-    Settings { device_id: 4, fpdat: 0xB4, page_size, page_count }
+    Settings { device_id: 4, fpdat: 0xB4, page_size, page_count, wait_limit: 20, pairs: Pairs::NONE }
 }
 
 /// The number and the line that a file gets, in a flash of two pages and a buffer of as many.
@@ -208,7 +209,8 @@ fn random_file(random: &mut Random, settings: &Settings) -> String {
 
 fn random_settings(random: &mut Random) -> Settings {
     let size = random.pick(&[512, 512, 1_024]);
-    settings(size, random.between(1, 4) as u32)
+    let settings = settings(size, random.between(1, 4) as u32);
+    Settings { pairs: random_pairs(random, settings.fpdat), ..settings }
 }
 
 fn records(run: &mut Run) -> Checked {
@@ -257,7 +259,9 @@ fn written(run: &mut Run) -> Checked {
         let random = &mut run.random;
         let size = random.pick(&[512, 1_024, 1_024, 511]);
         let count = random.pick(&[0, 1, 2, 4, 64, 65, 128, 129]);
-        let settings = Settings { fpdat: random.pick(&[0xB4, 3, 255, 2]), ..settings(size, count) };
+        let (fpdat, wait_limit) = (random.pick(&[0xB4, 3, 255, 2]), random.pick(&[20, 1, 255, 255, 0]));
+        let pairs = if random.below(2) == 0 { Pairs::NONE } else { any_pairs(random, fpdat) };
+        let settings = Settings { fpdat, wait_limit, pairs, ..settings(size, count) };
         let pages = random.pick(&[0, 1, 1, 2, 3]);
         let first = random.pick(&[0, 1, count.wrapping_sub(1), count, count.wrapping_sub(pages), u32::MAX]);
         let len = (pages * size) as usize + random.pick(&[0, 0, 0, 0, 1, 511]);

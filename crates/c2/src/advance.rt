@@ -3,6 +3,7 @@ ghost use mathlib.Core.Path.{_≡_};
 ghost use mathlib.Core.List.{_++_};
 ghost use Prim.Native.Nat.{_≤_};
 ghost use lib.ListN.{length, drop};
+ghost use Rattle.c2_session.specs.Code.Advance.{with-point};
 ghost use Rattle.c2_outcome.specs.Outcome.{number-of, offset-of};
 ghost use Rattle.exchange.specs.Calls.{call-done};
 ghost use Rattle.c2_calls.specs.Calls.{taking, refused-answer};
@@ -12,9 +13,9 @@ use crate::Ran;
 use c2_calls::Advanced;
 use c2_outcome::is_running;
 use c2_outcome::outcome_of;
-use c2_record::Unpacked;
+use c2_record::Reached;
+use c2_session::Point;
 use c2_session::Session;
-use c2_session::at_point;
 use c2_session::set_off;
 use numbers::BAD_RECORD;
 use numbers::NO_ROOM;
@@ -23,7 +24,7 @@ use numbers::OTHER_IMAGE;
 // Takes replies as long as the session runs, and writes the step that follows each.
 fn run(start: Session, image: &[u8], replies: &[u8], steps: &mut [u8]) -> Ran
     requires { ⌜ length (now replies) ≤ length (now steps) ⌝ }
-    ensures { λ r. ⌜ r .session ≡ ran (now (image .entry)) start (now (replies .entry)) ⌝ }
+    ensures { λ r. ⌜ with-point start (r .point) ≡ ran (now (image .entry)) start (now (replies .entry)) ⌝ }
     ensures { λ r. ⌜ r .taken ≡ length (wrote (now (image .entry)) start (now (replies .entry))) ⌝ }
     ensures { λ r. ⌜ now (steps .exit) ≡ wrote (now (image .entry)) start (now (replies .entry)) ++ drop (r .taken) (now (steps .entry)) ⌝ }
 {
@@ -34,7 +35,7 @@ fn run(start: Session, image: &[u8], replies: &[u8], steps: &mut [u8]) -> Ran
         let point = r.point;
         if !is_running(point) {
             return Ran {
-                session: at_point(start, point),
+                point: point,
                 taken: i,
             };
         }
@@ -44,7 +45,7 @@ fn run(start: Session, image: &[u8], replies: &[u8], steps: &mut [u8]) -> Ran
     }
     let end = r.point;
     Ran {
-        session: at_point(start, end),
+        point: end,
         taken: i,
     }
 }
@@ -59,10 +60,9 @@ fn refused(number: u32) -> Advanced
     }
 }
 
-fn answer(s: Session, taken: usize) -> Advanced
-    ensures { λ r. ⌜ (r .number ≡ number-of (s .point)) × (r .offset ≡ offset-of (s .point)) × (r .taken ≡ taken) ⌝ }
+fn answer(point: Point, taken: usize) -> Advanced
+    ensures { λ r. ⌜ (r .number ≡ number-of point) × (r .offset ≡ offset-of point) × (r .taken ≡ taken) ⌝ }
 {
-    let point = s.point;
     let outcome = outcome_of(point);
     Advanced {
         number: outcome.number,
@@ -85,9 +85,10 @@ pub extern "C" fn c2_advance(
     ensures { λ _. ⌜ now (steps .exit) ≡ call-done C2 (taking (now (held .entry)) (now (image .entry)) (now (replies .entry)) (now (steps .entry)) place) .steps ⌝ }
     ensures { λ _. ⌜ now (held .exit) ≡ call-done C2 (taking (now (held .entry)) (now (image .entry)) (now (replies .entry)) (now (steps .entry)) place) .held ⌝ }
 {
-    let Unpacked::Held(s) = c2_record::unpack(held) else {
+    let Reached::At(point) = c2_record::point(held) else {
         return refused(BAD_RECORD);
     };
+    let s = c2_record::session(held, point);
     let t = s.settings;
     if image.len() != settings::image_bytes(t.size, s.pages) {
         return refused(OTHER_IMAGE);
@@ -99,8 +100,7 @@ pub extern "C" fn c2_advance(
         return refused(NO_ROOM);
     }
     let ran = run(s, image, replies, &mut steps[place..]);
-    let after = ran.session;
-    let again = c2_record::pack(after);
-    bytes::copy(&again, held);
-    answer(after, ran.taken)
+    let reached = ran.point;
+    c2_record::put_point(reached, held);
+    answer(reached, ran.taken)
 }

@@ -1,6 +1,6 @@
 // The calls in C. The driver's three: a session is opened, takes replies, and tells how much is left; nothing
 // is kept between them but the record. The modelled target's two: its state is handed in and back.
-use c2_session::Session;
+use c2_session::Point;
 
 mod advance;
 mod left;
@@ -14,6 +14,6 @@ pub use target::c2_target_fresh;
 pub use target::c2_target_step;
 
 struct Ran {
-    session: Session,
+    point: Point,
     taken: usize,
 }

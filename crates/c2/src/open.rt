@@ -16,8 +16,8 @@ const FIRST_STEP: u32 = RESET as u32;
 
 const NO_STEP: u32 = OFF as u32;
 
-// Opens a session for the image's pages, from the first page on. A record that is not 32 bytes is tested
-// first, then 1 to 5, in this order; a refused opening changes no byte.
+// Opens a session for the image's pages, from the first page on. The record's length is tested first (6), then
+// 1, 2, 3, 18, 19, 4 and 5, in this order; a refused opening changes no byte.
 #[no_mangle]
 pub extern "C" fn c2_open(held: &mut [u8], image: &[u8], t: Settings, first: u32) -> Opened
     ensures { λ r. ⌜ r ≡ call-done C2 (opening (now (held .entry)) (now (image .entry)) t first) .answer ⌝ }

@@ -5,6 +5,7 @@ ghost use Rattle.c2_target_state.specs.State.{state-of};
 ghost use Rattle.c2_target_state.specs.Model.{model-answer, model-flash};
 use c2_target_state::ModelReplied;
 use c2_target_state::State;
+use settings::Pairs;
 use settings::Settings;
 
 // The state of a fresh modelled target: all of its numbers are 0.
@@ -29,6 +30,10 @@ pub extern "C" fn c2_target_fresh() -> State
         address: 0,
         on: 0,
         keys: 0,
+        met1: 0,
+        met2: 0,
+        met3: 0,
+        met4: 0,
         command: 0,
         write: 0,
         page: 0,
@@ -40,17 +45,19 @@ pub extern "C" fn c2_target_fresh() -> State
     }
 }
 
-// One step of the modelled target whose state this is: the answer, and the flash afterwards.
+// One step of the modelled target whose state this is, and whose device wants these pairs: the answer, and
+// the flash afterwards.
 #[no_mangle]
 pub extern "C" fn c2_target_step(
     t: Settings,
+    wanted: Pairs,
     state: State,
     flash: &mut [u8],
     delays: &[u8],
     step: u8,
 ) -> ModelReplied
-    ensures { λ r. ⌜ r ≡ model-answer t state (now (flash .entry)) (now (delays .entry)) step ⌝ }
-    ensures { λ _. ⌜ now (flash .exit) ≡ model-flash t state (now (flash .entry)) (now (delays .entry)) step ⌝ }
+    ensures { λ r. ⌜ r ≡ model-answer t wanted state (now (flash .entry)) (now (delays .entry)) step ⌝ }
+    ensures { λ _. ⌜ now (flash .exit) ≡ model-flash t wanted state (now (flash .entry)) (now (delays .entry)) step ⌝ }
 {
-    c2_target_state::step(t, state, flash, delays, step)
+    c2_target_state::step(t, wanted, state, flash, delays, step)
 }

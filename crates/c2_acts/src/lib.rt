@@ -1,56 +1,62 @@
 // The acts of the order by their numbers: what an act of a stage does, and how many acts a stage has.
 ghost use mathlib.Core.Path.{_≡_};
-ghost use Rattle.c2_acts.specs.Code.Acts.{lead-task, put-task, erase-task, write-task, read-task, task-of, acts-in};
+ghost use Rattle.c2_acts.specs.Code.Acts.{lead-task, put-task, erase-task, write-task, read-task, register-task, task-of, acts-in};
 
-// How many acts the stages have: of a page in Erase, of a block in Write and Read.
-pub const LEAD_ACTS: u16 = 8;
+// How many acts the stages have: of a page in Erase, of a block in Write and Read, of a pair in Register.
+pub const LEAD_ACTS: u32 = 8;
 
-pub const ERASE_ACTS: u16 = 13;
+pub const ERASE_ACTS: u32 = 13;
 
-pub const BLOCK_ACTS: u16 = 525;
+pub const BLOCK_ACTS: u32 = 525;
 
-pub const CLOSE_ACTS: u16 = 1;
+pub const CLOSE_ACTS: u32 = 1;
+
+pub const REGISTER_ACTS: u32 = 2;
 
 // Acts of the lead: the Address Write of FPCTL, the three key writes, and the pause after them.
-pub const LEAD_ADDRESS: u16 = 3;
+pub const LEAD_ADDRESS: u32 = 3;
 
-pub const FIRST_KEY: u16 = 4;
+pub const FIRST_KEY: u32 = 4;
 
-pub const SECOND_KEY: u16 = 5;
+pub const SECOND_KEY: u32 = 5;
 
-pub const LEAD_PAUSE: u16 = 7;
+pub const LEAD_PAUSE: u32 = 7;
+
+// The first act of a pair: the Address Write of its register.
+pub const PAIR_ADDRESS: u32 = 0;
 
 // Acts of every command: the Address Write of FPDAT, the put of the command byte, the poll and the read of
 // its status, and the put of what comes next, a page or the high byte of an address.
-pub const COMMAND_ADDRESS: u16 = 0;
+pub const COMMAND_ADDRESS: u32 = 0;
 
-pub const COMMAND_BYTE: u16 = 1;
+pub const COMMAND_BYTE: u32 = 1;
 
-pub const COMMAND_READY: u16 = 3;
+pub const COMMAND_READY: u32 = 3;
 
-pub const COMMAND_STATUS: u16 = 4;
+pub const COMMAND_STATUS: u32 = 4;
 
-pub const COMMAND_PLACE: u16 = 5;
+pub const COMMAND_PLACE: u32 = 5;
 
 // The act after a block's length code: the put of the first byte in a block write, the poll for the status in
 // a block read.
-pub const BLOCK_BODY: u16 = 11;
+pub const BLOCK_BODY: u32 = 11;
 
 // The poll for the status of a block write, the status of a block read, and its first compare.
-pub const WRITE_READY: u16 = 523;
+pub const WRITE_READY: u32 = 523;
 
-pub const READ_STATUS: u16 = 12;
+pub const READ_STATUS: u32 = 12;
 
-pub const FIRST_COMPARE: u16 = 14;
+pub const FIRST_COMPARE: u32 = 14;
 
-// The stages of the order: up to the pause; then for each page its erase, its block writes and its block
-// reads; and the last reset.
+// The stages of the order: up to the pause (Lead); a register written for each pair (Register); then for each page
+// its erase, its block writes and its block reads; and the last reset.
 pub enum Stage {
     Lead,
     Erase,
     Write,
     Read,
     Close,
+    Register,
 }
 
 // What an act does: a step that stands in no frame, a frame that is sent, a poll for InBusy 0 or OutReady 1,
@@ -67,7 +73,7 @@ pub enum Task {
     Compare,
 }
 
-fn lead_task(act: u16) -> Task
+fn lead_task(act: u32) -> Task
     ensures { λ r. ⌜ r ≡ lead-task act ⌝ }
 {
     if act == 0 {
@@ -89,7 +95,7 @@ fn lead_task(act: u16) -> Task
 }
 
 // What an act of a put does: a put is two acts, the byte and then the poll.
-fn put_task(act: u16) -> Task
+fn put_task(act: u32) -> Task
     ensures { λ r. ⌜ r ≡ put-task act ⌝ }
 {
     if act % 2 == 1 {
@@ -98,7 +104,7 @@ fn put_task(act: u16) -> Task
     Task::Input
 }
 
-fn erase_task(act: u16) -> Task
+fn erase_task(act: u32) -> Task
     ensures { λ r. ⌜ r ≡ erase-task act ⌝ }
 {
     if act == COMMAND_ADDRESS {
@@ -116,7 +122,7 @@ fn erase_task(act: u16) -> Task
     Task::Status
 }
 
-fn write_task(act: u16) -> Task
+fn write_task(act: u32) -> Task
     ensures { λ r. ⌜ r ≡ write-task act ⌝ }
 {
     if act == COMMAND_ADDRESS {
@@ -137,7 +143,7 @@ fn write_task(act: u16) -> Task
     Task::Status
 }
 
-fn read_task(act: u16) -> Task
+fn read_task(act: u32) -> Task
     ensures { λ r. ⌜ r ≡ read-task act ⌝ }
 {
     if act == COMMAND_ADDRESS {
@@ -161,8 +167,17 @@ fn read_task(act: u16) -> Task
     Task::Compare
 }
 
+fn register_task(act: u32) -> Task
+    ensures { λ r. ⌜ r ≡ register-task act ⌝ }
+{
+    if act == PAIR_ADDRESS {
+        return Task::Address;
+    }
+    Task::Send
+}
+
 // What the act of a stage does.
-pub fn task_of(stage: Stage, act: u16) -> Task
+pub fn task_of(stage: Stage, act: u32) -> Task
     ensures { λ r. ⌜ r ≡ task-of stage act ⌝ }
 {
     match stage {
@@ -171,11 +186,12 @@ pub fn task_of(stage: Stage, act: u16) -> Task
         Stage::Write => write_task(act),
         Stage::Read => read_task(act),
         Stage::Close => Task::Reset,
+        Stage::Register => register_task(act),
     }
 }
 
-// How many acts a stage has: of a page in Erase, of a block in Write and Read.
-pub fn acts_in(stage: Stage) -> u16
+// How many acts a stage has: of a page in Erase, of a block in Write and Read, of a pair in Register.
+pub fn acts_in(stage: Stage) -> u32
     ensures { λ r. ⌜ r ≡ acts-in stage ⌝ }
 {
     match stage {
@@ -184,5 +200,6 @@ pub fn acts_in(stage: Stage) -> u16
         Stage::Write => BLOCK_ACTS,
         Stage::Read => BLOCK_ACTS,
         Stage::Close => CLOSE_ACTS,
+        Stage::Register => REGISTER_ACTS,
     }
 }

@@ -11,14 +11,12 @@ use Rattle.c2_wire.specs.Step.{reset, off, code}
 use Rattle.c2_wire.specs.Exchange.{Exchange, fed, steps, outcome-of}
 use Rattle.settings.specs.declared.Settings.{Settings}
 use Rattle.settings.specs.Opening.{opening-refusal}
-use Rattle.c2_order.specs.Conversation.{session-limits}
+use Rattle.c2_order.specs.Conversation.{limits-of}
 use Rattle.c2_order.specs.Figure.{figure}
 use Rattle.c2_session.specs.declared.Session.{Session}
 use Rattle.c2_position.specs.Position.{position}
 use Rattle.c2_opening.specs.Opened.{opened-session, image-length, exchange-at, session-fed}
-use Rattle.c2_record.specs.declared.Unpacked.{Unpacked}
-use Rattle.c2_record.specs.declared.Unpacked.the-variants.{Held, Refused}
-use Rattle.c2_record.specs.Record.{packed, unpacked}
+use Rattle.c2_record.specs.Record.{record-bytes, Unpacked, Held, Refused, packed, unpacked}
 use Rattle.c2_calls.specs.declared.Opened.{Opened}
 use Rattle.c2_calls.specs.declared.Advanced.{Advanced}
 use Rattle.c2_calls.specs.declared.Remaining.{Remaining}
@@ -30,9 +28,10 @@ pub data Call : Type 0 where
   taking : (held image replies buffer : List ℕ) → (place : ℕ) → Call
   asking : (held : List ℕ) → Call
 
--- REFUSED. The number by which an opening is refused: a record that is not 32 bytes (6), then 1 to 5.
+-- REFUSED. The number by which an opening is refused: a record of another length (6), then 1, 2, 3, 18, 19, 4
+-- and 5.
 unfoldable pub opening-number : (bytes : ℕ) → Settings → (first length : ℕ) → ℕ
-opening-number bytes t first n = cond (eqb bytes 32) (opening-refusal t first n) bad-record
+opening-number bytes t first n = cond (eqb bytes record-bytes) (opening-refusal t first n) bad-record
 
 -- the number by which a call that takes replies is refused before any of them: 6, 7, 8
 abbrev pub held-number : Unpacked → (image replies buffer place : ℕ) → ℕ
@@ -47,8 +46,8 @@ asked-number Refused = bad-record
 -- the number that the rules give a call before any reply, for what it is lent; with 0 it is accepted
 unfoldable pub refusal : Call → ℕ
 refusal (opening r image t first) = opening-number (length r) t first (length image)
-refusal (taking r image rs buffer place) = held-number (unpacked 20 256 r) (length image) (length rs) (length buffer) place
-refusal (asking r) = asked-number (unpacked 20 256 r)
+refusal (taking r image rs buffer place) = held-number (unpacked r) (length image) (length rs) (length buffer) place
+refusal (asking r) = asked-number (unpacked r)
 
 -- WHAT IS DONE. What an opening answers, and the record afterwards.
 pub record Opening-done : Type 0 where
@@ -103,11 +102,11 @@ blank s = replicate (image-length s) 0
 -- bad record
 abbrev pub remaining-answer : Unpacked → Remaining
 remaining-answer (Held s) =
-    record { number = outcome-of (exchange-at s (blank s)) .number; steps = figure session-limits (position s (blank s)) }
+    record { number = outcome-of (exchange-at s (blank s)) .number; steps = figure (limits-of (s .settings)) (position s (blank s)) }
 remaining-answer Refused = record { number = bad-record; steps = 0 }
 
 -- what an accepted call does: an opening gives its first step, 4, and leaves the new session's record
 unfoldable pub does : (c : Call) → Done c
 does (opening r image t first) = record { answer = record { number = 0; step = code reset }; held = packed (opened-session t first (length image)) }
-does (taking r image rs buffer place) = takes (unpacked 20 256 r) r image rs buffer place
-does (asking r) = remaining-answer (unpacked 20 256 r)
+does (taking r image rs buffer place) = takes (unpacked r) r image rs buffer place
+does (asking r) = remaining-answer (unpacked r)

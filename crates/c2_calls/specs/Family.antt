@@ -7,7 +7,7 @@ use lib.ListN.{length, take, drop}
 use Rattle.exchange.specs.Calls.{Family}
 use Rattle.c2_wire.specs.Exchange.{Outcome, outcome, asks, fed, steps, outcome-of}
 use Rattle.settings.specs.declared.Settings.{Settings}
-use Rattle.c2_order.specs.Conversation.{session-limits}
+use Rattle.c2_order.specs.Conversation.{limits-of}
 use Rattle.c2_order.specs.Figure.{figure}
 use Rattle.c2_order.specs.Claims.{exchange-of, point-after}
 use Rattle.c2_session.specs.declared.Session.{Session}
@@ -29,7 +29,7 @@ pub record Told : Type 0 where
 -- the most steps to come, as a question that is lent this record is told (`Left-as-asked` in
 -- specs/Claims.antt)
 abbrev pub told-left : (held : List ℕ) → ℕ
-told-left r = remaining-answer (unpacked 20 256 r) .steps
+told-left r = remaining-answer (unpacked r) .steps
 
 -- what the driver has after an accepted call: as many steps as were taken stand in the step buffer, from the
 -- place on
@@ -93,12 +93,12 @@ session-after t first image rs = session-fed (opened-session t first (length ima
 -- order fed with them, the session that is reached, and the point of the order
 unfoldable pub by-replies : Settings → (first : ℕ) → (image replies : List ℕ) → Told
 by-replies t first image rs =
-    let e = exchange-of session-limits t first image in
+    let e = exchange-of (limits-of t) t first image in
     record {
       held = packed (session-after t first image rs);
       first-step = asks e;
       steps = steps e rs;
       taken = Exchange.taken e rs;
       outcome = outcome-of (fed e rs);
-      left = figure session-limits (point-after session-limits t first image rs);
+      left = figure (limits-of t) (point-after (limits-of t) t first image rs);
     }

@@ -1,11 +1,10 @@
 -- The laws of the definitions, each in the module of the definition that it is about.
-pub mod Walk
+pub mod Playing
 pub mod Pages
 pub mod Order
 pub mod PageOf
 pub mod Over
 pub mod Cut
-pub mod Claims
 pub mod Again
 pub mod ByReplies
 pub mod Examples

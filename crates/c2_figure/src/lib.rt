@@ -13,12 +13,10 @@ mod left;
 
 pub use left::steps_left;
 
-// The strobes of the frames, and the limits, in the figure's width.
+// The strobes of the frames, and the limit of a poll, in the figure's width.
 const ADDRESS_FRAME: usize = ADDRESS_STROBES as usize;
 
 const DATA_FRAME: usize = DATA_STROBES as usize;
-
-const WAIT_LIMIT: usize = Session::WAIT_LIMIT as usize;
 
 const POLL_LIMIT: usize = Session::POLL_LIMIT as usize;
 
@@ -30,15 +28,7 @@ const READS_WAIT: usize = READ_WAIT as usize;
 // The strobes of a frame with data that are not its WAIT.
 const OTHER_STROBES: usize = DATA_FRAME - 1;
 
-// A byte put or got: a frame with a WAIT, and a poll. A block has 262 of them, an erase 6, each after an
-// Address Write.
-const BYTE: usize = OTHER_STROBES + WAIT_LIMIT + POLL_LIMIT * ADDRESS_FRAME;
-
 // The last acts of an erase and of a block.
-const LAST_OF_ERASE: u16 = ERASE_ACTS - 1;
+const LAST_OF_ERASE: u16 = (ERASE_ACTS - 1) as u16;
 
-const LAST_OF_BLOCK: u16 = BLOCK_ACTS - 1;
-
-const BLOCK: usize = ADDRESS_FRAME + 262 * BYTE;
-
-const ERASE: usize = ADDRESS_FRAME + 6 * BYTE;
+const LAST_OF_BLOCK: u16 = (BLOCK_ACTS - 1) as u16;

@@ -6,4 +6,6 @@ pub mod Figure
 pub mod Order
 pub mod Ends
 pub mod Claims
+pub mod Conversation
+pub mod Wait
 pub mod Paper

@@ -2,25 +2,27 @@
 -- ("How much is left"). Types alone: proofs/Laws/Claims proves each.
 use mathlib.Core.Path.{_≡_}
 use mathlib.Core.Bool.{true}
-use mathlib.Core.List.{List, _++_}
+use mathlib.Core.List.{List, [], _∷_, _++_}
 use mathlib.Core.Logic.{_⊎_}
-use Prim.Native.Nat.{ℕ, _+_, _*_, _/_, _<_, _≤_}
-use lib.ListN.{length}
-use Rattle.numbers.specs.Numbers.{done, bad-reply, compare-differs}
+use Prim.Native.Nat.{ℕ, _+_, _-_, _*_, _/_, _<_, _≤_}
+use lib.ListN.{length, replicate}
+use Rattle.numbers.specs.Numbers.{done, bad-reply, wait-limit-reached, compare-differs}
 use Rattle.laws.specs.Bytes.{Bytes}
 use Rattle.c2_wire.specs.Exchange.{Exchange, Outcome, outcome, fed, steps, taken, own}
 use Rattle.settings.specs.declared.Settings.{Settings}
+use Rattle.settings.specs.Accepted.{In-bytes}
+use Rattle.settings.specs.Registers.{no-pairs}
 use Rattle.settings.specs.Opening.{opening-refusal}
+use Rattle.c2_order.specs.Acts.{Act, expect, data-write}
 use Rattle.c2_order.specs.Order.{session-order}
-use Rattle.c2_order.specs.Conversation.{Limits, Positive, session-limits, conversation}
+use Rattle.c2_order.specs.Conversation.{Limits, Positive, limits-of, conversation}
 use Rattle.c2_order.specs.Point.{Point, ended, Stands, Exists-in, begin, reached, left-to-say}
-use Rattle.c2_order.specs.Figure.{figure}
+use Rattle.c2_order.specs.Figure.{figure, pair-cost, page-cost}
 use Rattle.exchange.specs.Exchange as Shared
 
 -- an opening that is not refused, over bytes
 pub record Opening (s : Settings) (first : ℕ) (image : List ℕ) : Type 0 where
-  pub id : s .id < 256
-  pub fpdat : s .fpdat < 256
+  pub settings : In-bytes s
   pub bytes : Bytes image
   pub accepted : opening-refusal s first (length image) ≡ 0
 
@@ -82,10 +84,38 @@ abbrev pub Figure-bounds : Type 0
 Figure-bounds = (l : Limits) (s : Settings) (first : ℕ) (image : List ℕ) → Positive l → Opening s first image
     → (x : Point) → Exists-in l (session-order s first image) x → (rs : List ℕ) → taken (left-to-say l x) rs ≤ figure l x
 
--- The figure at the start is 152 + k × (18,648 + 2 × B × 813,784) for k pages of B blocks.
+-- The figure at the start, for k pages of B blocks: the lead has two resets, an Address Write, the pause and four
+-- Data frames, then come the pairs, and the end is a reset.
 abbrev pub Figure-starts : Type 0
-Figure-starts = (s : Settings) (first : ℕ) (image : List ℕ) → Opening s first image
-    → figure session-limits (begin (session-order s first image)) ≡ 152 + length image / s .size * (18648 + 2 * (s .size / 256) * 813784)
+Figure-starts = (l : Limits) (s : Settings) (first : ℕ) (image : List ℕ) → Positive l → Opening s first image
+    → figure l (begin (session-order s first image))
+    ≡ 16 + 4 * (14 + l .wait) + s .pairs .count * pair-cost l + length image / s .size * page-cost l (s .size / 256)
+
+-- Document 01's, with its WAIT limit of 20 and no pairs: 152 + k × (18,648 + 2 × B × 813,784).
+abbrev pub Figure-starts-paper : Type 0
+Figure-starts-paper = (s : Settings) (first : ℕ) (image : List ℕ) → s .wait ≡ 20 → s .pairs .count ≡ 0 → Opening s first image
+    → figure (limits-of s) (begin (session-order s first image)) ≡ 152 + length image / s .size * (18648 + 2 * (s .size / 256) * 813784)
+
+-- The WAIT of a Data Write comes after 13 strobes, that of a Data Read after 5. In either as many zeros as the
+-- settings' limit refuse; in a Data Write one fewer, a 1 and the reply to the STOP pass (document 02, d).
+pub record Waits-so (s : Settings) (b x : ℕ) (o : Outcome) (acts : List Act) : Type 0 where
+  pub write-refused : fed (conversation (limits-of s) (data-write b ∷ acts)) (replicate 13 1 ++ replicate (s .wait) 0)
+      ≡ Shared.ended (outcome wait-limit-reached)
+  pub read-refused : fed (conversation (limits-of s) (expect x o ∷ acts)) (replicate 5 1 ++ replicate (s .wait) 0)
+      ≡ Shared.ended (outcome wait-limit-reached)
+  pub write-passed : fed (conversation (limits-of s) (data-write b ∷ acts)) (replicate 13 1 ++ (replicate (s .wait - 1) 0 ++ 1 ∷ 1 ∷ []))
+      ≡ conversation (limits-of s) acts
+
+abbrev pub Wait-limit : Type 0
+Wait-limit = (s : Settings) → 1 ≤ s .wait → (b x : ℕ) (o : Outcome) (acts : List Act) → Waits-so s b x o acts
+
+-- A device with a WAIT limit of 255, no pairs and 64 pages of 1,024 bytes, all of them programmed (document 02, d).
+abbrev pub slow-device : Settings
+slow-device = record { id = 0x04; fpdat = 0xb4; size = 1024; count = 64; wait = 255; pairs = no-pairs }
+
+abbrev pub Figure-slow : Type 0
+Figure-slow = (image : List ℕ) → Bytes image → length image ≡ 65536
+    → figure (limits-of slow-device) (begin (session-order slow-device 0 image)) ≡ 449466052
 
 -- Replies that reach the figure of the start: all of them are taken, and they end the session done.
 pub record Reaching (l : Limits) (s : Settings) (first : ℕ) (image : List ℕ) : Type 0 where

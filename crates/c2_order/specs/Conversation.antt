@@ -8,6 +8,7 @@ use Rattle.numbers.specs.Numbers.{done, poll-limit-reached}
 use Rattle.c2_wire.specs.Exchange.{Exchange, ended, outcome}
 use Rattle.c2_wire.specs.Frames.{frame, framed}
 use Rattle.c2_wire.specs.declared.Frame.the-variants.{AddressRead, DataRead}
+use Rattle.settings.specs.declared.Settings.{Settings}
 use Rattle.c2_order.specs.Acts.{Act, send, poll, expect}
 
 -- The limits of a session: the most strobes of a WAIT, and the most reads of a poll.
@@ -23,9 +24,10 @@ pub record Positive (l : Limits) : Type 0 where
   pub wait : 0 < l .wait
   pub reads : 0 < l .reads
 
--- The limits of document 01: 20 WAIT strobes and 256 poll reads.
-abbrev pub session-limits : Limits
-session-limits = limits 20 256
+-- the limits of a session with these settings: their WAIT limit (document 02, d; 20 in document 01), and 256
+-- poll reads
+abbrev pub limits-of : Settings → Limits
+limits-of t = limits (t .wait) 256
 
 -- a poll of which this many reads are left, and what follows it
 unfoldable pub polling : (wait-limit left : ℕ) → (ℕ → Bool) → Exchange → Exchange

@@ -30,3 +30,19 @@ costs l (a ∷ acts) = cost l a + costs l acts
 unfoldable pub figure : Limits → Point → ℕ
 figure l (ended o) = 0
 figure l (running a acts p) = strobes-left (l .wait) (strobes-of a) p + reads-left l a (p .count) + costs l acts
+
+-- the most steps of a byte put or got: a frame of 14 strobes and a WAIT, and a poll of frames of 12 strobes
+abbrev pub byte-cost : Limits → ℕ
+byte-cost l = 14 + l .wait + l .reads * 12
+
+-- the most steps of a block written or read back: 262 bytes after its Address Write
+abbrev pub block-cost : Limits → ℕ
+block-cost l = 12 + 262 * byte-cost l
+
+-- the most steps of a pair: an Address Write of 12 strobes, and a Data Write
+abbrev pub pair-cost : Limits → ℕ
+pair-cost l = 26 + l .wait
+
+-- the most steps of a page: 6 bytes of its erase after an Address Write, and its blocks written and read back
+abbrev pub page-cost : Limits → (blocks : ℕ) → ℕ
+page-cost l n = 12 + 6 * byte-cost l + 2 * (n * block-cost l)

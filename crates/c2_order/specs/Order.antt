@@ -6,6 +6,7 @@ use lib.ListN.{length, take, drop}
 use Rattle.numbers.specs.Numbers.{other-device}
 use Rattle.c2_wire.specs.Exchange.{outcome}
 use Rattle.settings.specs.declared.Settings.{Settings}
+use Rattle.settings.specs.Registers.{Pair, pairs-of}
 use Rattle.c2_order.specs.Acts.{Act, expect, reset-pulse, pause-20-ms, address-write, data-write, Block, erase, block-write, block-read}
 
 -- a page of the flash that is named, with the part of the image for it and that part's offset
@@ -42,6 +43,14 @@ lead s =
     reset-pulse ∷ expect (s .id) (outcome other-device) ∷ reset-pulse ∷
     address-write 0x02 ∷ data-write 0x02 ∷ data-write 0x04 ∷ data-write 0x01 ∷ pause-20-ms ∷ []
 
+-- the acts of a pair of register and value (document 02, e): no polling
+unfoldable pub pair-acts : Pair → List Act
+pair-acts p = address-write (p .register) ∷ data-write (p .value) ∷ []
+
+-- what prepares a device: the lead, then the pairs in their order
+unfoldable pub preparation : Settings → List Act
+preparation s = lead s ++ joined (map pair-acts (pairs-of (s .pairs)))
+
 -- the acts of a page, 3 of document 01's list: erase it, write its blocks, read them back and compare
 unfoldable pub page-acts : Settings → Page → List Act
 page-acts s p =
@@ -49,10 +58,10 @@ page-acts s p =
     ++ joined (map (block-write (s .fpdat)) (page-blocks s p))
     ++ joined (map (block-read (s .fpdat)) (page-blocks s p))
 
--- the whole order over a list of pages: the lead, each page, and 4 of document 01's list, the reset that ends
--- it
+-- the whole order over a list of pages: the preparation, each page, and 4 of document 01's list, the reset that
+-- ends it
 unfoldable pub order : Settings → List Page → List Act
-order s ps = lead s ++ joined (map (page-acts s) ps) ++ reset-pulse ∷ []
+order s ps = preparation s ++ joined (map (page-acts s) ps) ++ reset-pulse ∷ []
 
 -- the order of a session over an image of whole pages from a first page on
 unfoldable pub session-order : Settings → (first : ℕ) → (image : List ℕ) → List Act

@@ -7,19 +7,25 @@ use Prim.Native.Nat.{ℕ, zero, suc}
 use lib.ListN.{length, replicate}
 use Rattle.laws.specs.Bytes.{Bytes}
 use Rattle.c2_wire.specs.Exchange.{outcome, asks, steps, fed, outcome-of}
+use Rattle.settings.specs.declared.Settings.{Settings}
+use Rattle.settings.specs.Registers.{no-pairs}
 use Rattle.c2_order.specs.Acts.{Act, poll, expect, address-write, data-write, input-taken, output-ready, length-code, coded-length}
 use Rattle.c2_order.specs.Order.{session-order}
-use Rattle.c2_order.specs.Conversation.{session-limits, conversation}
+use Rattle.c2_order.specs.Conversation.{limits-of, conversation}
 use Rattle.c2_order.specs.Point.{begin}
 use Rattle.c2_order.specs.Figure.{figure}
 
+-- a device of 128 pages of 512 bytes, with document 01's WAIT limit
+abbrev pub paper-device : Settings
+paper-device = record { id = 0x04; fpdat = 0xb4; size = 512; count = 128; wait = 20; pairs = no-pairs }
+
 -- the steps of an act, where so many replies are 1; the last step's reply is not given
 unfoldable pub steps-of : Act → (replies : ℕ) → List ℕ
-steps-of a n = asks (conversation session-limits (a ∷ [])) ∷ steps (conversation session-limits (a ∷ [])) (replicate n 1)
+steps-of a n = asks (conversation (limits-of paper-device) (a ∷ [])) ∷ steps (conversation (limits-of paper-device) (a ∷ [])) (replicate n 1)
 
 -- the number after an act's replies: 32 where it passed
 unfoldable pub number-after : Act → (replies : List ℕ) → ℕ
-number-after a rs = outcome-of (fed (conversation session-limits (a ∷ [])) rs) .number
+number-after a rs = outcome-of (fed (conversation (limits-of paper-device) (a ∷ [])) rs) .number
 
 unfoldable pub times : ℕ → List ℕ → List ℕ
 times zero xs = []
@@ -36,9 +42,9 @@ reads-1 = replicate 3 1 ++ 1 ∷ 0 ∷ replicate 6 0 ++ 1 ∷ []
 abbrev pub reads-2 : List ℕ
 reads-2 = replicate 3 1 ++ 0 ∷ 1 ∷ replicate 6 0 ++ 1 ∷ []
 
--- the figure at the start, for a device of 128 pages of 512 bytes
+-- the figure at the start
 unfoldable pub figure-of : (image : List ℕ) → ℕ
-figure-of image = figure session-limits (begin (session-order (record { id = 0x04; fpdat = 0xb4; size = 512; count = 128 }) 0 image))
+figure-of image = figure (limits-of paper-device) (begin (session-order paper-device 0 image))
 
 pub record Row : Type 0 where
   pub given : List ℕ

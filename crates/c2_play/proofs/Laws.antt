@@ -1,7 +1,11 @@
 -- The laws of the definitions, each in the module of the definition that it is about.
-pub mod Frames
+pub mod Playing
 pub mod Onto
 pub mod Leads
+pub mod Frames
+pub mod Covers
+pub mod Named
+pub mod Programmed
 pub mod Interface
 pub mod Commands
 pub mod Pages
@@ -10,10 +14,10 @@ pub mod Refuses
 pub mod Page
 pub mod Lead
 pub mod Run
+pub mod Unprepared
 pub mod Rise
 pub mod WholeStep
 pub mod OwnReplies
-pub mod Playing
-pub mod LeftBy
+pub mod Job
 pub mod Fresh
 pub mod Prompt

@@ -1,4 +1,4 @@
 pub mod Playing
-pub mod Programmed
-pub mod Covers
 pub mod Pages
+pub mod Job
+pub mod Claims

@@ -1,2 +1,2 @@
-// A session played against the modelled target: what it leaves in the flash. These are definitions, in
-// specs/, and laws of them, in proofs/; there is no code here.
+// Runs, exchanges played against the modelled target, and jobs, with the flash that holds one. These are
+// definitions, in specs/, and laws of them, in proofs/; there is no code here.

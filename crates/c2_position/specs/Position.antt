@@ -8,9 +8,10 @@ use Rattle.c2_wire.specs.Exchange.{outcome}
 use Rattle.c2_wire.specs.Place.{place}
 use Rattle.c2_wire.specs.declared.Place.{Place}
 use Rattle.c2_order.specs.Acts.{Act, reset-pulse, Block, erase, block-write, block-read}
-use Rattle.c2_order.specs.Order.{Page, pages, rising, joined, page-blocks, lead, page-acts}
+use Rattle.settings.specs.Registers.{pair-at, pairs-of}
+use Rattle.c2_order.specs.Order.{Page, pages, rising, joined, page-blocks, lead, pair-acts, page-acts}
 use Rattle.c2_acts.specs.declared.Stage.{Stage}
-use Rattle.c2_acts.specs.declared.Stage.the-variants.{Lead, Erase, Write, Read, Close}
+use Rattle.c2_acts.specs.declared.Stage.the-variants.{Lead, Erase, Write, Read, Close, Register}
 use Rattle.c2_session.specs.declared.Session.{Session}
 use Rattle.c2_session.specs.declared.Point.the-variants.{Running, Ended}
 use Rattle.c2_order.specs.Point
@@ -31,13 +32,14 @@ blocks-at s image i = page-blocks (s .settings) (page-at s image i)
 abbrev pub block-at : Session → (image : List ℕ) → (page block : ℕ) → Block
 block-at s image i j = getD (blocks-at s image i) j (record { address = 0; offset = 0; bytes = [] })
 
--- the acts of a stage, at a page and a block of it
+-- the acts of a stage, at a page, or a pair, and a block of it
 abbrev pub stage-acts : Stage → Session → (image : List ℕ) → (page block : ℕ) → List Act
 stage-acts Lead s image i j = lead (s .settings)
 stage-acts Erase s image i j = erase (s .settings .fpdat) (page-at s image i .number)
 stage-acts Write s image i j = block-write (s .settings .fpdat) (block-at s image i j)
 stage-acts Read s image i j = block-read (s .settings .fpdat) (block-at s image i j)
 stage-acts Close s image i j = reset-pulse ∷ []
+stage-acts Register s image i j = pair-acts (pair-at (s .settings .pairs) i)
 
 -- the acts of the order from a page on (`pages-from`), and those of a page from a block on, to be written
 -- (`writes-from`) or read back (`reads-from`)
@@ -50,13 +52,18 @@ writes-from s image i j = joined (map (block-write (s .settings .fpdat)) (drop j
 unfoldable pub reads-from : Session → (image : List ℕ) → (page block : ℕ) → List Act
 reads-from s image i j = joined (map (block-read (s .settings .fpdat)) (drop j (blocks-at s image i)))
 
+-- the acts of the order from a pair on
+unfoldable pub registers-from : Session → (image : List ℕ) → (pair : ℕ) → List Act
+registers-from s image i = joined (map pair-acts (drop i (pairs-of (s .settings .pairs)))) ++ pages-from s image 0
+
 -- the acts after a stage
 abbrev pub after-stage : Stage → Session → (image : List ℕ) → (page block : ℕ) → List Act
-after-stage Lead s image i j = pages-from s image 0
+after-stage Lead s image i j = registers-from s image 0
 after-stage Erase s image i j = writes-from s image i 0 ++ (reads-from s image i 0 ++ pages-from s image (suc i))
 after-stage Write s image i j = writes-from s image i (suc j) ++ (reads-from s image i 0 ++ pages-from s image (suc i))
 after-stage Read s image i j = reads-from s image i (suc j) ++ pages-from s image (suc i)
 after-stage Close s image i j = []
+after-stage Register s image i j = registers-from s image (suc i)
 
 -- the acts of the order from an act of a stage on
 abbrev pub acts-from : Stage → Session → (image : List ℕ) → (page block act : ℕ) → List Act

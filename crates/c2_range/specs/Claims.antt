@@ -9,8 +9,9 @@ use lib.ListN.{length, take, drop}
 use Rattle.numbers.specs.Numbers.{compare-differs}
 use Rattle.c2_wire.specs.Place.{strobe-at, samples, count-limit}
 use Rattle.settings.specs.declared.Settings.{Settings}
+use Rattle.settings.specs.Registers.{are-pairs, is-tidy}
 use Rattle.c2_order.specs.Acts.{Act}
-use Rattle.c2_order.specs.Conversation.{limits}
+use Rattle.c2_order.specs.Conversation.{Limits, limits-of}
 use Rattle.c2_order.specs.Claims.{Last-number}
 use Rattle.c2_order.specs.Point.{strobes-of, reads-of}
 use Rattle.c2_acts.specs.declared.Stage.{Stage}
@@ -19,25 +20,27 @@ use Rattle.c2_session.specs.declared.Point.the-variants.{Running, Ended}
 use Rattle.c2_session.specs.declared.Session.{Session}
 use Rattle.c2_range.specs.Range.{pages-in, blocks-in, stage-order, in-range}
 
--- What opening asks of settings and pages would pass (numbers 1 to 5).
+-- What opening asks of settings and pages would pass (numbers 1 to 5, 18 and 19).
 pub record Opening-passes (t : Settings) (first pages : ℕ) : Type 0 where
   pub fpdat : 3 ≤ t .fpdat
   pub size : (t .size ≡ 512) ⊎ (t .size ≡ 1024)
   pub count : 1 ≤ t .count
   pub flash : t .size * t .count ≤ 65536
+  pub wait : 1 ≤ t .wait
+  pub pairs : are-pairs (t .fpdat) (t .pairs) ≡ true
   pub image : 1 ≤ pages
   pub inside : first + pages ≤ t .count
 
 -- A running session's point exists in its order; zeros seen in a WAIT are below its limit and unsatisfied
 -- reads below theirs; bits not yet sampled are 0.
-pub record Point-exists (wait-limit poll-limit size pages : ℕ) (g : Stage) (i j k q c v : ℕ) : Type 0 where
-  pub page : i < pages-in g pages
+pub record Point-exists (l : Limits) (size pairs pages : ℕ) (g : Stage) (i j k q c v : ℕ) : Type 0 where
+  pub page : i < pages-in g pairs pages
   pub block : j < blocks-in g size
   pub act : Act
   pub later : List Act
   pub here : drop k (stage-order g) ≡ act ∷ later
   pub strobe : q < length (strobes-of act)
-  pub count : c < count-limit wait-limit (reads-of (limits wait-limit poll-limit) act) (strobe-at (strobes-of act) q)
+  pub count : c < count-limit (l .wait) (reads-of l act) (strobe-at (strobes-of act) q)
   pub bits : v < 2 ^ samples (take q (strobes-of act))
 
 -- An outcome is one that ends a session, with an offset inside the image for 14 and 0 otherwise.
@@ -46,14 +49,15 @@ pub record Outcome-stands (bytes n o : ℕ) : Type 0 where
   pub inside : n ≡ compare-differs → o < bytes
   pub otherwise : (n ≡ compare-differs → ⊥) → o ≡ 0
 
-abbrev pub Point-stands : (wait-limit poll-limit size pages : ℕ) → Point → Type 0
-Point-stands w l size pages (Running g i j k q c v) = Point-exists w l size pages g i j k q c v
-Point-stands w l size pages (Ended n o) = Outcome-stands (size * pages) n o
+abbrev pub Point-stands : Limits → (size pairs pages : ℕ) → Point → Type 0
+Point-stands l size pairs pages (Running g i j k q c v) = Point-exists l size pairs pages g i j k q c v
+Point-stands l size pairs pages (Ended n o) = Outcome-stands (size * pages) n o
 
-pub record Within-ranges (wait-limit poll-limit : ℕ) (s : Session) : Type 0 where
+pub record Within-ranges (s : Session) : Type 0 where
   pub opening : Opening-passes (s .settings) (s .first) (s .pages)
-  pub point : Point-stands wait-limit poll-limit (s .settings .size) (s .pages) (s .point)
+  pub unnamed : is-tidy (s .settings .pairs) ≡ true
+  pub point : Point-stands (limits-of (s .settings)) (s .settings .size) (s .settings .pairs .count) (s .pages) (s .point)
 
 -- `in-range` means exactly `Within-ranges`.
 abbrev pub Ranges-are : Type 0
-Ranges-are = (w l : ℕ) (s : Session) → in-range w l s ≡ true ↔ Within-ranges w l s
+Ranges-are = (s : Session) → in-range s ≡ true ↔ Within-ranges s

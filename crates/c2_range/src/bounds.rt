@@ -110,7 +110,7 @@ pub(crate) fn inside(pages: u16, blocks: u32, at: At) -> bool
     ensures { λ r. ⌜ r ≡ inside pages blocks (acts-in (at .stage)) (at .page) (at .block) (at .act) ⌝ }
 {
     let stage = at.stage;
-    if at.page < pages {
+    if at.page < (pages as u32) {
         if at.block < blocks {
             return at.act < acts_in(stage);
         }

@@ -3,4 +3,6 @@
 mod bounds;
 mod range;
 
-pub use range::in_range;
+pub use range::ended_in_range;
+pub use range::opening_in_range;
+pub use range::running_in_range;

@@ -3,3 +3,6 @@ pub mod Record
 pub mod Fields
 pub mod Spare
 pub mod Claims
+pub mod Said
+pub mod Holds
+pub mod Put

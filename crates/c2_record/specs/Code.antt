@@ -1,3 +1,6 @@
 -- For the code: nothing here needs to be believed. The head of each module names the law that joins it to the
 -- definitions.
+pub mod Holds
+pub mod Put
+pub mod Said
 pub mod Spare

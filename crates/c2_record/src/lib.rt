@@ -1,7 +1,6 @@
-// The record of a session: 32 bytes that a driver keeps over sleep (docs/RECORD.md), packed and unpacked.
-use c2_acts::Stage;
+// The record of a session: 32 bytes that a driver keeps over sleep (docs/RECORD.md), packed, and taken apart: the
+// point that is reached, and the session beside it.
 use c2_session::Point;
-use c2_session::Session;
 
 mod held;
 mod read;
@@ -9,8 +8,10 @@ mod spare;
 mod words;
 mod write;
 
-pub use held::unpack;
+pub use held::point;
+pub use read::session;
 pub use write::pack;
+pub use write::put_point;
 
 // The length of a record, and the places of its fields (docs/RECORD.md). A field of two bytes has its low
 // byte first.
@@ -52,14 +53,33 @@ const COUNT: usize = 16;
 
 const BITS: usize = 17;
 
-const SPARE: usize = 18;
+const WAIT: usize = 18;
 
-const LAST_EIGHT: usize = RECORD_BYTES - 8;
+const PAIR_COUNT: usize = 19;
 
-// What a record holds: a session, or nothing that is one.
-pub enum Unpacked {
-    Held(Session),
-    Refused,
+const FIRST_REGISTER: usize = 20;
+
+const FIRST_VALUE: usize = 21;
+
+const SECOND_REGISTER: usize = 22;
+
+const SECOND_VALUE: usize = 23;
+
+const THIRD_REGISTER: usize = 24;
+
+const THIRD_VALUE: usize = 25;
+
+const FOURTH_REGISTER: usize = 26;
+
+const FOURTH_VALUE: usize = 27;
+
+// The byte of a stage is below this.
+const STAGES: u8 = 6;
+
+// What a record tells of its session: the point that it has reached, or that it holds none.
+pub enum Reached {
+    At(Point),
+    Nowhere,
 }
 
 // The numbers of a record that tell the point reached. Those not in use are 0.
@@ -67,22 +87,10 @@ struct Fields {
     number: u32,
     offset: u32,
     stage: u8,
-    page: u16,
+    page: u32,
     block: u32,
-    act: u16,
+    act: u32,
     strobe: u32,
     count: u32,
     bits: u32,
-}
-
-// The stage of a number, if it has one.
-enum Named {
-    Of(Stage),
-    Nothing,
-}
-
-// The point that such numbers tell, if they tell one.
-enum Reached {
-    At(Point),
-    Nowhere,
 }

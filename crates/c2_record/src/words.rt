@@ -14,6 +14,12 @@ pub(crate) fn high(x: u32) -> u8
     (x / 256 % 256) as u8
 }
 
+pub(crate) fn byte(x: u8) -> u8
+    ensures { λ r. ⌜ r ≡ x % 256 ⌝ }
+{
+    x
+}
+
 pub(crate) fn wide16(x: u8) -> u16
     ensures { λ r. ⌜ r ≡ x ⌝ }
 {
@@ -26,13 +32,7 @@ pub(crate) fn wide32(x: u8) -> u32
     x as u32
 }
 
-pub(crate) fn pair16(l: u8, h: u8) -> u16
-    ensures { λ r. ⌜ r ≡ l + h * 256 ⌝ }
-{
-    (l as u16) + (h as u16) * 256
-}
-
-pub(crate) fn pair32(l: u8, h: u8) -> u32
+pub(crate) fn word32(l: u8, h: u8) -> u32
     ensures { λ r. ⌜ r ≡ l + h * 256 ⌝ }
 {
     (l as u32) + (h as u32) * 256

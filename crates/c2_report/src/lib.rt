@@ -2,8 +2,10 @@
 ghost use mathlib.Core.Path.{_≡_};
 ghost use Rattle.c2_report.specs.Report.{program-device, reported};
 use c2_run::c2_program;
+use c2_session::Session;
 use numbers::PAST_LAST_PAGE;
 use numbers::RUNNING;
+use settings::Pairs;
 use settings::Settings;
 use settings::opening_refusal;
 
@@ -26,6 +28,12 @@ fn device() -> Settings
         fpdat: 0xb4,
         size: 512,
         count: 32,
+        wait: Session::WAIT_LIMIT,
+        pairs: Pairs {
+            count: 0,
+            registers: [0, 0, 0, 0],
+            values: [0, 0, 0, 0],
+        },
     }
 }
 

@@ -1,4 +1,3 @@
 -- The laws of the definitions, each in the module of the definition that it is about.
-pub mod Loop
 pub mod Closed
 pub mod Claims

@@ -2,27 +2,26 @@
 use mathlib.Core.Path.{_≡_}
 use mathlib.Core.Bool.{false}
 use mathlib.Core.List.{List}
-use Prim.Native.Nat.{ℕ, _*_, _≤_}
-use lib.ListN.{length}
+use Prim.Native.Nat.{ℕ, _≤_}
 use Rattle.numbers.specs.Numbers.{done}
 use Rattle.laws.specs.Bytes.{Bytes}
-use Rattle.settings.specs.declared.Settings.{Settings}
 use Rattle.c2_order.specs.Order.{session-order}
-use Rattle.c2_order.specs.Conversation.{session-limits}
+use Rattle.c2_order.specs.Conversation.{limits-of}
 use Rattle.c2_order.specs.Point.{begin}
 use Rattle.c2_order.specs.Figure.{figure}
-use Rattle.c2_order.specs.Claims.{Opening}
-use Rattle.c2_play.specs.Programmed.{laid-over}
-use Rattle.c2_run.specs.Run.{run-answer, run-flash}
+use Rattle.c2_play.specs.Job.{Job, first-of, Proper, programmed}
+use Rattle.c2_run.specs.Run.{run-refusal, run-answer, run-flash}
 
--- With a budget of as many replies as the most steps to come at the opening the run ends done, without a
--- mark, and leaves the flash with the image laid over it.
-pub record Ran-well (t : Settings) (first : ℕ) (image f ds : List ℕ) (budget : ℕ) : Type 0 where
-  pub ended : run-answer t first image f ds budget .number ≡ done
-  pub clean : run-answer t first image f ds budget .collision ≡ false
-  pub holds : run-flash t first image f ds budget ≡ laid-over (first * t .size) image f
+-- A job's run has ended done, without a mark, and left the flash with the job's pages in place of the old
+-- ones.
+pub record Ran-well (j : Job) (f ds : List ℕ) (budget : ℕ) : Type 0 where
+  pub ended : run-answer (j .settings) (first-of (j .pages)) (j .image) f ds budget .number ≡ done
+  pub clean : run-answer (j .settings) (first-of (j .pages)) (j .image) f ds budget .collision ≡ false
+  pub holds : run-flash (j .settings) (first-of (j .pages)) (j .image) f ds budget ≡ programmed j f
 
+-- A run that is not refused ends so, with a budget of as many replies as are the most steps to come at the
+-- opening.
 abbrev pub Runs-program : Type 0
-Runs-program = (t : Settings) (first : ℕ) (image f ds : List ℕ) (budget : ℕ) → Opening t first image → length f ≡ t .size * t .count
+Runs-program = (j : Job) (f ds : List ℕ) (budget : ℕ) → Proper j → run-refusal (j .settings) (first-of (j .pages)) (j .image) f ≡ 0
     → Bytes f → Bytes ds
-    → figure session-limits (begin (session-order t first image)) ≤ budget → Ran-well t first image f ds budget
+    → figure (limits-of (j .settings)) (begin (session-order (j .settings) (first-of (j .pages)) (j .image))) ≤ budget → Ran-well j f ds budget

@@ -1,10 +1,5 @@
 // A session run against a fresh target, over lent buffers.
-use c2_session::Session;
-use c2_target::Target;
-
-mod play;
 mod program;
-mod same;
 
 pub use program::c2_program;
 
@@ -16,10 +11,4 @@ pub struct Run {
     pub offset: u32,
     pub replies: usize,
     pub collision: bool,
-}
-
-struct Ran {
-    session: Session,
-    target: Target,
-    replies: usize,
 }

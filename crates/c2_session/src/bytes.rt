@@ -1,8 +1,7 @@
 // The byte that an act of the session sends or compares.
 ghost use mathlib.Core.Path.{_≡_};
 ghost use Prim.Native.Nat.{_+_, _*_, _%_, _<_};
-ghost use Rattle.c2_session.specs.Code.Bytes.{block-offset, high-byte, lead-byte, erase-byte, block-byte, image-byte, sent-offset, compared-offset, write-byte, stage-byte};
-ghost use Rattle.c2_session.specs.Code.Next.{act-at};
+ghost use Rattle.c2_session.specs.Code.Bytes.{block-offset, page-number, high-byte, lead-byte, erase-byte, block-byte, image-byte, sent-offset, compared-offset, write-byte, register-byte, stage-byte};
 use crate::At;
 use crate::Session;
 use c2_acts::BLOCK_BODY;
@@ -12,6 +11,7 @@ use c2_acts::COMMAND_PLACE;
 use c2_acts::FIRST_COMPARE;
 use c2_acts::FIRST_KEY;
 use c2_acts::LEAD_ADDRESS;
+use c2_acts::PAIR_ADDRESS;
 use c2_acts::SECOND_KEY;
 use c2_acts::Stage;
 use c2_order::BLOCK_READ;
@@ -23,22 +23,24 @@ use c2_order::KEY_3;
 use c2_order::PAGE_ERASE;
 use settings::Settings;
 
-// The image offset of a page.
-fn page_offset(page: u16, size: u32) -> usize
+// Where a page of this number begins, in the flash or in the image.
+fn page_offset(page: u32, size: u32) -> usize
+    requires { ⌜ page < 131072 ⌝ }
     ensures { λ r. ⌜ r ≡ page * size ⌝ }
-    ensures { λ r. ⌜ r < 281474976710656 ⌝ }
+    ensures { λ r. ⌜ r < 562949953421312 ⌝ }
 {
     (page as usize) * (size as usize)
 }
 
+// The image offset of a block. The page is kept to 16 bits, so that the product fits a word.
 fn block_offset(t: Settings, at: At) -> usize
     ensures { λ r. ⌜ r ≡ block-offset t at ⌝ }
-    ensures { λ r. ⌜ r < 282574488338432 ⌝ }
+    ensures { λ r. ⌜ r < 564049465049088 ⌝ }
 {
-    page_offset(at.page, t.size) + (at.block as usize) * 256
+    page_offset(at.page % 65536, t.size) + (at.block as usize) * 256
 }
 
-fn lead_byte(act: u16) -> u8
+fn lead_byte(act: u32) -> u8
     ensures { λ r. ⌜ r ≡ lead-byte act ⌝ }
 {
     if act == LEAD_ADDRESS {
@@ -65,10 +67,12 @@ pub(crate) fn image_byte(image: &[u8], i: usize) -> u8
 }
 
 impl Session {
-    fn page_number(self, page: u16) -> u8
-        ensures { λ r. ⌜ r ≡ (self .first + page) % 256 ⌝ }
+    // The number in the flash of the page at a point, which is kept to 16 bits.
+    fn page_number(self, page: u32) -> u32
+        ensures { λ r. ⌜ r ≡ page-number self (page % 65536) ⌝ }
+        ensures { λ r. ⌜ r < 131072 ⌝ }
     {
-        (((self.first as usize) + (page as usize)) % 256) as u8
+        (self.first as u32) + page % 65536
     }
 
     // The high byte of the block's address in the flash.
@@ -76,8 +80,8 @@ impl Session {
         ensures { λ r. ⌜ r ≡ high-byte self at ⌝ }
     {
         let settings = self.settings;
-        let first = page_offset(self.first, settings.size);
-        ((first + block_offset(settings, at)) / 256 % 256) as u8
+        let page = page_offset(self.page_number(at.page), settings.size);
+        ((page + (at.block as usize) * 256) / 256 % 256) as u8
     }
 
     fn erase_byte(self, at: At) -> u8
@@ -91,7 +95,7 @@ impl Session {
             return PAGE_ERASE;
         }
         if at.act == COMMAND_PLACE {
-            return self.page_number(at.page);
+            return (self.page_number(at.page) % 256) as u8;
         }
         0
     }
@@ -143,6 +147,21 @@ impl Session {
         image_byte(image, self.sent_offset(at))
     }
 
+    // The byte that an act of a pair sends. The pair's number is kept below 4.
+    fn register_byte(self, at: At) -> u8
+        ensures { λ r. ⌜ r ≡ register-byte self at ⌝ }
+    {
+        let settings = self.settings;
+        let pairs = settings.pairs;
+        let registers = pairs.registers;
+        let values = pairs.values;
+        let i = (at.page % 4) as usize;
+        if at.act == PAIR_ADDRESS {
+            return registers[i];
+        }
+        values[i]
+    }
+
     // The byte that an act sends.
     pub(crate) fn stage_byte(self, stage: Stage, at: At, image: &[u8]) -> u8
         ensures { λ r. ⌜ r ≡ stage-byte stage self at (now (image .entry)) ⌝ }
@@ -153,6 +172,7 @@ impl Session {
             Stage::Write => self.write_byte(at, image),
             Stage::Read => self.block_byte(at, BLOCK_READ),
             Stage::Close => 0,
+            Stage::Register => self.register_byte(at),
         }
     }
 }

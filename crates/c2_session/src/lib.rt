@@ -10,16 +10,15 @@ mod next;
 mod run;
 mod script;
 
-pub use run::at_point;
 pub use run::set_off;
 
 // An act of the order: its stage, the page of the image and the block of the page, and its number in the
-// stage.
+// stage. In the stage Register the pair's number stands where others have the page.
 pub struct At {
     pub stage: Stage,
-    pub page: u16,
+    pub page: u32,
     pub block: u32,
-    pub act: u16,
+    pub act: u32,
 }
 
 // The point that a session has reached: an act, the strobe in its frame, the zeros seen in a WAIT or the
@@ -27,9 +26,9 @@ pub struct At {
 pub enum Point {
     Running {
         stage: Stage,
-        page: u16,
+        page: u32,
         block: u32,
-        act: u16,
+        act: u32,
         strobe: u32,
         count: u32,
         bits: u32,
@@ -38,6 +37,22 @@ pub enum Point {
         number: u32,
         offset: u32,
     },
+}
+
+// A point with all its numbers side by side, those that are not in use 0. What a reply leads to is told so, and
+// made a point at one place (`way_point`): points made at many places go through memory, a third of the
+// instructions of a strobe.
+struct Way {
+    ended: bool,
+    number: u32,
+    offset: u32,
+    stage: Stage,
+    page: u32,
+    block: u32,
+    act: u32,
+    strobe: u32,
+    count: u32,
+    bits: u32,
 }
 
 pub struct Session {
@@ -56,8 +71,8 @@ pub struct Runner {
 }
 
 impl Session {
-    // The limit of a WAIT: so many zeros refuse.
-    pub const WAIT_LIMIT: u32 = 20;
+    // The limit of a WAIT that old units have; a session's own stands in its settings.
+    pub const WAIT_LIMIT: u8 = 20;
 
     // The limit of a poll: so many unsatisfied reads refuse.
     pub const POLL_LIMIT: u32 = 256;

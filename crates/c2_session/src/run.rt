@@ -2,15 +2,14 @@
 ghost use mathlib.Core.Path.{_≡_};
 ghost use mathlib.Core.Bool.{cond};
 ghost use Rattle.c2_acts.specs.Code.Acts.{task-of};
-ghost use Rattle.c2_session.specs.Code.Advance.{with-point};
 ghost use Rattle.c2_session.specs.Code.Script.{script-at};
-ghost use Rattle.c2_session.specs.Code.Run.{runner-at, is-known, runner-settled, runner-replied, runner-taken, runner-advanced, runner-step};
+ghost use Rattle.c2_session.specs.Code.Run.{runner-at, is-known, script-left, runner-settled, runner-replied, runner-taken, runner-advanced, runner-step};
 use crate::At;
 use crate::Point;
 use crate::Runner;
 use crate::Session;
 use crate::next::end_point;
-use crate::next::strobe_point;
+use crate::next::way_point;
 use crate::script::first_step;
 use c2_acts::Task;
 use c2_acts::task_of;
@@ -19,7 +18,6 @@ use c2_wire::OFF;
 use c2_wire::Place;
 use c2_wire::script_after;
 use numbers::BAD_REPLY;
-use numbers::WAIT_LIMIT_REACHED;
 
 // A script that is not known.
 const UNKNOWN: u64 = 0;
@@ -32,19 +30,6 @@ pub fn set_off(point: Point) -> Runner
         point: point,
         task: Task::Reset,
         script: UNKNOWN,
-    }
-}
-
-// A session at another point.
-pub fn at_point(s: Session, point: Point) -> Session
-    ensures { λ r. ⌜ r ≡ with-point s point ⌝ }
-{
-    let settings = s.settings;
-    Session {
-        settings: settings,
-        first: s.first,
-        pages: s.pages,
-        point: point,
     }
 }
 
@@ -66,6 +51,17 @@ fn task_now(task: Task, script: u64, at: At, strobe: u32) -> Task
         return task;
     }
     task_of(stage, at.act)
+}
+
+// What is left of a script after a reply at a strobe that has moved the place.
+fn script_left(moved: Moved, script: u64, strobe: u32) -> u64
+    ensures { λ r. ⌜ r ≡ script-left moved script strobe ⌝ }
+{
+    match moved {
+        Moved::Within(next) => script_after(script, strobe, next.strobe),
+        Moved::Stopped(_) => UNKNOWN,
+        Moved::WaitLimit => UNKNOWN,
+    }
 }
 
 impl Session {
@@ -90,22 +86,11 @@ impl Session {
     ) -> Runner
         ensures { λ r. ⌜ r ≡ runner-settled moved task script self at place (now (image .entry)) ⌝ }
     {
-        match moved {
-            Moved::Within(next) => Runner {
-                point: strobe_point(at, next),
-                task: task,
-                script: script_after(script, place.strobe, next.strobe),
-            },
-            Moved::Stopped(byte) => Runner {
-                point: self.frame_judged(task, at, place.count, byte, image),
-                task: task,
-                script: UNKNOWN,
-            },
-            Moved::WaitLimit => Runner {
-                point: end_point(WAIT_LIMIT_REACHED),
-                task: task,
-                script: UNKNOWN,
-            },
+        let way = self.frame_answered(moved, task, at, place.count, image);
+        Runner {
+            point: way_point(way),
+            task: task,
+            script: script_left(moved, script, place.strobe),
         }
     }
 
@@ -123,12 +108,13 @@ impl Session {
     {
         if 1 < reply {
             return Runner {
-                point: end_point(BAD_REPLY),
+                point: way_point(end_point(BAD_REPLY)),
                 task: task,
                 script: UNKNOWN,
             };
         }
-        let moved = c2_wire::follow(script, place, reply == 1, Session::WAIT_LIMIT);
+        let settings = self.settings;
+        let moved = c2_wire::follow(script, place, reply == 1, settings.wait as u32);
         self.settled(moved, task, script, at, place, image)
     }
 

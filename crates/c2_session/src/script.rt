@@ -81,7 +81,7 @@ fn act_script(task: Task, byte: u8) -> u64
     script_of(task_frame(task), byte)
 }
 
-fn lead_step(act: u16) -> u8
+fn lead_step(act: u32) -> u8
     ensures { λ r. ⌜ r ≡ alone (lead-task act) ⌝ }
 {
     if act == 0 {
@@ -97,7 +97,7 @@ fn lead_step(act: u16) -> u8
 }
 
 // The first step of an act: a frame's START, unless the act stands in no frame.
-pub(crate) fn first_step(stage: Stage, act: u16) -> u8
+pub(crate) fn first_step(stage: Stage, act: u32) -> u8
     ensures { λ r. ⌜ r ≡ alone (task-of stage act) ⌝ }
 {
     match stage {
@@ -106,6 +106,7 @@ pub(crate) fn first_step(stage: Stage, act: u16) -> u8
         Stage::Write => RELEASED,
         Stage::Read => RELEASED,
         Stage::Close => RESET,
+        Stage::Register => RELEASED,
     }
 }
 

@@ -42,32 +42,33 @@ failed = Status false
 unfoldable pub in-flash : (address count : ℕ) → List ℕ → Bool
 in-flash a n f = leb (a + n) (length f)
 
--- what the first byte of a command does: three commands are known; any other byte gives status 0x00
-unfoldable pub opens : (byte : ℕ) → List ℕ → Put-taken
-opens b f =
-    cond (eqb b 0x08) (put-taken ErasePage passed f)
-    (cond (eqb b 0x07) (put-taken (High true) passed f)
+-- What the first byte of a command does: three commands are known; any other byte gives status 0x00. Erase and
+-- block write are turned away with status 0x00 as long as the device is not prepared: a wanted pair is not met.
+unfoldable pub opens : (prepared : Bool) → (byte : ℕ) → List ℕ → Put-taken
+opens prepared b f =
+    cond (eqb b 0x08) (put-taken (cond prepared ErasePage Ready) (Status prepared) f)
+    (cond (eqb b 0x07) (put-taken (cond prepared (High true) Ready) (Status prepared) f)
     (cond (eqb b 0x06) (put-taken (High false) passed f)
     (put-taken Ready failed f)))
 
 -- A byte put is the command's next byte. Output comes where the maker's note has a status; where the status
 -- is 0x00 the command ends.
-unfoldable pub takes-put : Settings → Command → (byte : ℕ) → List ℕ → Put-taken
-takes-put s Ready b f = opens b f
+unfoldable pub takes-put : Settings → (prepared : Bool) → Command → (byte : ℕ) → List ℕ → Put-taken
+takes-put s prepared Ready b f = opens prepared b f
 -- a page past the end
-takes-put s ErasePage b f = cond (ltb b (s .count)) (put-taken (EraseConfirm b) passed f) (put-taken Ready failed f)
+takes-put s prepared ErasePage b f = cond (ltb b (s .count)) (put-taken (EraseConfirm b) passed f) (put-taken Ready failed f)
 -- the page is erased at the put of 0x00
-takes-put s (EraseConfirm p) b f = cond (eqb b 0x00) (put-taken Ready passed (erased (s .size) p f)) (put-taken Ready failed f)
-takes-put s (High w) b f = put-taken (Low w b) Empty f
-takes-put s (Low w h) b f = put-taken (LengthCode w (h * 256 + b)) Empty f
+takes-put s prepared (EraseConfirm p) b f = cond (eqb b 0x00) (put-taken Ready passed (erased (s .size) p f)) (put-taken Ready failed f)
+takes-put s prepared (High w) b f = put-taken (Low w b) Empty f
+takes-put s prepared (Low w h) b f = put-taken (LengthCode w (h * 256 + b)) Empty f
 -- a block past the end: the bytes of a block write are first taken
-takes-put s (LengthCode true a) b f =
+takes-put s prepared (LengthCode true a) b f =
     put-taken (cond (in-flash a (coded-length b) f) (Byte a (coded-length b)) (PastEnd (coded-length b))) Empty f
-takes-put s (LengthCode false a) b f =
+takes-put s prepared (LengthCode false a) b f =
     put-taken Ready (cond (in-flash a (coded-length b) f) (StatusBlock a (coded-length b)) failed) f
 -- each byte of a block write is written at its put, and the status follows the last
-takes-put s (Byte a n) b f = put-taken (cond (ltb 1 n) (Byte (a + 1) (n - 1)) Ready) (cond (ltb 1 n) Empty passed) (stored a b f)
-takes-put s (PastEnd n) b f = put-taken (cond (ltb 1 n) (PastEnd (n - 1)) Ready) (cond (ltb 1 n) Empty failed) f
+takes-put s prepared (Byte a n) b f = put-taken (cond (ltb 1 n) (Byte (a + 1) (n - 1)) Ready) (cond (ltb 1 n) Empty passed) (stored a b f)
+takes-put s prepared (PastEnd n) b f = put-taken (cond (ltb 1 n) (PastEnd (n - 1)) Ready) (cond (ltb 1 n) Empty failed) f
 
 -- whether there is output to be read
 unfoldable pub some-output : Output → Bool

@@ -5,18 +5,20 @@ use mathlib.Core.List.{List}
 use Prim.Native.Nat.{ℕ, _+_}
 use lib.Dec.{ltb}
 use lib.ListN.{length, getD}
+use Rattle.settings.specs.declared.Pairs.{Pairs}
 use Rattle.settings.specs.declared.Settings.{Settings}
 
 -- What the target is lent: settings, the limit of a WAIT (which sends as many zeros as its delay modulo
--- this), and the delay list.
+-- this), the pairs that the device wants (document 02, e), and the delay list.
 pub record Setup : Type 0 where
   pub settings : Settings
   pub wait : ℕ
+  pub wanted : Pairs
   pub delays : List ℕ
 
--- The target of document 01: a WAIT sends (delay mod 20) zeros.
-abbrev pub setup : Settings → (delays : List ℕ) → Setup
-setup s ds = record { settings = s; wait = 20; delays = ds }
+-- The target's limit of a WAIT is that of its settings (document 02, d); document 01's 20 is that of old units.
+abbrev pub setup : Settings → (wanted : Pairs) → (delays : List ℕ) → Setup
+setup s w ds = record { settings = s; wait = s .wait; wanted = w; delays = ds }
 
 -- a place of the delay list: one at or past its end is the start
 unfoldable pub list-place : List ℕ → (place : ℕ) → ℕ

@@ -66,6 +66,21 @@ known-point l (Waiting z n e) = ltb (z + 1) l && after-its-wait n e
 known-point l (Send n v e) = leb 1 n && is-sent n v e
 known-point l (Stop e) = known-effect e
 
+-- How many of the three key writes may be counted at a point: all three only between two frames, since a START
+-- takes them away.
+unfoldable pub most-keys : Point → ℕ
+most-keys Start = 3
+most-keys (Ins n v) = 2
+most-keys (WriteLength n v) = 2
+most-keys (ReadLength n v) = 2
+most-keys (Address n v) = 2
+most-keys (Data n v) = 2
+most-keys (LongData n) = 2
+most-keys (Wait n e) = 2
+most-keys (Waiting z n e) = 2
+most-keys (Send n v e) = 2
+most-keys (Stop e) = 2
+
 -- whether a block may have so many bytes: 1 to 256
 unfoldable pub is-count : ℕ → Bool
 is-count n = leb 1 n && leb n 256
@@ -96,11 +111,12 @@ known-output end (Block a n) = known-block end a n
 unfoldable pub known-link : (count end : ℕ) → Link → Bool
 known-link c end l = known-command c end (l .command) && (known-output end (l .output) && (is-byte (l .busy) && is-byte (l .late)))
 
--- whether the target is in a state that exists: the flash is size times count long, the address is a byte, at
--- most three key writes are counted, and point and interface exist
+-- whether the target is in a state that exists: the flash is size times count long, the address is a byte, no
+-- more key writes are counted than may be, and point and interface exist
 unfoldable pub known : Setup → Target → List ℕ → Bool
 known u t f =
     let s = u .settings in
     let d = t .device in
     eqb (length f) (s .size * s .count)
-    && (known-point (u .wait) (t .point) && (is-byte (d .address) && (leb (d .keys) 3 && known-link (s .count) (length f) (d .link))))
+    && (known-point (u .wait) (t .point)
+    && (leb (d .keys) (most-keys (t .point)) && (is-byte (d .address) && known-link (s .count) (length f) (d .link))))

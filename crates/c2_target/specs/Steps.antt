@@ -1,4 +1,5 @@
--- Steps in a row: the target's own replies to them, and the target and its flash afterwards.
+-- Steps in a row to a target, with no exchange: its own replies to them, and the target and its flash
+-- afterwards. In C, over the target's state, these are `replies` and `bench-after` of c2_whole.
 use mathlib.Core.List.{List, [], _∷_}
 use Prim.Native.Nat.{ℕ}
 use Rattle.c2_target.specs.declared.Target.{Target}

@@ -4,25 +4,26 @@ use mathlib.Core.Bool.{Bool, true, false, not, cond, _&&_, _||_}
 use mathlib.Core.List.{List}
 use Prim.Native.Nat.{ℕ}
 use lib.Dec.{eqb, leb}
-use Rattle.numbers.specs.Numbers.{no-step, no-point}
+use Rattle.numbers.specs.Numbers.{no-step, no-point, bad-pairs}
 use Rattle.c2_wire.specs.Bits.{bit}
 use Rattle.c2_wire.specs.Step.{Step, released, driven, reset, pause, off}
 use Rattle.settings.specs.Accepted.{settings-refusal}
+use Rattle.settings.specs.Registers.{are-pairs}
 use Rattle.c2_target.specs.declared.Command.the-variants.{Ready}
 use Rattle.c2_target.specs.declared.Output.the-variants.{Empty}
-use Rattle.c2_target.specs.declared.Point.{Point}
-use Rattle.c2_target.specs.declared.Point.the-variants.{Start, Ins, WriteLength, ReadLength, Address, Data, LongData, Wait, Waiting, Send, Stop}
+use Rattle.c2_target.specs.declared.Point.the-variants.{Start}
 use Rattle.c2_target.specs.declared.Device.{Device}
 use Rattle.c2_target.specs.declared.Target.{Target}
 use Rattle.c2_target.specs.declared.Replied.{Replied}
 use Rattle.c2_target.specs.Delays.{Setup}
-use Rattle.c2_target.specs.Interface.{link, device}
+use Rattle.c2_target.specs.Interface.{link, device, with-on, none-met}
 use Rattle.c2_target.specs.Strobes.{target, Turn, turn, strobed}
 use Rattle.c2_target.specs.Known.{known}
 
--- the device after a reset: address 0, interface off, no command, output, d or e, and no key write since
+-- the device after a reset: address 0, interface off, no command, output, d or e, and no key write since, nor any
+-- other
 unfoldable pub cleared : Device
-cleared = device 0 false 0 (link Ready Empty 0 0)
+cleared = device 0 false 0 none-met (link Ready Empty 0 0)
 
 -- the fresh target: besides what a reset clears it has no frame, no mark, and the first delay
 unfoldable pub fresh : Target
@@ -32,30 +33,12 @@ fresh = target Start 0 false cleared
 unfoldable pub after-reset : Target → Target
 after-reset t = target Start (t .place) (t .collision) cleared
 
--- whether no frame is under way
-unfoldable pub between-frames : Point → Bool
-between-frames Start = true
-between-frames (Ins n v) = false
-between-frames (WriteLength n v) = false
-between-frames (ReadLength n v) = false
-between-frames (Address n v) = false
-between-frames (Data n v) = false
-between-frames (LongData n) = false
-between-frames (Wait n e) = false
-between-frames (Waiting z n e) = false
-between-frames (Send n v e) = false
-between-frames (Stop e) = false
-
--- whether step 5 turns the interface on: the last Data Writes were the three key writes, and no other frame
--- has begun
-unfoldable pub keyed : Target → Bool
-keyed t = eqb (t .device .keys) 3 && between-frames (t .point)
-
--- the target after step 5; where it does not turn the interface on it changes nothing
+-- The target after step 5: it turns the interface on where the last Data Writes were the three key writes and no
+-- other frame has begun, and changes nothing elsewhere.
 unfoldable pub after-pause : Target → Target
 after-pause t =
     let d = t .device in
-    target (t .point) (t .place) (t .collision) (device (d .address) (keyed t || d .on) (d .keys) (d .link))
+    target (t .point) (t .place) (t .collision) (with-on (eqb (d .keys) 3 || d .on) d)
 
 -- One step. Steps 4, 5 and 6 reply 1, and 6 changes nothing.
 unfoldable pub stepped : Setup → Target → List ℕ → Step → Turn
@@ -78,12 +61,20 @@ step-coded x =
     (cond (eqb x 4) reset
     (cond (eqb x 5) pause off))))
 
--- The number by which a step is refused, or 0: settings by 1 to 3, then 17, then 16.
+-- The number by which settings and wanted pairs are refused, or 0: settings by 1 to 3, 18 and 19, then the wanted
+-- pairs by 19.
+unfoldable pub setup-refusal : Setup → ℕ
+setup-refusal u =
+    cond (eqb (settings-refusal (u .settings)) 0)
+    (cond (are-pairs (u .settings .fpdat) (u .wanted)) 0 bad-pairs)
+    (settings-refusal (u .settings))
+
+-- The number by which a step is refused, or 0: what it is lent, then 17, then 16.
 unfoldable pub step-refusal : Setup → Target → List ℕ → (step : ℕ) → ℕ
 step-refusal u t f x =
-    cond (eqb (settings-refusal (u .settings)) 0)
+    cond (eqb (setup-refusal u) 0)
     (cond (known u t f) (cond (is-step x) 0 no-step) no-point)
-    (settings-refusal (u .settings))
+    (setup-refusal u)
 
 -- What a step gives back by the number of its refusal (`answered`), and the flash afterwards (`flash-left`).
 -- A refused step changes nothing and replies 1.

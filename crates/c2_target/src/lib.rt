@@ -107,12 +107,22 @@ pub struct Link {
     pub late: usize,
 }
 
+// Of each of the four pairs that the device may want, in their order: whether the last value written to its
+// register since the reset is the wanted one.
+pub struct Met {
+    pub first: bool,
+    pub second: bool,
+    pub third: bool,
+    pub fourth: bool,
+}
+
 // The address register, the interface on or off, how many of the three key writes the last Data Writes were,
-// and the interface.
+// which wanted pairs are met, and the interface.
 pub struct Device {
     pub address: usize,
     pub on: bool,
     pub keys: usize,
+    pub met: Met,
     pub link: Link,
 }
 
@@ -129,9 +139,4 @@ pub struct Replied {
     pub number: u32,
     pub reply: u32,
     pub target: Target,
-}
-
-impl Target {
-    // The target's limit of a WAIT, which sends as many zeros as its delay modulo this.
-    pub const WAIT: usize = 20;
 }

@@ -2,3 +2,4 @@
 pub mod State
 pub mod Claims
 pub mod Form
+pub mod Inside

@@ -2,8 +2,9 @@
 use mathlib.Core.Path.{_≡_}
 use mathlib.Core.Bool.{true}
 use mathlib.Core.List.{List}
-use Prim.Native.Nat.{ℕ}
+use Prim.Native.Nat.{ℕ, _<_}
 use Rattle.settings.specs.declared.Settings.{Settings}
+use Rattle.settings.specs.declared.Pairs.{Pairs}
 use Rattle.settings.specs.Accepted.{settings-refusal}
 use Rattle.c2_target.specs.declared.Target.{Target}
 use Rattle.c2_target.specs.declared.Replied.{Replied}
@@ -16,9 +17,9 @@ use Rattle.c2_target_state.specs.declared.Seen.the-variants.{Held}
 use Rattle.c2_target_state.specs.State.{state-of, target-of}
 use Rattle.c2_target_state.specs.Model.{gives, model-answer, model-flash}
 
--- The state of a target that exists is read back as that target.
+-- The state of a target that exists is read back as that target. The limit of a WAIT is a byte, as in C.
 abbrev pub State-reads : Type 0
-State-reads = (s : Settings) (t : Target) (f ds : List ℕ) → settings-refusal s ≡ 0 → known (setup s ds) t f ≡ true
+State-reads = (s : Settings) (w : Pairs) (t : Target) (f ds : List ℕ) → settings-refusal s ≡ 0 → s .wait < 256 → known (setup s w ds) t f ≡ true
     → target-of (state-of t) ≡ Held t
 
 -- What is read from a state has that state.
@@ -33,9 +34,10 @@ One-state = (t : Target) (a b : State) → target-of a ≡ Held t → target-of 
 abbrev pub state-answer : Replied → ModelReplied
 state-answer r = gives (r .number) (r .reply) (state-of (r .target))
 
--- A step on the state of a target that exists is the target's step: number and reply, the state, and the
--- flash.
+-- A step on the state of a target that exists is the target's step, whatever pairs it wants: number and
+-- reply, the state, and the flash.
 abbrev pub Steps-alike : Type 0
-Steps-alike = (s : Settings) (t : Target) (f ds : List ℕ) (x : ℕ) → settings-refusal s ≡ 0 → known (setup s ds) t f ≡ true
-    → (model-answer s (state-of t) f ds x ≡ state-answer (answer (setup s ds) t f x))
-    × (model-flash s (state-of t) f ds x ≡ flash-after (setup s ds) t f x)
+Steps-alike = (s : Settings) (w : Pairs) (t : Target) (f ds : List ℕ) (x : ℕ) → settings-refusal s ≡ 0 → s .wait < 256
+    → known (setup s w ds) t f ≡ true
+    → (model-answer s w (state-of t) f ds x ≡ state-answer (answer (setup s w ds) t f x))
+    × (model-flash s w (state-of t) f ds x ≡ flash-after (setup s w ds) t f x)

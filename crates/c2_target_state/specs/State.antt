@@ -13,6 +13,7 @@ use Rattle.c2_target.specs.declared.Effect.{Effect}
 use Rattle.c2_target.specs.declared.Effect.the-variants.{Nothing, SetAddress, Write, CountDown, Read}
 use Rattle.c2_target.specs.declared.Point.{Point}
 use Rattle.c2_target.specs.declared.Point.the-variants.{Start, Ins, WriteLength, ReadLength, Address, Data, LongData, Wait, Waiting, Send, Stop}
+use Rattle.c2_target.specs.declared.Met.{Met}
 use Rattle.c2_target.specs.declared.Target.{Target}
 use Rattle.c2_target.specs.Interface.{link, device}
 use Rattle.c2_target.specs.Strobes.{target}
@@ -85,14 +86,11 @@ output-fields (Status ok) = output-numbers 1 ok 0 0
 output-fields (StatusBlock a n) = output-numbers 2 false a n
 output-fields (Block a n) = output-numbers 3 false a n
 
--- the state of a target
-unfoldable pub state-of : Target → State
-state-of t =
+-- the state of a target whose point, command and output have these numbers
+abbrev pub state-with : Target → PointFields → CommandFields → OutputFields → State
+state-with t p c o =
     let d = t .device in
     let l = d .link in
-    let p = point-fields (t .point) in
-    let c = command-fields (l .command) in
-    let o = output-fields (l .output) in
     record {
       place = t .place;
       start = c .start;
@@ -110,6 +108,10 @@ state-of t =
       address = low (d .address);
       on = bit (d .on);
       keys = low (d .keys);
+      met1 = bit (d .met .first);
+      met2 = bit (d .met .second);
+      met3 = bit (d .met .third);
+      met4 = bit (d .met .fourth);
       command = c .command;
       write = c .write;
       page = c .page;
@@ -119,6 +121,12 @@ state-of t =
       busy = low (l .busy);
       late = low (l .late);
     }
+
+-- the state of a target
+unfoldable pub state-of : Target → State
+state-of t =
+    let l = t .device .link in
+    state-with t (point-fields (t .point)) (command-fields (l .command)) (output-fields (l .output))
 
 -- what a frame does at its STOP, as the numbers of any state say it
 unfoldable pub effect-of : (effect byte : ℕ) → Effect
@@ -167,13 +175,18 @@ output-of s =
     (cond (eqb (s .output) 2) (StatusBlock (s .next) (s .count))
     (Block (s .next) (s .count))))
 
+-- which wanted pairs are met, as the numbers of any state say it
+unfoldable pub met-of : State → Met
+met-of s = record { first = eqb (s .met1) 1; second = eqb (s .met2) 1; third = eqb (s .met3) 1; fourth = eqb (s .met4) 1 }
+
 -- the target that the numbers of any state say
 unfoldable pub target-read : State → Target
 target-read s =
     target (state-point s) (s .place) (eqb (s .collision) 1)
-    (device (s .address) (eqb (s .on) 1) (s .keys) (link (command-of s) (output-of s) (s .busy) (s .late)))
+    (device (s .address) (eqb (s .on) 1) (s .keys) (met-of s) (link (command-of s) (output-of s) (s .busy) (s .late)))
 
--- Whether two states are the same, number by number: in the point, the device, the command and the output.
+-- Whether two states are the same, number by number: in the point, the device, the wanted pairs that are met,
+-- the command and the output.
 unfoldable pub same-point : State → State → Bool
 same-point a b =
     eqb (a .point) (b .point)
@@ -188,6 +201,10 @@ same-device a b =
     && (eqb (a .address) (b .address)
     && (eqb (a .on) (b .on) && (eqb (a .keys) (b .keys) && (eqb (a .busy) (b .busy) && eqb (a .late) (b .late))))))
 
+unfoldable pub same-met : State → State → Bool
+same-met a b =
+    eqb (a .met1) (b .met1) && (eqb (a .met2) (b .met2) && (eqb (a .met3) (b .met3) && eqb (a .met4) (b .met4)))
+
 unfoldable pub same-command : State → State → Bool
 same-command a b =
     eqb (a .command) (b .command)
@@ -199,7 +216,7 @@ same-output a b =
     eqb (a .output) (b .output) && (eqb (a .passed) (b .passed) && (eqb (a .next) (b .next) && eqb (a .count) (b .count)))
 
 unfoldable pub same-state : State → State → Bool
-same-state a b = same-point a b && (same-device a b && (same-command a b && same-output a b))
+same-state a b = same-point a b && (same-device a b && (same-met a b && (same-command a b && same-output a b)))
 
 -- The target of which this is the state. A tag that does not exist, a truth value above 1 and a number that
 -- is not in use and not 0 make a state that is no target's.

@@ -1,6 +1,6 @@
 // The target that a state's numbers say.
 ghost use mathlib.Core.Path.{_≡_};
-ghost use Rattle.c2_target_state.specs.State.{effect-of, state-point, command-of, output-of, later-point, target-read};
+ghost use Rattle.c2_target_state.specs.State.{effect-of, state-point, command-of, output-of, later-point, met-of, target-read};
 use crate::State;
 use crate::fields::wide;
 use crate::fields::wide16;
@@ -8,6 +8,7 @@ use c2_target::Command;
 use c2_target::Device;
 use c2_target::Effect;
 use c2_target::Link;
+use c2_target::Met;
 use c2_target::Output;
 use c2_target::Point;
 use c2_target::Target;
@@ -166,6 +167,18 @@ fn output_of(s: State) -> Output
     }
 }
 
+// Which wanted pairs are met, as the numbers of any state say it.
+fn met_of(s: State) -> Met
+    ensures { λ r. ⌜ r ≡ met-of s ⌝ }
+{
+    Met {
+        first: s.met1 == 1,
+        second: s.met2 == 1,
+        third: s.met3 == 1,
+        fourth: s.met4 == 1,
+    }
+}
+
 // The target that the numbers of any state say.
 pub(crate) fn target_read(s: State) -> Target
     ensures { λ r. ⌜ r ≡ target-read s ⌝ }
@@ -180,6 +193,7 @@ pub(crate) fn target_read(s: State) -> Target
         address: wide(s.address),
         on: s.on == 1,
         keys: wide(s.keys),
+        met: met_of(s),
         link: link,
     };
     Target {

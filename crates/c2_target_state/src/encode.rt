@@ -1,6 +1,7 @@
 // The state of a target: its numbers, those that are not in use 0.
 ghost use mathlib.Core.Path.{_≡_};
-ghost use Rattle.c2_target_state.specs.State.{effect-code, effect-byte, fields, point-fields, command-fields, output-fields, command-numbers, output-numbers, state-of};
+ghost use Rattle.c2_target_state.specs.Code.Inside.{point-moved};
+ghost use Rattle.c2_target_state.specs.State.{effect-code, effect-byte, fields, point-fields, command-fields, output-fields, command-numbers, output-numbers, state-with, state-of};
 use crate::CommandFields;
 use crate::OutputFields;
 use crate::PointFields;
@@ -142,18 +143,13 @@ fn output_fields(output: Output) -> OutputFields
     }
 }
 
-// The state of a target.
-pub(crate) fn state_of(target: Target) -> State
-    ensures { λ r. ⌜ r ≡ state-of target ⌝ }
+// The state of a target whose point, command and output have these numbers.
+fn state_with(target: Target, p: PointFields, c: CommandFields, o: OutputFields) -> State
+    ensures { λ r. ⌜ r ≡ state-with target p c o ⌝ }
 {
     let device = target.device;
+    let met = device.met;
     let link = device.link;
-    let point = target.point;
-    let command = link.command;
-    let output = link.output;
-    let p = point_fields(point);
-    let c = command_fields(command);
-    let o = output_fields(output);
     State {
         place: target.place as u64,
         start: c.start,
@@ -171,6 +167,10 @@ pub(crate) fn state_of(target: Target) -> State
         address: low(device.address),
         on: flag(device.on),
         keys: low(device.keys),
+        met1: flag(met.first),
+        met2: flag(met.second),
+        met3: flag(met.third),
+        met4: flag(met.fourth),
         command: c.command,
         write: c.write,
         page: c.page,
@@ -179,5 +179,60 @@ pub(crate) fn state_of(target: Target) -> State
         passed: o.passed,
         busy: low(link.busy),
         late: low(link.late),
+    }
+}
+
+// The state of a target.
+pub(crate) fn state_of(target: Target) -> State
+    ensures { λ r. ⌜ r ≡ state-of target ⌝ }
+{
+    let device = target.device;
+    let link = device.link;
+    let point = target.point;
+    let command = link.command;
+    let output = link.output;
+    state_with(
+        target,
+        point_fields(point),
+        command_fields(command),
+        output_fields(output),
+    )
+}
+
+// The state of a target that has the device of this state's.
+pub(crate) fn point_moved(s: State, target: Target) -> State
+    ensures { λ r. ⌜ r ≡ point-moved s target ⌝ }
+{
+    let point = target.point;
+    let p = point_fields(point);
+    State {
+        place: target.place as u64,
+        start: s.start,
+        rest: s.rest,
+        next: s.next,
+        count: s.count,
+        point: p.point,
+        heard: p.heard,
+        value: p.value,
+        left: p.left,
+        zeros: p.zeros,
+        effect: p.effect,
+        byte: p.byte,
+        collision: flag(target.collision),
+        address: s.address,
+        on: s.on,
+        keys: s.keys,
+        met1: s.met1,
+        met2: s.met2,
+        met3: s.met3,
+        met4: s.met4,
+        command: s.command,
+        write: s.write,
+        page: s.page,
+        high: s.high,
+        output: s.output,
+        passed: s.passed,
+        busy: s.busy,
+        late: s.late,
     }
 }

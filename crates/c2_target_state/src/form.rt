@@ -1,7 +1,7 @@
 // Which states some target has, by their numbers: tags exist, truth values are 0 or 1, numbers that are not
 // in use are 0.
 ghost use mathlib.Core.Path.{_≡_};
-ghost use Rattle.c2_target_state.specs.Code.Form.{none, effect-in-form, later-in-form, point-in-form, early-in-form, command-in-form, output-in-form, in-form};
+ghost use Rattle.c2_target_state.specs.Code.Form.{none, effect-in-form, later-in-form, point-in-form, early-in-form, command-in-form, output-in-form, met-in-form, flags-in-form, in-form};
 use crate::State;
 use crate::fields::wide;
 use crate::fields::wide16;
@@ -145,26 +145,40 @@ fn output_in_form(output: u8, passed: u8, next: u16, count: u16) -> bool
     false
 }
 
-// Whether a state is in form, and so is that of the target that it says: tags exist, truth values are 0 or 1,
-// and numbers that are not in use are 0.
-pub(crate) fn in_form(s: State) -> bool
-    ensures { λ r. ⌜ r ≡ in-form s ⌝ }
+fn met_in_form(met1: u8, met2: u8, met3: u8, met4: u8) -> bool
+    ensures { λ r. ⌜ r ≡ met-in-form met1 met2 met3 met4 ⌝ }
+{
+    if met1 < 2 {
+        if met2 < 2 {
+            if met3 < 2 {
+                return met4 < 2;
+            }
+        }
+    }
+    false
+}
+
+// Whether the truth values of a state that stand in no tag's group are 0 or 1.
+fn flags_in_form(s: State) -> bool
+    ensures { λ r. ⌜ r ≡ flags-in-form s ⌝ }
 {
     if s.collision < 2 {
         if s.on < 2 {
+            return met_in_form(s.met1, s.met2, s.met3, s.met4);
+        }
+    }
+    false
+}
+
+// Whether a state is in form, and so is that of the target that it says: tags exist, truth values are 0 or 1,
+// and numbers that are not in use are 0. With the point first the compiler keeps fewer numbers at hand.
+pub(crate) fn in_form(s: State) -> bool
+    ensures { λ r. ⌜ r ≡ in-form s ⌝ }
+{
+    if point_in_form(s.point, s.heard, s.value, s.left, s.zeros, s.effect, s.byte) {
+        if flags_in_form(s) {
             if output_in_form(s.output, s.passed, s.next, s.count) {
-                if command_in_form(s.command, s.write, s.page, s.high, s.start, s.rest) {
-                    return point_in_form(
-                        s.point,
-                        s.heard,
-                        s.value,
-                        s.left,
-                        s.zeros,
-                        s.effect,
-                        s.byte,
-                    );
-                }
-                return false;
+                return command_in_form(s.command, s.write, s.page, s.high, s.start, s.rest);
             }
             return false;
         }

@@ -41,6 +41,12 @@ pub struct State {
     pub address: u8,
     pub on: u8,
     pub keys: u8,
+    // of each of the four pairs that the device may want, in their order: 1 where the last value written to
+    // its register since the reset is the wanted one
+    pub met1: u8,
+    pub met2: u8,
+    pub met3: u8,
+    pub met4: u8,
     // the byte that the command waits for: 0 a new command, 1 the page of an erase, 2 its 0x00, 3 a block's
     // high byte, 4 its low byte, 5 its length code, 6 a byte to write, 7 a byte past the end
     pub command: u8,

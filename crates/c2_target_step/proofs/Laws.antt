@@ -2,3 +2,4 @@
 pub mod Target
 pub mod Known
 pub mod Flash
+pub mod Loop

@@ -1,4 +1,4 @@
 -- For the code: nothing here needs to be believed. The head of each module names the law that joins it to the
 -- definitions.
 pub mod Parts
-pub mod StepOn
+pub mod Closed

@@ -1,11 +1,11 @@
 // The commands of the Programming Interface, byte by byte, and their output.
 ghost use mathlib.Core.Path.{_≡_};
-ghost use mathlib.Core.Bool.{true, cond};
+ghost use mathlib.Core.Bool.{Bool, true, cond};
 ghost use mathlib.Core.List.{List, []};
 ghost use Prim.Native.Nat.{ℕ, _+_, _<_, _≤_};
 ghost use lib.ListN.{length};
 ghost use Rattle.c2_order.specs.Acts.{coded-length};
-ghost use Rattle.c2_target.specs.Commands.{opens, takes-put, some-output, first-byte, other-bytes};
+ghost use Rattle.c2_target.specs.Commands.{put-taken, opens, takes-put, some-output, first-byte, other-bytes};
 ghost use Rattle.c2_target.specs.Known.{known-command, known-output};
 ghost use Rattle.c2_target_step.specs.Code.Parts.{put-taking};
 use crate::BLOCK_READ;
@@ -90,21 +90,31 @@ pub(crate) fn other_bytes(output: Output, flash: &[u8]) -> Output
     }
 }
 
-// A new command: the three that are known, and any other byte.
-fn opens(byte: usize) -> Taking
-    ensures { λ r. ⌜ ((f : List ℕ) → r ≡ put-taking (opens byte f)) ⌝ }
+// A command that only a prepared device takes; any other turns it away with status 0x00.
+fn if_ready(ready: bool, command: Command) -> Taking
+    ensures { λ r. ⌜ r ≡ put-taking (put-taken (cond ready command Command.Ready) (Output.Status ready) []) ⌝ }
 {
-    if byte == PAGE_ERASE {
+    if ready {
         return Taking {
-            command: Command::ErasePage,
+            command: command,
             output: Output::Status { passed: true },
         };
     }
+    Taking {
+        command: Command::Ready,
+        output: Output::Status { passed: false },
+    }
+}
+
+// A new command: the three that are known, and any other byte. Erase and block write need a prepared device.
+fn opens(ready: bool, byte: usize) -> Taking
+    ensures { λ r. ⌜ ((f : List ℕ) → r ≡ put-taking (opens ready byte f)) ⌝ }
+{
+    if byte == PAGE_ERASE {
+        return if_ready(ready, Command::ErasePage);
+    }
     if byte == BLOCK_WRITE {
-        return Taking {
-            command: Command::High { write: true },
-            output: Output::Status { passed: true },
-        };
+        return if_ready(ready, Command::High { write: true });
     }
     if byte == BLOCK_READ {
         return Taking {
@@ -120,7 +130,7 @@ fn opens(byte: usize) -> Taking
 
 // What the page of an erase does.
 fn page_taken(t: Settings, page: usize) -> Taking
-    ensures { λ r. ⌜ ((f : List ℕ) → r ≡ put-taking (takes-put t Command.ErasePage page f)) ⌝ }
+    ensures { λ r. ⌜ ((f : List ℕ) → r ≡ put-taking (takes-put t true Command.ErasePage page f)) ⌝ }
 {
     if page < (t.count as usize) {
         return Taking {
@@ -136,7 +146,7 @@ fn page_taken(t: Settings, page: usize) -> Taking
 
 // What the byte after the page of an erase does: only 0x00 erases.
 fn confirm_taken(byte: usize) -> Taking
-    ensures { λ r. ⌜ ((t : Settings) (page : ℕ) (f : List ℕ) → r ≡ put-taking (takes-put t (Command.EraseConfirm page) byte f)) ⌝ }
+    ensures { λ r. ⌜ ((t : Settings) (page : ℕ) (f : List ℕ) → r ≡ put-taking (takes-put t true (Command.EraseConfirm page) byte f)) ⌝ }
 {
     if byte == CONFIRM {
         return Taking {
@@ -153,7 +163,7 @@ fn confirm_taken(byte: usize) -> Taking
 fn low_taken(write: bool, high: usize, low: usize) -> Taking
     requires { ⌜ high < 256 ⌝ }
     requires { ⌜ low < 256 ⌝ }
-    ensures { λ r. ⌜ ((t : Settings) → r ≡ put-taking (takes-put t (Command.Low write high) low [])) ⌝ }
+    ensures { λ r. ⌜ ((t : Settings) → r ≡ put-taking (takes-put t true (Command.Low write high) low [])) ⌝ }
 {
     Taking {
         command: Command::LengthCode {
@@ -175,7 +185,7 @@ fn coded_length(code: usize) -> usize
 
 // What the length code of a block does. The bytes of a block write past the end are first taken.
 fn length_taken(write: bool, address: usize, code: usize, flash: &[u8]) -> Taking
-    ensures { λ r. ⌜ ((t : Settings) → r ≡ put-taking (takes-put t (Command.LengthCode write address) code (now (flash .entry)))) ⌝ }
+    ensures { λ r. ⌜ ((t : Settings) (ready : Bool) → r ≡ put-taking (takes-put t ready (Command.LengthCode write address) code (now (flash .entry)))) ⌝ }
 {
     let count = coded_length(code);
     if write {
@@ -211,7 +221,7 @@ fn length_taken(write: bool, address: usize, code: usize, flash: &[u8]) -> Takin
 // What a byte of a block write does: the status follows the last.
 fn byte_taken(address: usize, left: usize, flash: &[u8]) -> Taking
     requires { ⌜ address + left ≤ length (now flash) ⌝ }
-    ensures { λ r. ⌜ ((t : Settings) (byte : ℕ) → r ≡ put-taking (takes-put t (Command.Byte address left) byte [])) ⌝ }
+    ensures { λ r. ⌜ ((t : Settings) (byte : ℕ) → r ≡ put-taking (takes-put t true (Command.Byte address left) byte [])) ⌝ }
 {
     if 1 < left {
         return Taking {
@@ -229,7 +239,7 @@ fn byte_taken(address: usize, left: usize, flash: &[u8]) -> Taking
 }
 
 fn past_end_taken(left: usize) -> Taking
-    ensures { λ r. ⌜ ((t : Settings) (byte : ℕ) → r ≡ put-taking (takes-put t (Command.PastEnd left) byte [])) ⌝ }
+    ensures { λ r. ⌜ ((t : Settings) (byte : ℕ) → r ≡ put-taking (takes-put t true (Command.PastEnd left) byte [])) ⌝ }
 {
     if 1 < left {
         return Taking {
@@ -244,13 +254,13 @@ fn past_end_taken(left: usize) -> Taking
 }
 
 // What a byte put makes of the command and of the output: it is the command's next byte.
-pub(crate) fn takes(t: Settings, command: Command, byte: usize, flash: &[u8]) -> Taking
+pub(crate) fn takes(t: Settings, ready: bool, command: Command, byte: usize, flash: &[u8]) -> Taking
     requires { ⌜ known-command (t .count) (length (now flash)) command ≡ true ⌝ }
     requires { ⌜ byte < 256 ⌝ }
-    ensures { λ r. ⌜ r ≡ put-taking (takes-put t command byte (now (flash .entry))) ⌝ }
+    ensures { λ r. ⌜ r ≡ put-taking (takes-put t ready command byte (now (flash .entry))) ⌝ }
 {
     match command {
-        Command::Ready => opens(byte),
+        Command::Ready => opens(ready, byte),
         Command::ErasePage => page_taken(t, byte),
         Command::EraseConfirm { page: _ } => confirm_taken(byte),
         Command::High { write } => Taking {

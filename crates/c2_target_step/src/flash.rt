@@ -59,19 +59,20 @@ fn store(flash: &mut [u8], address: usize, byte: usize)
 // What the last byte of an erase makes of the flash: the page is erased at the put of 0x00.
 fn confirm_writes(t: Settings, page: usize, byte: usize, flash: &mut [u8])
     requires { ⌜ page * t .size + t .size ≤ length (now flash) ⌝ }
-    ensures { λ r. ⌜ now (flash .exit) ≡ takes-put t (Command.EraseConfirm page) byte (now (flash .entry)) .flash ⌝ }
+    ensures { λ r. ⌜ now (flash .exit) ≡ takes-put t true (Command.EraseConfirm page) byte (now (flash .entry)) .flash ⌝ }
 {
     if byte == CONFIRM {
         erase(flash, t.size as usize, page);
     }
 }
 
-// What a byte put makes of the flash.
+// What a byte put makes of the flash, whether the device is prepared or not: a command that is turned away
+// has not begun.
 pub(crate) fn put_writes(t: Settings, command: Command, byte: usize, flash: &mut [u8])
     requires { ⌜ known-command (t .count) (length (now flash)) command ≡ true ⌝ }
     requires { ⌜ length (now flash) ≡ t .size * t .count ⌝ }
     requires { ⌜ byte < 256 ⌝ }
-    ensures { λ r. ⌜ now (flash .exit) ≡ takes-put t command byte (now (flash .entry)) .flash ⌝ }
+    ensures { λ r. ⌜ now (flash .exit) ≡ takes-put t true command byte (now (flash .entry)) .flash ⌝ }
 {
     match command {
         Command::EraseConfirm { page } => return confirm_writes(t, page, byte, flash),

@@ -6,11 +6,12 @@ ghost use mathlib.Core.List.{[]};
 ghost use Prim.Native.Nat.{_-_, _*_, _<_, _≤_};
 ghost use lib.ListN.{length};
 ghost use Rattle.c2_wire.specs.Bits.{bit};
+ghost use Rattle.settings.specs.Registers.{no-pairs};
 ghost use Rattle.c2_target.specs.Delays.{setup};
 ghost use Rattle.c2_target.specs.Commands.{first-byte};
-ghost use Rattle.c2_target.specs.Interface.{link, device, in-busy, out-ready, status-bits, linked, shown, given, late-of, place-after, put-byte, get-byte, counted, next-keys, begun, acted, served, with-served, frame-does};
+ghost use Rattle.c2_target.specs.Interface.{link, device, in-busy, out-ready, status-bits, linked, shown, given, late-of, place-after, put-byte, get-byte, counted, next-keys, begun, acted, served, with-met, with-served, frame-does};
 ghost use Rattle.c2_target.specs.Known.{known-effect, known-command, known-output, known-link};
-ghost use Rattle.c2_target_step.specs.Code.Parts.{stopped, put-taking, effect-flash};
+ghost use Rattle.c2_target_step.specs.Code.Parts.{stopped, effect-flash};
 use crate::FPCTL;
 use crate::KEY_1;
 use crate::KEY_2;
@@ -27,8 +28,12 @@ use crate::flash::put_writes;
 use c2_target::Device;
 use c2_target::Effect;
 use c2_target::Link;
+use c2_target::Met;
 use c2_target::Point;
 use c2_target::Target;
+use c2_target_wanted::met_written;
+use c2_target_wanted::prepared;
+use settings::Pairs;
 use settings::Settings;
 
 fn bit(one: bool) -> usize
@@ -172,12 +177,14 @@ pub(crate) fn given(d: Device, t: Settings, flash: &[u8]) -> usize
 pub(crate) fn begun(d: Device) -> Device
     ensures { λ r. ⌜ r ≡ begun d ⌝ }
 {
+    let met = d.met;
     let link = d.link;
     if d.keys == 3 {
         return Device {
             address: d.address,
             on: d.on,
             keys: 0,
+            met: met,
             link: link,
         };
     }
@@ -200,6 +207,7 @@ fn served(y: Target, keys: usize, link: Link, place: usize) -> Target
     ensures { λ r. ⌜ r ≡ stopped y (with-served (y .device) keys (served link place [])) ⌝ }
 {
     let device = y.device;
+    let met = device.met;
     idle(
         y,
         place,
@@ -207,6 +215,7 @@ fn served(y: Target, keys: usize, link: Link, place: usize) -> Target
             address: device.address,
             on: device.on,
             keys: keys,
+            met: met,
             link: link,
         },
     )
@@ -253,10 +262,18 @@ fn awaits(
 }
 
 // The target after a byte put, which takes a delay d, then e.
-fn puts(y: Target, t: Settings, keys: usize, byte: usize, flash: &[u8], delays: &[u8]) -> Target
+fn puts(
+    y: Target,
+    t: Settings,
+    ready: bool,
+    keys: usize,
+    byte: usize,
+    flash: &[u8],
+    delays: &[u8],
+) -> Target
     requires { ⌜ known-command (t .count) (length (now flash)) (y .device .link .command) ≡ true ⌝ }
     requires { ⌜ byte < 256 ⌝ }
-    ensures { λ r. ⌜ r ≡ stopped y (with-served (y .device) keys (put-byte (setup t (now (delays .entry))) (y .device .link) byte (y .place) (now (flash .entry)))) ⌝ }
+    ensures { λ r. ⌜ ((w : Pairs) → r ≡ stopped y (with-served (y .device) keys (put-byte (setup t w (now (delays .entry))) ready (y .device .link) byte (y .place) (now (flash .entry))))) ⌝ }
 {
     let place = y.place;
     let device = y.device;
@@ -265,7 +282,7 @@ fn puts(y: Target, t: Settings, keys: usize, byte: usize, flash: &[u8], delays: 
     awaits(
         y,
         keys,
-        takes(t, command, byte, flash),
+        takes(t, ready, command, byte, flash),
         delay(delays, place),
         next_place(delays, place),
         delays,
@@ -276,7 +293,7 @@ fn puts(y: Target, t: Settings, keys: usize, byte: usize, flash: &[u8], delays: 
 // taken.
 fn gets(y: Target, flash: &[u8], delays: &[u8]) -> Target
     requires { ⌜ known-output (length (now flash)) (y .device .link .output) ≡ true ⌝ }
-    ensures { λ r. ⌜ ((t : Settings) → r ≡ stopped y (with-served (y .device) (y .device .keys) (get-byte (setup t (now (delays .entry))) (y .device .link) (y .place) (now (flash .entry))))) ⌝ }
+    ensures { λ r. ⌜ ((t : Settings) (w : Pairs) → r ≡ stopped y (with-served (y .device) (y .device .keys) (get-byte (setup t w (now (delays .entry))) (y .device .link) (y .place) (now (flash .entry))))) ⌝ }
 {
     let device = y.device;
     let link = device.link;
@@ -299,9 +316,10 @@ fn gets(y: Target, flash: &[u8], delays: &[u8]) -> Target
 }
 
 fn addressed(y: Target, address: usize) -> Target
-    ensures { λ r. ⌜ ((t : Settings) → r ≡ stopped y (frame-does (setup t []) (Effect.SetAddress address) (y .device) (y .place) [])) ⌝ }
+    ensures { λ r. ⌜ ((t : Settings) → r ≡ stopped y (frame-does (setup t no-pairs []) (Effect.SetAddress address) (y .device) (y .place) [])) ⌝ }
 {
     let device = y.device;
+    let met = device.met;
     let link = device.link;
     idle(
         y,
@@ -310,28 +328,48 @@ fn addressed(y: Target, address: usize) -> Target
             address: address,
             on: device.on,
             keys: device.keys,
+            met: met,
             link: link,
         },
     )
 }
 
-// The target after a Data Write: at FPDAT it is a put; elsewhere it writes nothing.
-fn writes(y: Target, t: Settings, byte: usize, flash: &[u8], delays: &[u8]) -> Target
-    requires { ⌜ known-command (t .count) (length (now flash)) (y .device .link .command) ≡ true ⌝ }
-    requires { ⌜ byte < 256 ⌝ }
-    ensures { λ r. ⌜ r ≡ stopped y (frame-does (setup t (now (delays .entry))) (Effect.Write byte) (y .device) (y .place) (now (flash .entry))) ⌝ }
+// The target after a Data Write that is no put: it writes a register, which only the wanted pairs show.
+fn register_written(y: Target, keys: usize, met: Met) -> Target
+    ensures { λ r. ⌜ r ≡ stopped y (with-served (with-met met (y .device)) keys (served (y .device .link) (y .place) [])) ⌝ }
 {
     let device = y.device;
     let link = device.link;
+    idle(
+        y,
+        y.place,
+        Device {
+            address: device.address,
+            on: device.on,
+            keys: keys,
+            met: met,
+            link: link,
+        },
+    )
+}
+
+// The target after a Data Write: at FPDAT it is a put; elsewhere it writes a register.
+fn writes(y: Target, t: Settings, wanted: Pairs, byte: usize, flash: &[u8], delays: &[u8]) -> Target
+    requires { ⌜ known-command (t .count) (length (now flash)) (y .device .link .command) ≡ true ⌝ }
+    requires { ⌜ byte < 256 ⌝ }
+    ensures { λ r. ⌜ r ≡ stopped y (frame-does (setup t wanted (now (delays .entry))) (Effect.Write byte) (y .device) (y .place) (now (flash .entry))) ⌝ }
+{
+    let device = y.device;
+    let met = device.met;
     let keys = next_keys(device.address, device.keys, byte);
     if linked(device, t) {
-        return puts(y, t, keys, byte, flash, delays);
+        return puts(y, t, prepared(wanted, met), keys, byte, flash, delays);
     }
-    served(y, keys, link, y.place)
+    register_written(y, keys, met_written(wanted, device.address, byte, met))
 }
 
 fn counts_down(y: Target, t: Settings) -> Target
-    ensures { λ r. ⌜ r ≡ stopped y (frame-does (setup t []) Effect.CountDown (y .device) (y .place) []) ⌝ }
+    ensures { λ r. ⌜ r ≡ stopped y (frame-does (setup t no-pairs []) Effect.CountDown (y .device) (y .place) []) ⌝ }
 {
     let device = y.device;
     let link = device.link;
@@ -343,7 +381,7 @@ fn counts_down(y: Target, t: Settings) -> Target
 
 fn reads(y: Target, t: Settings, flash: &[u8], delays: &[u8]) -> Target
     requires { ⌜ known-output (length (now flash)) (y .device .link .output) ≡ true ⌝ }
-    ensures { λ r. ⌜ r ≡ stopped y (frame-does (setup t (now (delays .entry))) Effect.Read (y .device) (y .place) (now (flash .entry))) ⌝ }
+    ensures { λ r. ⌜ ((w : Pairs) → r ≡ stopped y (frame-does (setup t w (now (delays .entry))) Effect.Read (y .device) (y .place) (now (flash .entry)))) ⌝ }
 {
     let device = y.device;
     let link = device.link;
@@ -354,16 +392,23 @@ fn reads(y: Target, t: Settings, flash: &[u8], delays: &[u8]) -> Target
 }
 
 // What a frame does at its STOP.
-pub(crate) fn does(y: Target, t: Settings, effect: Effect, flash: &[u8], delays: &[u8]) -> Target
+pub(crate) fn does(
+    y: Target,
+    t: Settings,
+    wanted: Pairs,
+    effect: Effect,
+    flash: &[u8],
+    delays: &[u8],
+) -> Target
     requires { ⌜ known-link (t .count) (length (now flash)) (y .device .link) ≡ true ⌝ }
     requires { ⌜ known-effect effect ≡ true ⌝ }
-    ensures { λ r. ⌜ r ≡ stopped y (frame-does (setup t (now (delays .entry))) effect (y .device) (y .place) (now (flash .entry))) ⌝ }
+    ensures { λ r. ⌜ r ≡ stopped y (frame-does (setup t wanted (now (delays .entry))) effect (y .device) (y .place) (now (flash .entry))) ⌝ }
 {
     let device = y.device;
     match effect {
         Effect::Nothing => idle(y, y.place, device),
         Effect::SetAddress(address) => addressed(y, address),
-        Effect::Write(byte) => writes(y, t, byte, flash, delays),
+        Effect::Write(byte) => writes(y, t, wanted, byte, flash, delays),
         Effect::CountDown => counts_down(y, t),
         Effect::Read => reads(y, t, flash, delays),
     }

@@ -1,4 +1,6 @@
-// One step of the modelled target: a step on the wire in, a reply out. It is lent its flash and its delays.
+// The modelled target in code, lent its flash and its delays: one step, a step on the wire in and a reply out;
+// and a session played against it, which hands the target on from step to step.
+use c2_session::Point;
 use c2_target::Command;
 use c2_target::Output;
 
@@ -6,12 +8,22 @@ mod commands;
 mod delays;
 mod flash;
 mod interface;
-mod known;
+mod playing;
+mod same;
 mod steps;
 mod strobes;
 
+pub use playing::play;
 pub use steps::step;
-pub use steps::step_on;
+
+// How far a session was played: the number by which the target refused its first step, or 0; the session's
+// point, the replies that it took, and whether the target has marked a collision.
+pub struct Ran {
+    pub number: u32,
+    pub point: Point,
+    pub replies: usize,
+    pub collision: bool,
+}
 
 // What a byte put makes of the command and of the output.
 struct Taking {

@@ -2,17 +2,17 @@
 ghost use mathlib.Core.Path.{_≡_};
 ghost use mathlib.Core.Bool.{true};
 ghost use mathlib.Core.List.{List, []};
-ghost use Prim.Native.Nat.{ℕ, _<_};
+ghost use Prim.Native.Nat.{ℕ, _%_, _<_};
 ghost use lib.Dec.{eqb};
 ghost use lib.ListN.{length};
 ghost use Rattle.c2_wire.specs.Bits.{bit};
 ghost use Rattle.c2_target.specs.declared.Point.the-variants.{Start, Wait, Waiting, Send};
+ghost use Rattle.settings.specs.Registers.{no-pairs};
 ghost use Rattle.c2_target.specs.Delays.{setup};
 ghost use Rattle.c2_target.specs.Interface.{link, device};
 ghost use Rattle.c2_target.specs.Strobes.{target, line, marked, with-bit, sending, frame-begins, after-ins, after-write-length, after-read-length, after-address, after-data, after-long-data, value-sent, after-wait, hears-bit, strobed-at, strobed};
-ghost use Rattle.c2_target.specs.Known.{known-effect, known-link};
+ghost use Rattle.c2_target.specs.Known.{known-effect, known-link, known};
 ghost use Rattle.c2_target.specs.Target.{step-coded};
-ghost use Rattle.c2_target_step.specs.Code.StepOn.{known-on};
 ghost use Rattle.c2_target_step.specs.Code.Parts.{replying, turn-replied, strobe-flash};
 use crate::delays::delay;
 use crate::delays::next_place;
@@ -29,6 +29,7 @@ use c2_target::Replied;
 use c2_target::Target;
 use c2_wire::HIGH;
 use c2_wire::LOW;
+use settings::Pairs;
 use settings::Settings;
 
 // The bit on the line in a strobe of the master's: a released one reads 1.
@@ -197,7 +198,7 @@ fn after_long_data(left: usize) -> Point
 
 // The value of the bits that are sent after a WAIT.
 fn value_sent(t: Settings, effect: Effect, device: Device, flash: &[u8]) -> usize
-    ensures { λ r. ⌜ ((ds : List ℕ) → r ≡ value-sent (setup t ds) effect device (now (flash .entry))) ⌝ }
+    ensures { λ r. ⌜ ((w : Pairs) (ds : List ℕ) → r ≡ value-sent (setup t w ds) effect device (now (flash .entry))) ⌝ }
 {
     match effect {
         Effect::Nothing => 0,
@@ -217,7 +218,7 @@ fn after_wait(
     device: Device,
     flash: &[u8],
 ) -> Point
-    ensures { λ r. ⌜ ((ds : List ℕ) → r ≡ after-wait (setup t ds) zeros left effect device (now (flash .entry))) ⌝ }
+    ensures { λ r. ⌜ ((w : Pairs) (ds : List ℕ) → r ≡ after-wait (setup t w ds) zeros left effect device (now (flash .entry))) ⌝ }
 {
     if zeros == 0 {
         return sending(left, value_sent(t, effect, device, flash), effect);
@@ -227,6 +228,16 @@ fn after_wait(
         left: left,
         effect: effect,
     }
+}
+
+// A WAIT sends as many zeros as its delay modulo the limit.
+fn zeros_of(delay: usize, limit: usize) -> usize
+    ensures { λ r. ⌜ r ≡ delay % limit ⌝ }
+{
+    if limit == 0 {
+        return delay;
+    }
+    delay % limit
 }
 
 fn ends(zeros: usize) -> u32
@@ -258,7 +269,7 @@ fn hears(y: Target, x: u8, point: Point) -> Replied
 fn hears_ins(y: Target, t: Settings, heard: usize, value: usize, x: u8) -> Replied
     requires { ⌜ heard < 8 ⌝ }
     requires { ⌜ value < 256 ⌝ }
-    ensures { λ r. ⌜ r ≡ turn-replied (strobed-at (setup t []) (Point.Ins heard value) y [] (step-coded x)) ⌝ }
+    ensures { λ r. ⌜ r ≡ turn-replied (strobed-at (setup t no-pairs []) (Point.Ins heard value) y [] (step-coded x)) ⌝ }
 {
     let device = y.device;
     hears(
@@ -271,7 +282,7 @@ fn hears_ins(y: Target, t: Settings, heard: usize, value: usize, x: u8) -> Repli
 fn hears_write_length(y: Target, heard: usize, value: usize, x: u8) -> Replied
     requires { ⌜ heard < 8 ⌝ }
     requires { ⌜ value < 256 ⌝ }
-    ensures { λ r. ⌜ ((t : Settings) → r ≡ turn-replied (strobed-at (setup t []) (Point.WriteLength heard value) y [] (step-coded x))) ⌝ }
+    ensures { λ r. ⌜ ((t : Settings) → r ≡ turn-replied (strobed-at (setup t no-pairs []) (Point.WriteLength heard value) y [] (step-coded x))) ⌝ }
 {
     hears(
         y,
@@ -283,7 +294,7 @@ fn hears_write_length(y: Target, heard: usize, value: usize, x: u8) -> Replied
 fn hears_read_length(y: Target, heard: usize, value: usize, x: u8) -> Replied
     requires { ⌜ heard < 8 ⌝ }
     requires { ⌜ value < 256 ⌝ }
-    ensures { λ r. ⌜ ((t : Settings) → r ≡ turn-replied (strobed-at (setup t []) (Point.ReadLength heard value) y [] (step-coded x))) ⌝ }
+    ensures { λ r. ⌜ ((t : Settings) → r ≡ turn-replied (strobed-at (setup t no-pairs []) (Point.ReadLength heard value) y [] (step-coded x))) ⌝ }
 {
     hears(
         y,
@@ -295,7 +306,7 @@ fn hears_read_length(y: Target, heard: usize, value: usize, x: u8) -> Replied
 fn hears_address(y: Target, heard: usize, value: usize, x: u8) -> Replied
     requires { ⌜ heard < 8 ⌝ }
     requires { ⌜ value < 256 ⌝ }
-    ensures { λ r. ⌜ ((t : Settings) → r ≡ turn-replied (strobed-at (setup t []) (Point.Address heard value) y [] (step-coded x))) ⌝ }
+    ensures { λ r. ⌜ ((t : Settings) → r ≡ turn-replied (strobed-at (setup t no-pairs []) (Point.Address heard value) y [] (step-coded x))) ⌝ }
 {
     hears(y, x, after_address(heard + 1, with_bit(heard, value, x)))
 }
@@ -303,7 +314,7 @@ fn hears_address(y: Target, heard: usize, value: usize, x: u8) -> Replied
 fn hears_data(y: Target, heard: usize, value: usize, x: u8) -> Replied
     requires { ⌜ heard < 8 ⌝ }
     requires { ⌜ value < 256 ⌝ }
-    ensures { λ r. ⌜ ((t : Settings) → r ≡ turn-replied (strobed-at (setup t []) (Point.Data heard value) y [] (step-coded x))) ⌝ }
+    ensures { λ r. ⌜ ((t : Settings) → r ≡ turn-replied (strobed-at (setup t no-pairs []) (Point.Data heard value) y [] (step-coded x))) ⌝ }
 {
     hears(y, x, after_data(heard + 1, with_bit(heard, value, x)))
 }
@@ -325,7 +336,7 @@ fn shows(y: Target, reply: u32, x: u8, point: Point, place: usize, device: Devic
 }
 
 fn starts(y: Target, x: u8) -> Replied
-    ensures { λ r. ⌜ ((t : Settings) → r ≡ turn-replied (strobed-at (setup t []) Start y [] (step-coded x))) ⌝ }
+    ensures { λ r. ⌜ ((t : Settings) → r ≡ turn-replied (strobed-at (setup t no-pairs []) Start y [] (step-coded x))) ⌝ }
 {
     let device = y.device;
     shows(
@@ -348,11 +359,11 @@ fn begins_wait(
     delays: &[u8],
     x: u8,
 ) -> Replied
-    ensures { λ r. ⌜ r ≡ turn-replied (strobed-at (setup t (now (delays .entry))) (Wait left effect) y (now (flash .entry)) (step-coded x)) ⌝ }
+    ensures { λ r. ⌜ ((w : Pairs) → r ≡ turn-replied (strobed-at (setup t w (now (delays .entry))) (Wait left effect) y (now (flash .entry)) (step-coded x))) ⌝ }
 {
     let device = y.device;
     let place = y.place;
-    let zeros = delay(delays, place) % Target::WAIT;
+    let zeros = zeros_of(delay(delays, place), t.wait as usize);
     shows(
         y,
         ends(zeros),
@@ -372,7 +383,7 @@ fn waits(
     flash: &[u8],
     x: u8,
 ) -> Replied
-    ensures { λ r. ⌜ ((ds : List ℕ) → r ≡ turn-replied (strobed-at (setup t ds) (Waiting zeros left effect) y (now (flash .entry)) (step-coded x))) ⌝ }
+    ensures { λ r. ⌜ ((w : Pairs) (ds : List ℕ) → r ≡ turn-replied (strobed-at (setup t w ds) (Waiting zeros left effect) y (now (flash .entry)) (step-coded x))) ⌝ }
 {
     let device = y.device;
     shows(
@@ -386,7 +397,7 @@ fn waits(
 }
 
 fn sends(y: Target, left: usize, value: usize, effect: Effect, x: u8) -> Replied
-    ensures { λ r. ⌜ ((t : Settings) → r ≡ turn-replied (strobed-at (setup t []) (Send left value effect) y [] (step-coded x))) ⌝ }
+    ensures { λ r. ⌜ ((t : Settings) → r ≡ turn-replied (strobed-at (setup t no-pairs []) (Send left value effect) y [] (step-coded x))) ⌝ }
 {
     let device = y.device;
     shows(
@@ -399,20 +410,35 @@ fn sends(y: Target, left: usize, value: usize, effect: Effect, x: u8) -> Replied
     )
 }
 
-fn stops(y: Target, t: Settings, effect: Effect, flash: &[u8], delays: &[u8], x: u8) -> Replied
+fn stops(
+    y: Target,
+    t: Settings,
+    wanted: Pairs,
+    effect: Effect,
+    flash: &[u8],
+    delays: &[u8],
+    x: u8,
+) -> Replied
     requires { ⌜ known-link (t .count) (length (now flash)) (y .device .link) ≡ true ⌝ }
     requires { ⌜ known-effect effect ≡ true ⌝ }
-    ensures { λ r. ⌜ r ≡ turn-replied (strobed-at (setup t (now (delays .entry))) (Point.Stop effect) y (now (flash .entry)) (step-coded x)) ⌝ }
+    ensures { λ r. ⌜ r ≡ turn-replied (strobed-at (setup t wanted (now (delays .entry))) (Point.Stop effect) y (now (flash .entry)) (step-coded x)) ⌝ }
 {
-    let target = does(y, t, effect, flash, delays);
+    let target = does(y, t, wanted, effect, flash, delays);
     let device = target.device;
     shows(y, 1, x, Point::Start, target.place, device)
 }
 
 // A strobe, by the point.
-pub(crate) fn strobed(y: Target, t: Settings, flash: &[u8], delays: &[u8], x: u8) -> Replied
-    requires { ⌜ known-on (setup t []) y (now flash) ≡ true ⌝ }
-    ensures { λ r. ⌜ r ≡ turn-replied (strobed (setup t (now (delays .entry))) y (now (flash .entry)) (step-coded x)) ⌝ }
+pub(crate) fn strobed(
+    y: Target,
+    t: Settings,
+    wanted: Pairs,
+    flash: &[u8],
+    delays: &[u8],
+    x: u8,
+) -> Replied
+    requires { ⌜ known (setup t wanted []) y (now flash) ≡ true ⌝ }
+    ensures { λ r. ⌜ r ≡ turn-replied (strobed (setup t wanted (now (delays .entry))) y (now (flash .entry)) (step-coded x)) ⌝ }
 {
     let point = y.point;
     match point {
@@ -434,13 +460,13 @@ pub(crate) fn strobed(y: Target, t: Settings, flash: &[u8], delays: &[u8], x: u8
             value,
             effect,
         } => sends(y, left, value, effect, x),
-        Point::Stop { effect } => stops(y, t, effect, flash, delays, x),
+        Point::Stop { effect } => stops(y, t, wanted, effect, flash, delays, x),
     }
 }
 
 // What a strobe makes of the flash: only a STOP writes it.
 pub(crate) fn strobe_writes(t: Settings, target: Target, flash: &mut [u8])
-    requires { ⌜ known-on (setup t []) target (now flash) ≡ true ⌝ }
+    requires { ⌜ known (setup t no-pairs []) target (now flash) ≡ true ⌝ }
     ensures { λ r. ⌜ now (flash .exit) ≡ strobe-flash t (target .point) (target .device) (now (flash .entry)) ⌝ }
 {
     let point = target.point;

@@ -1,14 +1,13 @@
 -- A worked example, the smallest device: a session counts so many replies down, its record is the count, one
 -- byte, and a call writes the counts into a buffer. It shows what a family of calls supplies, and that the
 -- shared claims are about something.
-use mathlib.Core.Path.{_≡_}
 use mathlib.Core.Bool.{cond}
 use mathlib.Core.List.{List, [], _∷_, _++_, map}
 use mathlib.Core.Option.{Option, some, none}
 use Prim.Native.Nat.{ℕ, zero, suc, _+_, _-_}
-use lib.Dec.{eqb, leb}
+use lib.Dec.{leb}
 use lib.ListN.{length, take, drop}
-use Rattle.exchange.specs.Exchange.{Exchange, ended, ask, Said, asks, ends, Heard, heard, stops}
+use Rattle.exchange.specs.Exchange.{Exchange, ended, ask, Said, asks, ends, Heard, heard}
 use Rattle.exchange.specs.Machine.{Machine}
 use Rattle.exchange.specs.Served.{Face}
 use Rattle.exchange.specs.Exchange as Shared

@@ -7,14 +7,15 @@ use lib.ListN.{length, take, drop, replicate}
 use Rattle.settings.specs.Accepted.{settings-refusal, is-fpdat, is-page-size, is-page-count}
 use Rattle.settings.specs.Opening.{is-image, are-pages, opening-refusal}
 use Rattle.settings.specs.declared.Settings.{Settings}
+use Rattle.settings.specs.Registers.{no-pairs, pairs-from, are-registers, are-pairs}
 use Rattle.hex_format.specs.Digits.{digit, octet, octets, all-digits, upper, text}
 use Rattle.hex_format.specs.Lines.{sum, is-end, count, is-line, adds-up, address, kind, data-of, kinded, judged-line}
 use Rattle.hex_format.specs.Reading.{joined-line, lines, all-unset, placed, taken-as, line-taken, lines-taken, first-set, past-set, cell-byte, bytes, Answer, refused, copied, cut-out, read-answer, hex-read}
 use Rattle.hex_format.specs.Writing.{checksum, line-of, data-line, last-line, data-lines, hex-file, write-refusal, hex-write}
 
--- a device of so many pages of 512 bytes
+-- a device of so many pages of 512 bytes, with no pairs
 abbrev pub of-pages : ℕ → Settings
-of-pages count = record { id = 4; fpdat = 0xb4; size = 512; count = count }
+of-pages count = record { id = 4; fpdat = 0xb4; size = 512; count = count; wait = 20; pairs = no-pairs }
 
 -- :00000001FF LF
 abbrev end-line : List ℕ
@@ -93,7 +94,7 @@ reading =
     []
 
 pub reading-is : map (λ r. hex-read (of-pages (r .pages)) (r .room) (r .file)) reading ≡ map (λ r. r .answer) reading
-unfolding reading settings-refusal is-fpdat is-page-size is-page-count digit octet octets all-digits sum is-end count is-line adds-up address kind data-of kinded judged-line joined-line lines all-unset placed taken-as line-taken lines-taken first-set past-set cell-byte bytes copied cut-out read-answer hex-read
+unfolding reading settings-refusal is-fpdat is-page-size is-page-count are-pairs are-registers pairs-from digit octet octets all-digits sum is-end count is-line adds-up address kind data-of kinded judged-line joined-line lines all-unset placed taken-as line-taken lines-taken first-set past-set cell-byte bytes copied cut-out read-answer hex-read
 reading-is = refl
 
 -- :1002000000..0F and the checksum, LF: the bytes 0 to 15 at 0x200
@@ -114,7 +115,7 @@ unfoldable pub written : List ℕ
 written = hex-write (of-pages 2) 1 1420 one-page
 
 pub writing-is : (take 44 written ≡ sixteen-line) × (length written ≡ 1420) × (drop 1408 written ≡ end-line)
-unfolding written settings-refusal is-fpdat is-page-size is-page-count sum upper text checksum line-of data-line last-line data-lines hex-file is-image are-pages opening-refusal write-refusal hex-write
+unfolding written settings-refusal is-fpdat is-page-size is-page-count are-pairs are-registers pairs-from sum upper text checksum line-of data-line last-line data-lines hex-file is-image are-pages opening-refusal write-refusal hex-write
 writing-is = (refl, refl, refl)
 
 -- 4 for an empty image and for a part of a page, 5 for a page too many, 26 for a byte of room too few
@@ -122,5 +123,5 @@ pub refusals-are :
     write-refusal (of-pages 2) 1 0 1420 ∷ write-refusal (of-pages 2) 1 511 1420 ∷ write-refusal (of-pages 2) 2 512 1420
     ∷ write-refusal (of-pages 2) 1 512 1419 ∷ []
     ≡ 4 ∷ 4 ∷ 5 ∷ 26 ∷ []
-unfolding settings-refusal is-fpdat is-page-size is-page-count is-image are-pages opening-refusal write-refusal
+unfolding settings-refusal is-fpdat is-page-size is-page-count are-pairs are-registers pairs-from is-image are-pages opening-refusal write-refusal
 refusals-are = refl

@@ -2,3 +2,4 @@ pub mod Pick
 pub mod Tests
 pub mod Products
 pub mod Below
+pub mod Bytes

@@ -21,6 +21,14 @@ bad-page-size = 2
 abbrev pub bad-page-count : ℕ
 bad-page-count = 3
 
+-- WAIT limit 0; tested after 3
+abbrev pub bad-wait-limit : ℕ
+bad-wait-limit = 18
+
+-- more than four pairs, or a register below 3 or equal to the FPDAT address; tested after 18
+abbrev pub bad-pairs : ℕ
+bad-pairs = 19
+
 -- image empty or not whole pages
 abbrev pub bad-image : ℕ
 bad-image = 4
@@ -45,7 +53,7 @@ no-room = 8
 abbrev pub bad-reply : ℕ
 bad-reply = 9
 
--- the zero that reaches the limit in a WAIT (the 20th)
+-- the zero that reaches the limit in a WAIT
 abbrev pub wait-limit-reached : ℕ
 wait-limit-reached = 10
 

@@ -15,6 +15,12 @@ pub const BAD_PAGE_SIZE: u32 = 2;
 // Page count 0, or size times count above 65,536.
 pub const BAD_PAGE_COUNT: u32 = 3;
 
+// WAIT limit 0; tested after 3.
+pub const BAD_WAIT_LIMIT: u32 = 18;
+
+// More than four pairs, or a register below 3 or equal to the FPDAT address; tested after 18.
+pub const BAD_PAIRS: u32 = 19;
+
 // Image empty or not whole pages.
 pub const BAD_IMAGE: u32 = 4;
 
@@ -33,7 +39,7 @@ pub const NO_ROOM: u32 = 8;
 // Reply neither 0 nor 1.
 pub const BAD_REPLY: u32 = 9;
 
-// The zero that reaches the limit in a WAIT (the 20th).
+// The zero that reaches the limit in a WAIT.
 pub const WAIT_LIMIT_REACHED: u32 = 10;
 
 // The unsatisfied read that reaches the limit in a poll (the 256th).

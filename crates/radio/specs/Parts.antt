@@ -1,5 +1,4 @@
 -- A command as C has it (document 02, i): the command byte and the parameters as they stand, or 28 and zeros.
-use Prim.Native.Nat.{ℕ}
 use Rattle.radio_command.specs.declared.RadioCommand.{RadioCommand}
 use Rattle.radio_command.specs.declared.CommandRead.{CommandRead}
 use Rattle.radio_command.specs.declared.CommandRead.the-variants.{Is, Refused}

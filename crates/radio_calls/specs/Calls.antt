@@ -10,7 +10,7 @@ use Rattle.exchange.specs.Exchange.{Said, asks, ends, said, after}
 use Rattle.numbers.specs.Numbers.{bad-record, other-image, buffer-too-small}
 use Rattle.radio_job.specs.declared.Ending.{Ending}
 use Rattle.radio_job.specs.Image.{JobInput, input-refusal}
-use Rattle.radio_job.specs.Job.{Message, JobExchange, take-reply, job}
+use Rattle.radio_job.specs.Job.{Message, take-reply, job}
 use Rattle.radio_job.specs.State.{JobState, opened-job, job-left}
 use Rattle.radio_job.specs.Advance.{job-advanced}
 use Rattle.radio_record.specs.Record.{packed-job, unpacked-job}

@@ -1,6 +1,6 @@
 -- What a job is opened with: an image, and data for the configuration under a mask (document 02, i). Which of
 -- them are refused, the image's pages, and the merged configuration.
-use mathlib.Core.Bool.{Bool, true, false, cond, _&&_, _||_}
+use mathlib.Core.Bool.{Bool, true, cond, _&&_, _||_}
 use mathlib.Core.List.{List, [], _∷_, _++_}
 use Prim.Native.Nat.{ℕ, zero, suc, _+_, _*_, _-_, _/_}
 use lib.Dec.{eqb, leb}

@@ -2,7 +2,7 @@
 -- one reply comes back.
 use mathlib.Core.Bool.{Bool, true, false, cond, _&&_}
 use mathlib.Core.List.{List, [], _∷_}
-use Prim.Native.Nat.{ℕ, zero, suc, _+_, _*_, _%_}
+use Prim.Native.Nat.{ℕ, suc, _+_, _*_, _%_}
 use lib.Dec.{eqb}
 use lib.ListN.{length}
 use Rattle.exchange.specs.Exchange.{Exchange, ended, ask, Heard, heard, stops}

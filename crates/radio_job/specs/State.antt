@@ -14,7 +14,7 @@ use Rattle.radio_job.specs.declared.JobPoint.the-variants.{ErasesConfigu
 use Rattle.radio_job.specs.declared.JobPoint.the-variants.{SetsByte1, Finished}
 use Rattle.radio_job.specs.Image.{JobInput, mask-fits, image-fits, pages-for, page-count, image-pages, image-page, merged}
 use Rattle.radio_job.specs.Job.{JobExchange, say, unless, confirmed, fetched, fed-pages, page-ending, pages-compared, protects}
-use Rattle.radio_job.specs.Job.{compares-pages, sets-byte-0, restores, writes-area}
+use Rattle.radio_job.specs.Job.{sets-byte-0, restores, writes-area}
 
 -- Our data, from the time that the old configuration has come the merged page; the mask; the image's length;
 -- and the point reached.

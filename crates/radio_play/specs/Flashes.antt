@@ -1,7 +1,7 @@
 -- The flash that a job leaves, and the flash after each of its messages.
 use mathlib.Core.List.{List, [], _∷_, _++_}
 use Prim.Native.Nat.{ℕ, zero, suc, _+_, _*_, _-_}
-use lib.ListN.{length, take, drop, replicate}
+use lib.ListN.{take, drop, replicate}
 use Rattle.radio_command.specs.Command.{message-byte}
 use Rattle.radio_flash.specs.Flash.{erased-bytes, flash-page}
 use Rattle.radio_job.specs.Image.{JobInput, page-count, padded, merged}

@@ -6,7 +6,7 @@ use lib.Dec.{eqb}
 use lib.ListN.{length}
 use Rattle.exchange.specs.Exchange.{ended, ask}
 use Rattle.radio_target.specs.declared.RadioTarget.{RadioTarget}
-use Rattle.radio_target.specs.State.{RadioStepped, radio-stepped}
+use Rattle.radio_target.specs.State.{radio-stepped}
 use Rattle.radio_job.specs.declared.Ending.{Ending}
 use Rattle.radio_job.specs.Job.{JobExchange, ends-bad}
 

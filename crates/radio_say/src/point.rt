@@ -4,7 +4,7 @@ ghost use mathlib.Core.Bool.{true};
 ghost use Prim.Native.Nat.{_≤_};
 ghost use lib.ListN.{length, take};
 ghost use Rattle.radio_job.specs.State.{point-fits};
-ghost use Rattle.radio_calls.specs.Calls.{takes-number, takes-answer, message-put};
+ghost use Rattle.radio_calls.specs.Calls.{takes-answer, message-put};
 ghost use Rattle.radio_say.specs.Code.Say.{point-says, say-answer, say-out};
 use crate::message::command;
 use crate::message::configuration;

@@ -17,8 +17,8 @@ use Rattle.radio_job.specs.State.{job-left, state-fits}
 use Rattle.radio_record.specs.Record.{packed-job, unpacked-job}
 use Rattle.radio_calls.specs.Calls.{RadioCall, job-opens, job-takes, job-refusal, Job-done}
 use Rattle.radio_calls.specs.Family.{Radio, RadioTold, job-state-after, by-job}
-use Rattle.radio_play.specs.Run.{JobRun, run-job}
-use Rattle.radio_play.specs.Flashes.{job-leaves, job-flashes}
+use Rattle.radio_play.specs.Run.{run-job}
+use Rattle.radio_play.specs.Flashes.{job-leaves}
 use Rattle.radio_play.specs.Cut.{flash-cut, Job-cut, job-again}
 
 -- the call that opens a job, lent a record and a buffer

@@ -1,3 +1,4 @@
 -- The laws of the definitions, each in the module of the definition that it is about.
 pub mod Opening
+pub mod Registers
 pub mod Accepted

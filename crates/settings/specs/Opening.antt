@@ -1,5 +1,5 @@
 -- What opening a session asks of settings, first page and image (document 01, "Numbers that come back", 1 to
--- 5).
+-- 5; document 02, d, 18 after 3, and e, 19 after 18).
 use mathlib.Core.Bool.{Bool, cond, _&&_}
 use Prim.Native.Nat.{ℕ, _+_, _/_, _%_}
 use lib.Dec.{eqb, leb}

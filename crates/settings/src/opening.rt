@@ -1,4 +1,4 @@
-// What an opening asks of settings, first page and image: the numbers 1 to 5.
+// What an opening asks of settings, first page and image: the numbers 1 to 3, 18, 19, 4 and 5.
 ghost use mathlib.Core.Path.{_≡_};
 ghost use mathlib.Core.Bool.{cond};
 ghost use lib.Dec.{leb};

@@ -1,10 +1,10 @@
 //! The session's calls in plain Rust: the record (docs/RECORD.md) is taken apart and tested at every call,
 //! and written anew.
 
-use proved::c2::{Advanced, Opened, Settings, RECORD_BYTES};
+use proved::c2::{Advanced, Opened, Pairs, Settings, RECORD_BYTES};
 
 use super::{Command, Entry, Field, Frame, Kind, Outcome, Session, Task};
-use crate::plain::wire::{Ranges, Refusal, Step, BLOCK, FPCTL, KEYS};
+use crate::plain::wire::{named, Ranges, Refusal, Step, BLOCK, FPCTL, KEYS};
 
 type Record = [u8; RECORD_BYTES];
 
@@ -77,10 +77,19 @@ impl Session {
             fpdat: record[1],
             page_size: pair(2).into(),
             page_count: record[4].into(),
+            wait_limit: record[18],
+            pairs: Pairs {
+                count: record[19],
+                registers: [record[20], record[22], record[24], record[26]],
+                values: [record[21], record[23], record[25], record[27]],
+            },
         };
         settings.check().ok()?;
         let (first_page, pages) = (u32::from(record[5]), u32::from(record[6]));
-        if pages == 0 || first_page + pages > settings.page_count || record[18..] != [0; 14] {
+        // two bytes a pair, the first one lowest
+        let entries = u64::from_le_bytes(record[20..28].try_into().expect("eight bytes"));
+        let unnamed = entries.checked_shr(16 * u32::from(settings.pairs.count)).unwrap_or(0);
+        if pages == 0 || first_page + pages > settings.page_count || unnamed != 0 || record[28..] != [0; 4] {
             return None;
         }
         let mut session = Session::new(settings, first_page, (pages * settings.page_size) as usize);
@@ -102,6 +111,7 @@ impl Session {
             2 => Command::Write,
             3 => Command::Read,
             4 if page == 0 && block == 0 && act == 0 => return Some(Task::LastReset),
+            5 if page < self.settings.pairs.count && block == 0 => return pair_task(page, act),
             _ => return None,
         };
         let page_size = self.settings.page_size as usize;
@@ -130,7 +140,7 @@ impl Session {
         };
         let (reads, zeros) = if kind == Kind::AddressRead { (count, 0) } else { (0, count) };
         self.reads = reads.into();
-        let field = kind.field(strobe, zeros)?;
+        let field = kind.field(strobe, zeros, self.settings.wait_limit)?;
         let unsampled = 8 - kind.sampled(field);
         let value = u8::try_from(u16::from(bits) << unsampled).ok()?;
         self.frame = Some(Frame { kind, field, bits: 0, width: kind.width(), value });
@@ -145,6 +155,10 @@ impl Session {
         let whole = match self.task {
             Task::SelectFpctl => Frame::address_write(FPCTL),
             Task::SelectFpdat => Frame::address_write(self.settings.fpdat),
+            Task::SelectRegister(number) => {
+                Frame::address_write(self.settings.pairs.registers[usize::from(number)])
+            }
+            Task::WriteRegister(number) => Frame::data_write(self.settings.pairs.values[usize::from(number)]),
             Task::Key(index) => Frame::data_write(KEYS[index]),
             Task::Put => Frame::data_write(self.put_byte(image)),
             Task::AwaitInput | Task::AwaitOutput => Frame::address_read(),
@@ -165,13 +179,17 @@ impl Session {
     }
 
     fn record(&self) -> Record {
-        let Settings { device_id, fpdat, page_size, page_count } = self.settings;
+        let Settings { device_id, fpdat, page_size, page_count, wait_limit, pairs } = self.settings;
         let [size_low, size_high, ..] = page_size.to_le_bytes();
         let pages = self.image_len as u32 / page_size;
         let head =
             [device_id, fpdat, size_low, size_high, page_count as u8, self.first_page as u8, pages as u8];
         let mut record = [0; RECORD_BYTES];
         record[..head.len()].copy_from_slice(&head);
+        (record[18], record[19]) = (wait_limit, pairs.count);
+        for (entry, (register, value)) in record[20..28].chunks_mut(2).zip(named(&pairs)) {
+            entry.copy_from_slice(&[register, value]);
+        }
         self.store(&mut record);
         record
     }
@@ -217,6 +235,8 @@ impl Session {
             Task::Key(index) => return (0, 0, 0, 4 + index as u16),
             Task::Pause => return (0, 0, 0, 7),
             Task::LastReset => return (4, 0, 0, 0),
+            Task::SelectRegister(number) => return (5, number, 0, 0),
+            Task::WriteRegister(number) => return (5, number, 0, 1),
             Task::SelectFpdat => 0,
             Task::Put | Task::AwaitOutput => 1 + 2 * entry,
             Task::AwaitInput | Task::Get => 2 + 2 * entry,
@@ -235,6 +255,14 @@ fn lead_task(act: u16) -> Option<Task> {
         3 => Some(Task::SelectFpctl),
         4..=6 => Some(Task::Key(usize::from(act) - 4)),
         7 => Some(Task::Pause),
+        _ => None,
+    }
+}
+
+fn pair_task(number: u8, act: u16) -> Option<Task> {
+    match act {
+        0 => Some(Task::SelectRegister(number)),
+        1 => Some(Task::WriteRegister(number)),
         _ => None,
     }
 }
@@ -267,9 +295,9 @@ impl Task {
     /// The frame that it takes; none for a reset or the pause.
     fn kind(self) -> Option<Kind> {
         match self {
-            Task::SelectFpctl | Task::SelectFpdat => Some(Kind::AddressWrite),
+            Task::SelectFpctl | Task::SelectRegister(_) | Task::SelectFpdat => Some(Kind::AddressWrite),
             Task::AwaitInput | Task::AwaitOutput => Some(Kind::AddressRead),
-            Task::Key(_) | Task::Put => Some(Kind::DataWrite),
+            Task::Key(_) | Task::WriteRegister(_) | Task::Put => Some(Kind::DataWrite),
             Task::ReadId | Task::Get => Some(Kind::DataRead),
             Task::FirstReset | Task::SecondReset | Task::Pause | Task::LastReset => None,
         }
@@ -288,9 +316,9 @@ impl Kind {
     }
 
     /// The field of a strobe by its number, where a WAIT counts as one. Only a WAIT has zeros.
-    fn field(self, strobe: u8, zeros: u8) -> Option<Field> {
+    fn field(self, strobe: u8, zeros: u8, wait_limit: u8) -> Option<Field> {
         let field = match (self, strobe) {
-            (Kind::DataWrite, 13) | (Kind::DataRead, 5) if zeros < Session::WAIT_LIMIT => {
+            (Kind::DataWrite, 13) | (Kind::DataRead, 5) if zeros < wait_limit => {
                 return Some(Field::Wait { zeros })
             }
             (_, 0) => Field::Start,

@@ -1,18 +1,22 @@
 //! The target's call in plain Rust: its state is a struct of numbers, tested and taken apart at every step.
 
-use proved::c2::Settings;
+use proved::c2::{Pairs, Settings};
 use proved::c2_target::{Replied, State};
 
 use super::{Access, Command, Effect, Field, Heard, Output, Rest, Target, COMMAND_FAILED};
-use crate::plain::wire::{Ranges, Refusal, Step, BLOCK, COMMAND_OK, KEYS};
-
-/// The longest WAIT has 19 zeros; this many are left after its first strobe.
-const MOST_ZEROS_LEFT: u8 = 18;
+use crate::plain::wire::{check_pairs, Ranges, Refusal, Step, BLOCK, COMMAND_OK, KEYS};
 
 /// One step of the target whose state this is.
 #[inline(never)]
-pub fn step(settings: Settings, state: State, flash: &mut [u8], delays: &[u8], step: u8) -> Replied {
-    match stepped(settings, &state, flash, delays, step) {
+pub fn step(
+    settings: Settings,
+    wanted: Pairs,
+    state: State,
+    flash: &mut [u8],
+    delays: &[u8],
+    step: u8,
+) -> Replied {
+    match stepped(settings, wanted, &state, flash, delays, step) {
         Ok((reply, target)) => Replied { number: 0, reply: reply.into(), target },
         Err(refusal) => Replied { number: refusal.into(), reply: 1, target: state },
     }
@@ -20,16 +24,18 @@ pub fn step(settings: Settings, state: State, flash: &mut [u8], delays: &[u8], s
 
 fn stepped(
     settings: Settings,
+    wanted: Pairs,
     state: &State,
     flash: &mut [u8],
     delays: &[u8],
     step: u8,
 ) -> Result<(u8, State), Refusal> {
     settings.check()?;
+    check_pairs(&wanted, settings.fpdat)?;
     if flash.len() != settings.flash_len() {
         return Err(Refusal::NoPoint);
     }
-    let mut target = Target::of(settings, state).ok_or(Refusal::NoPoint)?;
+    let mut target = Target::of(settings, wanted, state).ok_or(Refusal::NoPoint)?;
     let reply = target.reply(Step::try_from(step)?, flash, delays);
     Ok((reply, target.state()))
 }
@@ -43,20 +49,24 @@ fn flag(number: u8) -> Option<bool> {
 }
 
 impl Target {
-    /// The target of a state, if there is one: numbers that are not in use are 0.
-    fn of(settings: Settings, state: &State) -> Option<Target> {
-        let keys = usize::from(state.keys);
-        if keys > KEYS.len() {
+    /// The target of a state, if there is one: numbers that are not in use are 0, and all three keys are
+    /// counted only between two frames.
+    fn of(settings: Settings, wanted: Pairs, state: &State) -> Option<Target> {
+        let (keys, field) = (usize::from(state.keys), Field::of(state, &settings)?);
+        let most_keys = if matches!(field, Field::Start) { KEYS.len() } else { KEYS.len() - 1 };
+        if keys > most_keys {
             return None;
         }
         Some(Target {
             settings,
+            wanted,
             address: state.address,
             interface_on: flag(state.on)?,
             collision: flag(state.collision)?,
             keys,
+            met: [flag(state.met1)?, flag(state.met2)?, flag(state.met3)?, flag(state.met4)?],
             delay_place: state.place as usize,
-            field: Field::of(state)?,
+            field,
             command: Command::of(state, &settings)?,
             output: Output::of(state, &settings)?,
             busy: state.busy,
@@ -65,12 +75,17 @@ impl Target {
     }
 
     fn state(&self) -> State {
+        let [met1, met2, met3, met4] = self.met.map(u8::from);
         let mut state = State {
             place: self.delay_place as u64,
             collision: self.collision.into(),
             address: self.address,
             on: self.interface_on.into(),
             keys: self.keys as u8,
+            met1,
+            met2,
+            met3,
+            met4,
             busy: self.busy,
             late: self.late,
             ..State::default()
@@ -90,7 +105,7 @@ impl Heard {
 }
 
 impl Field {
-    fn of(state: &State) -> Option<Field> {
+    fn of(state: &State, settings: &Settings) -> Option<Field> {
         let State { point, heard, value, left, zeros, effect, byte, .. } = *state;
         let effect = Effect::of(effect, byte)?;
         Some(match (point, heard, value, left, zeros, effect) {
@@ -102,7 +117,10 @@ impl Field {
             (5, _, _, 0, 0, Effect::Nothing) => Field::Data(Heard::of(8, heard, value)?),
             (6, 0, 0, 1..=32, 0, Effect::Nothing) => Field::LongData { left },
             (7, 0, 0, _, 0, _) => Field::WaitBegins(Rest::of(left, effect)?),
-            (8, 0, 0, _, 0..=MOST_ZEROS_LEFT, _) => Field::Wait { zeros, rest: Rest::of(left, effect)? },
+            // the longest WAIT has a zero fewer than its limit, and its first strobe took one
+            (8, 0, 0, _, _, _) if zeros < settings.wait_limit - 1 => {
+                Field::Wait { zeros, rest: Rest::of(left, effect)? }
+            }
             (9, 0, 0, 1..=32, 0, Effect::Nothing) => Field::Sent { value, left, effect },
             (9, 0, _, 1..=8, 0, Effect::CountRead | Effect::TakeOutput) if u16::from(value) >> left == 0 => {
                 Field::Sent { value, left, effect }

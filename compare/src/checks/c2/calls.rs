@@ -13,9 +13,10 @@ use crate::harness::check::{Check, Run};
 use crate::harness::random::Random;
 use crate::harness::report::{expect, Checked, Failure};
 use crate::second::c2::record::RECORD_LEN;
+use crate::second::c2::session::WAIT_LIMIT;
 use crate::second::c2::steps::OFF;
 use crate::second::numbers;
-use crate::second::settings::Settings;
+use crate::second::settings::{Pairs, Settings};
 
 pub const CHECKS: &[Check] = &[
     Check { name: "calls: openings, good and bad", run: openings },
@@ -27,7 +28,14 @@ pub const CHECKS: &[Check] = &[
     Check { name: "calls: null for slices of length 0", run: nulls },
 ];
 
-const SETTINGS: Settings = Settings { device_id: 0x04, fpdat: 0xB4, page_size: 512, page_count: 32 };
+const SETTINGS: Settings = Settings {
+    device_id: 0x04,
+    fpdat: 0xB4,
+    page_size: 512,
+    page_count: 32,
+    wait_limit: WAIT_LIMIT,
+    pairs: Pairs::NONE,
+};
 
 fn openings(run: &mut Run) -> Checked {
     let cases = run.cases(30_000, 600_000);
@@ -97,7 +105,7 @@ fn in_session(case: u64, fault: Fault) -> impl Fn(Failure) -> Failure {
 
 fn sessions(run: &mut Run) -> Checked {
     let mut calls = 0;
-    for case in 0..run.cases(108, 5_400) {
+    for case in 0..run.cases(110, 5_400) {
         let random = &mut run.random;
         let fault = FAULTS[case as usize % FAULTS.len()];
         let (mut driven, replies) = opened(fault, random)?;
@@ -129,11 +137,21 @@ fn largest(run: &mut Run) -> Checked {
 /// Replies that are as many as the figure said at the start: every WAIT and every poll at its limit.
 fn slowest(run: &mut Run) -> Checked {
     let mut calls = 0;
-    for pages in 1..=run.cases(1, 3) as usize {
+    let four = Pairs::of(&[(3, 0), (255, 1), (3, 2), (4, 3)]);
+    for (pages, wait_limit, pairs) in [
+        (1, 255, four),
+        (1, WAIT_LIMIT, Pairs::NONE),
+        (3, WAIT_LIMIT, Pairs::NONE),
+        (1, 1, Pairs::of(&[(3, 0)])),
+    ] {
+        if pages > 1 && !run.long {
+            continue;
+        }
         let random = &mut run.random;
+        let settings = Settings { wait_limit, pairs, ..SETTINGS };
         let image = random.bytes(512 * pages);
-        let replies = Slowest::session(SETTINGS.device_id, 512, &image);
-        let mut driven = Driven::open(&SETTINGS, 5, &image, random)?;
+        let replies = Slowest::session(&settings, &image);
+        let mut driven = Driven::open(&settings, 5, &image, random)?;
         expect(replies.len() as u64, driven.session.most_steps_left(), || "our own figure".to_string())?;
         play(&mut driven, &replies, 5_000, random)?;
         expect(numbers::DONE, driven.session.outcome().number, || "our own session".to_string())?;

@@ -6,8 +6,9 @@ use crate::harness::c2::calls;
 use crate::harness::c2::device::Device;
 use crate::harness::c2::driven::Driven;
 use crate::harness::c2::job::Job;
-use crate::harness::c2::pair::Pair;
+use crate::harness::c2::model::Setup;
 use crate::harness::c2::trouble::random_job;
+use crate::harness::c2::twins::Twins;
 use crate::harness::check::{Check, Run};
 use crate::harness::random::Random;
 use crate::harness::report::{expect, expect_bytes, Checked, Failure};
@@ -23,7 +24,7 @@ struct ClosedLoop {
     /// the session on both sides, whose calls take many replies
     driven: Driven,
     /// the target on both sides
-    pair: Pair,
+    twins: Twins,
     /// the step that the target has not had yet
     step: u8,
 }
@@ -37,10 +38,11 @@ struct Ahead {
 
 impl ClosedLoop {
     fn begin(job: &Job, random: &mut Random) -> Result<ClosedLoop, Failure> {
-        let Device { settings, flash, delays, .. } = &job.device;
+        let Device { settings, wanted, flash, delays, .. } = &job.device;
         let driven = Driven::open(settings, job.first_page, &job.image, random)?;
-        let pair = Pair::fresh(*settings, flash, delays.clone());
-        Ok(ClosedLoop { driven, pair, step: FIRST_STEP })
+        let setup = Setup { settings: *settings, wanted: *wanted };
+        let twins = Twins::fresh(setup, flash, delays.clone());
+        Ok(ClosedLoop { driven, twins, step: FIRST_STEP })
     }
 
     /// Runs the session to its end; gives the replies taken.
@@ -68,7 +70,7 @@ impl ClosedLoop {
         let record = self.driven.record.clone();
         let mut ahead = Ahead { replies: Vec::new(), steps: Vec::new(), record };
         for _ in 0..count {
-            let reply = self.pair.step(self.step)?;
+            let reply = self.twins.step(self.step)?;
             let (answer, step) = calls::advance_once(&mut ahead.record, &self.driven.image, reply);
             self.step = step;
             ahead.replies.push(reply);
@@ -85,9 +87,9 @@ impl ClosedLoop {
         let inputs = || job.describe();
         let done = Remaining { number: numbers::DONE, steps: 0 };
         expect(done, calls::steps_left(&self.driven.record).answer, inputs)?;
-        self.pair.compare_flash()?;
-        expect_bytes("flash", flash, self.pair.flash(), inputs)?;
-        expect(0, self.pair.state().collision, inputs)
+        self.twins.compare_flash()?;
+        expect_bytes("flash", flash, self.twins.flash(), inputs)?;
+        expect(0, self.twins.state().collision, inputs)
     }
 }
 

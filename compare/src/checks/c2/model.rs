@@ -2,9 +2,11 @@
 
 use proved::c2_target::{self, Replied};
 
+use crate::harness::c2::job::{edges_of_waits, random_wait_limit};
 use crate::harness::c2::master::Master;
-use crate::harness::c2::model;
-use crate::harness::c2::pair::Pair;
+use crate::harness::c2::model::{self, Setup};
+use crate::harness::c2::pairs::{random_pairs, random_wanted};
+use crate::harness::c2::twins::Twins;
 use crate::harness::check::{Check, Run};
 use crate::harness::random::Random;
 use crate::harness::report::{expect, Checked, Failure};
@@ -25,43 +27,68 @@ pub fn random_settings(random: &mut Random, most_bytes: usize) -> Settings {
     let page_size = random.pick(&[512, 1024.min(most_bytes)]);
     let page_count = random.between(1, most_bytes / page_size);
     let any = random.between(3, 255) as u8;
+    let fpdat = random.pick(&[3, any, any, 255]);
     Settings {
         device_id: random.byte(),
-        fpdat: random.pick(&[3, any, any, 255]),
+        fpdat,
         page_size: page_size as u32,
         page_count: page_count as u32,
+        wait_limit: random_wait_limit(random),
+        pairs: random_pairs(random, fpdat),
+    }
+}
+
+/// Settings, and a device that wants any pairs of its own.
+fn random_setup(random: &mut Random, most_bytes: usize) -> Setup {
+    let settings = random_settings(random, most_bytes);
+    Setup { settings, wanted: random_wanted(random, settings.fpdat) }
+}
+
+/// An FPDAT address with which neither list is refused.
+fn random_fpdat(random: &mut Random, setup: &Setup) -> u8 {
+    loop {
+        let fpdat = random.between(3, 255) as u8;
+        let settings = Settings { fpdat, ..setup.settings };
+        if (Setup { settings, ..*setup }).refusal().is_none() {
+            return fpdat;
+        }
     }
 }
 
 /// Lists of any length, the empty one too; most delays are small, for others make long polls.
-pub fn random_delays(random: &mut Random) -> Vec<u8> {
+pub fn random_delays(random: &mut Random, wait_limit: u8) -> Vec<u8> {
     let count = random.pick(&[0, 1, 2, 3, 7, 40, 300]);
     let mostly = random.pick(&[1, 3, 6]);
     (0..count)
         .map(|_| match random.below(60) {
-            0 => random.pick(&[19, 20, 21, 39, 254, 255]),
-            1 => random.byte(),
+            0 => random.pick(&edges_of_waits(wait_limit)),
+            1 => random.pick(&[254, 255]),
+            2 => random.byte(),
             _ => random.below(mostly) as u8,
         })
         .collect()
 }
 
-pub fn fresh_pair(random: &mut Random, most_bytes: usize) -> Pair {
-    let settings = random_settings(random, most_bytes);
-    let flash = random.bytes(settings.flash_len() as usize);
-    Pair::fresh(settings, &flash, random_delays(random))
+pub fn fresh_twins(random: &mut Random, most_bytes: usize) -> Twins {
+    let setup = random_setup(random, most_bytes);
+    let flash = random.bytes(setup.settings.flash_len() as usize);
+    Twins::fresh(setup, &flash, random_delays(random, setup.settings.wait_limit))
 }
 
-/// Talks to a fresh pair for about so many steps; gives the steps taken.
+/// Talks to a fresh twins for about so many steps; gives the steps taken.
 fn talk(mut master: Master, steps: u64) -> Checked {
-    while master.pair.steps < steps {
-        // what is lent may be another list of delays, and another address of FPDAT
+    while master.twins.steps < steps {
+        // what is lent may be another list of delays, another address of FPDAT, and outside of frames another
+        // WAIT limit
         if master.random.below(8) == 0 {
-            master.pair.delays = random_delays(master.random);
+            master.twins.delays = random_delays(master.random, master.twins.settings.wait_limit);
+        }
+        if !master.twins.in_frame() && master.random.below(16) == 0 {
+            master.twins.settings.wait_limit = random_wait_limit(master.random);
         }
         if master.random.below(16) == 0 {
-            master.pair.settings.fpdat = master.random.between(3, 255) as u8;
-            master.pair.settings.device_id = master.random.byte();
+            master.twins.settings.fpdat = random_fpdat(master.random, &master.twins.setup());
+            master.twins.settings.device_id = master.random.byte();
         }
         master.connect()?;
         for _ in 0..master.random.between(1, 6) {
@@ -71,7 +98,7 @@ fn talk(mut master: Master, steps: u64) -> Checked {
             master.stray_frame()?;
         }
     }
-    Ok(master.pair.steps)
+    Ok(master.twins.steps)
 }
 
 /// Where in the seed's order a difference was found.
@@ -82,8 +109,8 @@ pub fn in_case(case: u64) -> impl Fn(Failure) -> Failure {
 fn commands(run: &mut Run) -> Checked {
     let mut steps = 0;
     for case in 0..run.cases(50, 2_000) {
-        let pair = fresh_pair(&mut run.random, 2_048);
-        let mut master = Master::new(pair, &mut run.random);
+        let twins = fresh_twins(&mut run.random, 2_048);
+        let mut master = Master::new(twins, &mut run.random);
         master.astray = master.random.pick(&[0, 0, 400, 40]);
         steps += talk(master, 20_000).map_err(in_case(case))?;
     }
@@ -93,8 +120,8 @@ fn commands(run: &mut Run) -> Checked {
 fn wrong_steps(run: &mut Run) -> Checked {
     let mut steps = 0;
     for case in 0..run.cases(150, 4_000) {
-        let pair = fresh_pair(&mut run.random, 2_048);
-        let mut master = Master::new(pair, &mut run.random);
+        let twins = fresh_twins(&mut run.random, 2_048);
+        let mut master = Master::new(twins, &mut run.random);
         master.wrong = master.random.pick(&[20, 100, 500, 3_000]);
         master.astray = master.random.pick(&[0, 40]);
         steps += talk(master, 10_000).map_err(in_case(case))?;
@@ -107,13 +134,13 @@ fn large_flashes(run: &mut Run) -> Checked {
     let mut steps = 0;
     for case in 0..run.cases(64, 2_000) {
         let random = &mut run.random;
-        let mut settings = random_settings(random, 65_536);
+        let mut setup = random_setup(random, 65_536);
         if case % 2 == 0 {
-            settings.page_count = 65_536 / settings.page_size;
+            setup.settings.page_count = 65_536 / setup.settings.page_size;
         }
-        let flash = random.bytes(settings.flash_len() as usize);
-        let pair = Pair::fresh(settings, &flash, random_delays(random));
-        let mut master = Master::new(pair, random);
+        let flash = random.bytes(setup.settings.flash_len() as usize);
+        let twins = Twins::fresh(setup, &flash, random_delays(random, setup.settings.wait_limit));
+        let mut master = Master::new(twins, random);
         master.wrong = master.random.pick(&[0, 3_000]);
         master.astray = master.random.pick(&[0, 40]);
         steps += talk(master, 10_000).map_err(in_case(case))?;
@@ -123,8 +150,8 @@ fn large_flashes(run: &mut Run) -> Checked {
 
 /// A master in the midst of things: mostly with the interface on, and a command begun or done.
 pub fn somewhere<'a>(case: u64, run: &'a mut Run) -> Result<Master<'a>, Failure> {
-    let pair = fresh_pair(&mut run.random, 1_024);
-    let mut master = Master::new(pair, &mut run.random);
+    let twins = fresh_twins(&mut run.random, 1_024);
+    let mut master = Master::new(twins, &mut run.random);
     let depth = case % 4;
     if depth > 0 {
         master.connect()?;
@@ -143,7 +170,7 @@ fn noise(run: &mut Run) -> Checked {
     for case in 0..run.cases(500, 20_000) {
         let mut master = somewhere(case, run).map_err(in_case(case))?;
         master.noise(1_000).map_err(in_case(case))?;
-        steps += master.pair.steps;
+        steps += master.twins.steps;
     }
     Ok(steps)
 }
@@ -162,23 +189,23 @@ fn refused_steps(run: &mut Run) -> Checked {
 }
 
 fn nulls(run: &mut Run) -> Checked {
-    let settings = random_settings(&mut run.random, 512);
+    let setup = random_setup(&mut run.random, 512);
     let mut state = c2_target::fresh();
     let inputs = || "null pointers with length 0".to_string();
     for step in 0..8 {
         let refused = Replied { number: numbers::NO_POINT, reply: 1, target: state };
-        expect(refused, model::step_on_nothing(&settings, &state, step), inputs)?;
+        expect(refused, model::step_on_nothing(&setup, &state, step), inputs)?;
     }
     // a whole Data Read of the ID, whose WAIT takes a delay
     let mut sampled = 0;
     let mut flash = [0; 512];
     for (strobe, step) in [0, 2, 2, 2, 2, 0, 0, 0, 0, 0, 0, 0, 0, 0, 0].into_iter().enumerate() {
-        let replied = model::step_without_delays(&settings, &state, &mut flash, step);
+        let replied = model::step_without_delays(&setup, &state, &mut flash, step);
         expect(numbers::RUNNING, replied.number, inputs)?;
         sampled |= replied.reply << strobe;
         state = replied.target;
     }
     // the ID stands after START, INS, LENGTH and the WAIT's 1
-    expect(u32::from(settings.device_id), sampled >> 6 & 0xFF, inputs)?;
+    expect(u32::from(setup.settings.device_id), sampled >> 6 & 0xFF, inputs)?;
     Ok(8 + 15)
 }

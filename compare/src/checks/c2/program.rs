@@ -9,14 +9,22 @@ use std::{io, thread};
 use crate::harness::c2::device::Device;
 use crate::harness::check::{Check, Run};
 use crate::harness::report::{expect, Checked, Failure};
-use crate::second::c2::session::Session;
+use crate::second::c2::session::{Session, WAIT_LIMIT};
 use crate::second::numbers;
-use crate::second::settings::Settings;
+use crate::second::settings::{Pairs, Settings};
 
 pub const CHECKS: &[Check] = &[Check { name: "program: images of every kind of length", run: lengths }];
 
-/// The program's model: 32 pages of 512, a flash all 0, no delays.
-const SETTINGS: Settings = Settings { device_id: 0x04, fpdat: 0xB4, page_size: 512, page_count: 32 };
+/// The program's model: 32 pages of 512, a flash all 0, no delays; an old unit that wants no registers
+/// written.
+const SETTINGS: Settings = Settings {
+    device_id: 0x04,
+    fpdat: 0xB4,
+    page_size: 512,
+    page_count: 32,
+    wait_limit: WAIT_LIMIT,
+    pairs: Pairs::NONE,
+};
 const FLASH_LEN: usize = 16_384;
 
 /// Empty, no whole page, one page, some, all, one byte too many (where 5 comes before 4), far too many.

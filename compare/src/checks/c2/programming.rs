@@ -1,16 +1,17 @@
 //! Our own session, alone and against our own target.
 
 use crate::harness::c2::device::Device;
-use crate::harness::c2::job::{open, Job};
+use crate::harness::c2::job::{open, random_wait_limit, Job};
+use crate::harness::c2::pairs::random_pairs;
 use crate::harness::c2::slowest::Slowest;
 use crate::harness::check::{Check, Run};
 use crate::harness::random::Random;
 use crate::harness::report::{expect, expect_that, Checked, Failure};
-use crate::second::c2::session::{Advanced, Outcome, Session, FIRST_STEP};
+use crate::second::c2::session::{Advanced, Outcome, Session, FIRST_STEP, WAIT_LIMIT};
 use crate::second::c2::steps::OFF;
 use crate::second::c2::target::Modelled;
 use crate::second::numbers;
-use crate::second::settings::Settings;
+use crate::second::settings::{Pairs, Settings};
 
 pub const CHECKS: &[Check] = &[
     Check { name: "our session: refused openings", run: refused_openings },
@@ -25,7 +26,14 @@ pub const CHECKS: &[Check] = &[
 ];
 
 /// The program's settings in document 01.
-const SETTINGS: Settings = Settings { device_id: 0x04, fpdat: 0xB4, page_size: 512, page_count: 32 };
+const SETTINGS: Settings = Settings {
+    device_id: 0x04,
+    fpdat: 0xB4,
+    page_size: 512,
+    page_count: 32,
+    wait_limit: WAIT_LIMIT,
+    pairs: Pairs::NONE,
+};
 
 /// How many runs go wrong at a random place, for each way to go wrong.
 const WRONG_RUNS: u64 = 20;
@@ -39,13 +47,21 @@ fn ended(number: u32) -> Outcome {
 }
 
 fn refused_openings(_: &mut Run) -> Checked {
-    let bad = Settings { device_id: 0, fpdat: 2, page_size: 500, page_count: 0 };
+    let five = Pairs { count: 5, registers: [3, 4, 5, 6], values: [0; 4] };
+    let bad = Settings { device_id: 0, fpdat: 2, page_size: 500, page_count: 0, wait_limit: 0, pairs: five };
+    let no_waits = Settings { wait_limit: 0, pairs: five, ..SETTINGS };
+    let paired = |pairs: &[(u8, u8)]| Settings { pairs: Pairs::of(pairs), ..SETTINGS };
     let rows = [
         (bad, 0, 0, Some(numbers::BAD_FPDAT)),
         (Settings { fpdat: 3, ..bad }, 0, 0, Some(numbers::BAD_PAGE_SIZE)),
-        (Settings { page_count: 0, ..SETTINGS }, 0, 0, Some(numbers::BAD_PAGE_COUNT)),
+        (Settings { page_count: 0, ..no_waits }, 0, 0, Some(numbers::BAD_PAGE_COUNT)),
         (Settings { page_count: 129, ..SETTINGS }, 0, 512, Some(numbers::BAD_PAGE_COUNT)),
         (Settings { page_count: u32::MAX, ..SETTINGS }, 0, 512, Some(numbers::BAD_PAGE_COUNT)),
+        (no_waits, 40, 0, Some(numbers::BAD_WAIT_LIMIT)),
+        (no_waits, 0, 512, Some(numbers::BAD_WAIT_LIMIT)),
+        (Settings { pairs: five, ..SETTINGS }, 40, 0, Some(numbers::BAD_PAIRS)),
+        (paired(&[(3, 0), (2, 0)]), 0, 512, Some(numbers::BAD_PAIRS)),
+        (paired(&[(3, 0), (4, 0), (5, 0), (0xB4, 0)]), 0, 512, Some(numbers::BAD_PAIRS)),
         (SETTINGS, 40, 0, Some(numbers::BAD_IMAGE)),
         (SETTINGS, 40, 511, Some(numbers::BAD_IMAGE)),
         (SETTINGS, 32, 512, Some(numbers::PAST_LAST_PAGE)),
@@ -56,6 +72,9 @@ fn refused_openings(_: &mut Run) -> Checked {
         (SETTINGS, 0, 16_384, None),
         (Settings { page_count: 128, ..SETTINGS }, 0, 65_536, None),
         (Settings { page_size: 1024, page_count: 64, ..SETTINGS }, 63, 1024, None),
+        (Settings { wait_limit: 1, ..SETTINGS }, 0, 512, None),
+        (Settings { wait_limit: 255, ..SETTINGS }, 0, 512, None),
+        (paired(&[(3, 0), (255, 1), (0xB3, 2), (3, 3)]), 0, 512, None),
     ];
     for (settings, first_page, image_len, refusal) in rows {
         let came = Session::open(&settings, first_page, &vec![0; image_len]).err();
@@ -64,14 +83,14 @@ fn refused_openings(_: &mut Run) -> Checked {
     Ok(rows.len() as u64)
 }
 
-/// P11 and P12, and document 01's formula for every number of pages.
+/// P11 and P12, and document 01's formula for every number of pages; the largest flash at the highest limit,
+/// without pairs and with four.
 fn starting_figures(_: &mut Run) -> Checked {
     let mut cases = 0;
     for (page_size, page_count) in [(512, 128), (1024, 64)] {
-        let settings = Settings { page_size, page_count, ..SETTINGS };
         for pages in 1..=page_count {
-            let image = vec![0; (pages * page_size) as usize];
-            let figure = open(&settings, 0, &image)?.most_steps_left();
+            let settings = Settings { page_size, page_count, ..SETTINGS };
+            let figure = starting_figure(&settings, pages)?;
             let blocks = u64::from(page_size / 256);
             let formula = 152 + u64::from(pages) * (18_648 + 2 * blocks * 813_784);
             expect(formula, figure, || format!("{pages} pages of {page_size}"))?;
@@ -84,7 +103,16 @@ fn starting_figures(_: &mut Run) -> Checked {
             cases += 1;
         }
     }
-    Ok(cases)
+    let longest = Settings { page_size: 1024, page_count: 64, wait_limit: 255, ..SETTINGS };
+    expect(449_466_052, starting_figure(&longest, 64)?, || "64 pages of 1,024, limit 255".to_string())?;
+    let longest = Settings { pairs: Pairs::of(&[(3, 0); 4]), ..longest };
+    expect(449_467_176, starting_figure(&longest, 64)?, || "the same with four pairs".to_string())?;
+    Ok(cases + 2)
+}
+
+fn starting_figure(settings: &Settings, pages: u32) -> Result<u64, Failure> {
+    let image = vec![0; (pages * settings.page_size) as usize];
+    Ok(open(settings, 0, &image)?.most_steps_left())
 }
 
 fn fresh_target(run: &mut Run) -> Checked {
@@ -104,7 +132,7 @@ fn fresh_target(run: &mut Run) -> Checked {
 fn refused_calls(_: &mut Run) -> Checked {
     let image = [0x55; 512];
     let mut stopped = open(&SETTINGS, 0, &image)?;
-    let mut replies = Slowest::session(SETTINGS.device_id, 512, &[0x55, 0x54].repeat(256));
+    let mut replies = Slowest::session(&SETTINGS, &[0x55, 0x54].repeat(256));
     let mut steps = vec![0; replies.len()];
     let at_compare = Outcome { number: numbers::COMPARE_DIFFERS, offset: 1 };
     let came = stopped.advance(&image, &replies, &mut steps, 0);
@@ -265,10 +293,13 @@ fn run_watched(job: &mut Job, session: &mut Session) -> Result<(), Failure> {
 /// These replies are as many as the figure said at the start, and each lowers it by exactly 1.
 fn slowest_replies(run: &mut Run) -> Checked {
     let pages = run.cases(1, 4) as usize;
+    let random = &mut run.random;
+    let (wait_limit, pairs) = (random_wait_limit(random), random_pairs(random, SETTINGS.fpdat));
+    let settings = Settings { wait_limit, pairs, ..SETTINGS };
     let image = run.random.bytes(512 * pages);
-    let replies = Slowest::session(SETTINGS.device_id, 512, &image);
-    let inputs = || format!("{pages} pages of 512, the slowest replies");
-    let mut session = open(&SETTINGS, 3, &image)?;
+    let replies = Slowest::session(&settings, &image);
+    let inputs = || format!("{settings:?}, {pages} pages, the slowest replies");
+    let mut session = open(&settings, 3, &image)?;
     expect(session.most_steps_left(), replies.len() as u64, inputs)?;
     for (taken, &reply) in replies.iter().enumerate() {
         let left = (replies.len() - taken) as u64;

@@ -4,7 +4,8 @@
 //! about, is a session, and both sides go on from it alike.
 
 use crate::harness::c2::driver::{ask, take, Taking};
-use crate::harness::c2::job::Job;
+use crate::harness::c2::job::{random_wait_limit, Job};
+use crate::harness::c2::pairs::random_pairs;
 use crate::harness::check::{Check, Run};
 use crate::harness::random::Random;
 use crate::harness::report::{expect, expect_bytes, hex, Checked, Failure};
@@ -12,7 +13,7 @@ use crate::second::c2::frames::Place;
 use crate::second::c2::record::{self, pack, read, Record, RECORD_LEN, STAGES};
 use crate::second::c2::session::{Act, Held, Outcome, Point, Session, State};
 use crate::second::numbers;
-use crate::second::settings::Settings;
+use crate::second::settings::{Pairs, Settings};
 
 pub const CHECKS: &[Check] = &[
     Check { name: "our records: every record of a session is in range and gives it back", run: own_records },
@@ -33,22 +34,22 @@ fn below(random: &mut Random, limit: usize) -> usize {
 }
 
 /// Any count and bits that an act may have at a strobe.
-fn random_place(random: &mut Random, act: &Act, strobe: usize) -> Place {
+fn random_place(random: &mut Random, act: &Act, strobe: usize, wait_limit: u8) -> Place {
     let shape = record::shape(act);
-    let count = below(random, shape.count_limit(strobe));
+    let count = below(random, shape.count_limit(strobe, wait_limit));
     let bits = below(random, shape.bits_limit(strobe));
     Place { strobe, count, bits }
 }
 
 fn random_point(random: &mut Random, settings: &Settings, pages: usize) -> Point {
-    let stage = random.pick(&STAGES);
+    let stage = random.pick(if settings.pairs.count > 0 { &STAGES } else { &STAGES[..STAGES.len() - 1] });
     let [page, block, act] = record::extent(stage, settings, pages).map(|limit| below(random, limit));
     let act = Act { stage, page: page as u8, block: block as u8, act: act as u16 };
     let strobes = record::shape(&act).strobes();
     // the WAITs and the STOP come often: they are where a frame counts and is judged
     let anywhere = random.below(strobes);
     let strobe = random.pick(&[anywhere, anywhere, 5, 13, strobes - 1]).min(strobes - 1);
-    Point { act, place: random_place(random, &act, strobe) }
+    Point { act, place: random_place(random, &act, strobe, settings.wait_limit) }
 }
 
 fn random_outcome(random: &mut Random, image_len: usize) -> Outcome {
@@ -62,11 +63,14 @@ fn random_held(random: &mut Random, most_count: usize, most_pages: usize) -> Hel
     let page_size = random.pick(&[512, 1024]);
     let page_count = random.between(1, most_count.min(65_536 / page_size));
     let pages = random.between(1, most_pages.min(page_count));
+    let fpdat = random.between(3, 255) as u8;
     let settings = Settings {
         device_id: random.byte(),
-        fpdat: random.between(3, 255) as u8,
+        fpdat,
         page_size: page_size as u32,
         page_count: page_count as u32,
+        wait_limit: random_wait_limit(random),
+        pairs: random_pairs(random, fpdat).kept(),
     };
     let state = if random.below(6) == 0 {
         State::Ended(random_outcome(random, pages * page_size))
@@ -118,7 +122,7 @@ fn own_records(run: &mut Run) -> Checked {
     for _ in 0..run.cases(3, 30) {
         let pages = run.random.between(1, 2);
         let mut job = Job::random(&mut run.random, pages);
-        job.device.delays = vec![0, 3, 19, 0, 1];
+        job.device.delays = vec![0, 3, job.device.settings.wait_limit - 1, 0, 1];
         let mut session = job.session()?;
         let mut wrong = None;
         job.device.run(&mut session, &job.image, |session, _| {
@@ -148,7 +152,9 @@ fn every_strobe(run: &mut Run) -> Checked {
     let mut calls = 0;
     let sizes: &[u32] = if run.long { &[512, 1024] } else { &[512] };
     for &page_size in sizes {
-        let settings = Settings { device_id: 0x2A, fpdat: 0xB4, page_size, page_count: 9 };
+        let wait_limit = random_wait_limit(&mut run.random);
+        let pairs = Pairs::of(&[(0xB3, 0x5A), (3, 0x00), (255, 0xFF), (3, 0xA5)]);
+        let settings = Settings { device_id: 0x2A, fpdat: 0xB4, page_size, page_count: 9, wait_limit, pairs };
         let image = run.random.bytes(page_size as usize);
         let mut session = Session::open(&settings, 8, &image).expect("good settings");
         let acts: Vec<Act> = session.acts().collect();
@@ -165,8 +171,10 @@ fn every_reply(session: &mut Session, act: Act, strobe: usize, run: &mut Run) ->
     let times = run.cases(1, 10);
     for _ in 0..times {
         let random = &mut run.random;
-        let state = State::Running(Point { act, place: random_place(random, &act, strobe) });
-        let image = random.bytes(session.held().image_len());
+        let held = session.held();
+        let place = random_place(random, &act, strobe, held.settings.wait_limit);
+        let state = State::Running(Point { act, place });
+        let image = random.bytes(held.image_len());
         let bad = random.between(2, 255) as u8;
         for replies in [vec![0], vec![1], vec![bad], some_replies(random)] {
             let record = own_session_at(session, &state)?;
@@ -256,7 +264,15 @@ fn changed_bytes(run: &mut Run) -> Checked {
 fn edges_of(held: &Held) -> Vec<(usize, Vec<usize>)> {
     let Held { first_page, pages, .. } = *held;
     let (len, count) = (held.image_len(), held.settings.page_count as usize);
-    vec![
+    let wait_limit = usize::from(held.settings.wait_limit);
+    let (fpdat, pair_count) = (held.settings.fpdat.into(), usize::from(held.settings.pairs.count));
+    let registers = (0..4).map(|number| (record::PAIRS + 2 * number, vec![0, 1, 2, 3, fpdat, 255]));
+    let values = (0..4).map(|number| (record::PAIRS + 2 * number + 1, vec![0, 1, 2, 255]));
+    let zeros = match held.state {
+        State::Running(Point { place, .. }) => place.count,
+        State::Ended(_) => 0,
+    };
+    let others = vec![
         (record::FPDAT, vec![0, 1, 2, 3, 4, 255]),
         (record::PAGE_SIZE, vec![0, 256, 511, 512, 513, 768, 1024, 1025, 1536, 2048]),
         (record::PAGE_COUNT, vec![0, 1, first_page, first_page + pages, 63, 64, 65, 127, 128, 129, 255]),
@@ -264,14 +280,17 @@ fn edges_of(held: &Held) -> Vec<(usize, Vec<usize>)> {
         (record::PAGES, vec![0, 1, count - first_page, count - first_page + 1, count, 128, 255]),
         (record::NUMBER, vec![0, 1, 6, 7, 8, 9, 10, 13, 14, 15, 16, 17, 31, 32, 33, 255]),
         (record::OFFSET, vec![0, 1, 255, 256, len - 1, len, 65_535]),
-        (record::STAGE, vec![0, 1, 2, 3, 4, 5, 255]),
-        (record::PAGE, vec![0, 1, pages - 1, pages, 127, 128, 255]),
+        (record::STAGE, vec![0, 1, 2, 3, 4, 5, 5, 6, 255]),
+        (record::PAGE, vec![0, 1, 2, 3, 4, pages - 1, pages, 127, 128, 255]),
         (record::BLOCK, vec![0, 1, 2, 3, 4, 255]),
-        (record::ACT, vec![0, 1, 7, 8, 12, 13, 255, 256, 511, 512, 523, 524, 525, 526, 65_535]),
+        (record::ACT, vec![0, 1, 2, 7, 8, 12, 13, 255, 256, 511, 512, 523, 524, 525, 526, 65_535]),
         (record::STROBE, vec![0, 1, 5, 6, 11, 12, 13, 14, 15, 255]),
-        (record::COUNT, vec![0, 1, 18, 19, 20, 21, 254, 255]),
+        (record::COUNT, vec![0, 1, 18, 19, 20, 21, wait_limit - 1, wait_limit, 254, 255]),
         (record::BITS, vec![0, 1, 2, 3, 4, 127, 128, 255]),
-    ]
+        (record::WAIT_LIMIT, vec![0, 1, 2, 19, 20, 21, zeros, (zeros + 1).min(255), 254, 255]),
+        (record::PAIR_COUNT, vec![0, 1, 2, 3, 4, 5, pair_count + 1, pair_count.max(1) - 1, 255]),
+    ];
+    others.into_iter().chain(registers).chain(values).collect()
 }
 
 /// One to three fields changed, now and then a spare byte too.

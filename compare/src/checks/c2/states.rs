@@ -7,11 +7,13 @@ use proved::c2_target::{self, State};
 
 use super::model::{in_case, random_delays, random_settings, somewhere};
 use crate::harness::c2::master::Master;
-use crate::harness::c2::pair::{refused_state, Pair};
+use crate::harness::c2::model::Setup;
+use crate::harness::c2::pairs::{any_pairs, wanted_once};
+use crate::harness::c2::twins::{refused_state, Twins};
 use crate::harness::check::{Check, Run};
 use crate::harness::random::Random;
 use crate::harness::report::{expect_that, Checked, Failure};
-use crate::second::settings::Settings;
+use crate::second::settings::{Pairs, Settings};
 
 pub const CHECKS: &[Check] = &[
     Check { name: "states: made up", run: made_up },
@@ -23,6 +25,8 @@ pub const CHECKS: &[Check] = &[
 /// What a made-up state is lent with.
 struct Lending {
     settings: Settings,
+    /// each of another register: what a made-up state tells of them is then true of some writes
+    wanted: Pairs,
     flash: Vec<u8>,
     delays: Vec<u8>,
 }
@@ -31,30 +35,31 @@ impl Lending {
     fn random(random: &mut Random) -> Lending {
         let settings = random_settings(random, 2_048);
         let flash = random.bytes(settings.flash_len() as usize);
-        Lending { settings, flash, delays: random_delays(random) }
+        let delays = random_delays(random, settings.wait_limit);
+        let wanted = wanted_once(random, settings.fpdat);
+        Lending { settings, wanted, flash, delays }
     }
 
     /// Both targets in this state, none if it names no point; then it must be refused.
-    fn pair(&self, state: &State, random: &mut Random) -> Result<Option<Pair>, Failure> {
-        let Lending { settings, flash, delays } = self;
-        let pair = Pair::at(state, *settings, flash, delays.clone());
-        if pair.is_none() {
-            refused_state(state, settings, flash, delays, random.byte() % 8)?;
-            // where the settings are refused too, they come first
+    fn twins(&self, state: &State, random: &mut Random) -> Result<Option<Twins>, Failure> {
+        let Lending { settings, wanted, flash, delays } = self;
+        let setup = Setup { settings: *settings, wanted: *wanted };
+        let twins = Twins::at(state, setup, flash, delays.clone());
+        if twins.is_none() {
+            refused_state(state, &setup, flash, delays, random.byte() % 8)?;
+            // where settings or wanted pairs are refused too, they come first
             let settings = Settings { page_count: 0, ..*settings };
-            refused_state(state, &settings, flash, delays, random.byte() % 8)?;
+            refused_state(state, &Setup { settings, ..setup }, flash, delays, random.byte() % 8)?;
+            let wanted = any_pairs(random, settings.fpdat);
+            refused_state(state, &Setup { wanted, ..setup }, flash, delays, random.byte() % 8)?;
         }
-        Ok(pair)
+        Ok(twins)
     }
 }
 
-/// A few steps, now and then more or whole frames; a state that no steps lead to has but one.
-fn go_on(pair: Pair, random: &mut Random) -> Result<(), Failure> {
-    let key_writes_in_a_frame = pair.state().keys == 3 && pair.in_frame();
-    let mut master = Master::new(pair, random);
-    if key_writes_in_a_frame {
-        return master.noise(1);
-    }
+/// A few steps, now and then more or whole frames.
+fn go_on(twins: Twins, random: &mut Random) -> Result<(), Failure> {
+    let mut master = Master::new(twins, random);
     match master.random.below(16) {
         0..=1 => {
             master.finish_frame()?;
@@ -91,14 +96,14 @@ impl Maker<'_> {
 
     fn state(&mut self, lent: &Lending) -> State {
         let mut state = c2_target::fresh();
-        self.point(&mut state);
+        self.point(&mut state, lent.settings.wait_limit);
         self.command(&mut state, lent);
         self.output(&mut state, lent);
         self.device(&mut state, lent.settings.fpdat);
         state
     }
 
-    fn point(&mut self, state: &mut State) {
+    fn point(&mut self, state: &mut State, wait_limit: u8) {
         state.point = self.byte_below(11);
         match state.point {
             1..=5 => {
@@ -113,7 +118,9 @@ impl Maker<'_> {
                 if self.past > 0 {
                     (state.left, state.effect) = any;
                 }
-                state.zeros = if state.point == 8 { self.byte_below(19) } else { 0 };
+                // a WAIT of one strobe has no later one
+                let most = usize::from(wait_limit - 1).max(1);
+                state.zeros = if state.point == 8 { self.byte_below(most) } else { 0 };
             }
             9 => {
                 state.effect = self.random.pick(&[0, 3, 4]);
@@ -164,7 +171,9 @@ impl Maker<'_> {
         let any = self.random.byte();
         state.address = self.random.pick(&[0, 2, fpdat, fpdat, fpdat, any]);
         state.on = self.byte_below(2);
-        state.keys = self.byte_below(4);
+        // all three key writes only between two frames
+        state.keys = self.byte_below(if state.point == 0 { 4 } else { 3 });
+        [state.met1, state.met2, state.met3, state.met4] = [(); 4].map(|()| self.byte_below(2));
         state.collision = self.byte_below(2);
         let any = self.random.next();
         state.place = self.random.pick(&[0, 1, 2, 300, any, u64::MAX - 1, u64::MAX]);
@@ -179,8 +188,8 @@ fn made_up(run: &mut Run) -> Checked {
         for _ in 0..states {
             let past = run.random.pick(&[0, 20]);
             let state = Maker { random: &mut run.random, past }.state(&lent);
-            if let Some(pair) = lent.pair(&state, &mut run.random).map_err(in_case(case))? {
-                go_on(pair, &mut run.random).map_err(in_case(case))?;
+            if let Some(twins) = lent.twins(&state, &mut run.random).map_err(in_case(case))? {
+                go_on(twins, &mut run.random).map_err(in_case(case))?;
                 gone_on += 1;
             }
         }
@@ -192,7 +201,7 @@ fn made_up(run: &mut Run) -> Checked {
 /// The numbers of a state, each with its largest value.
 type Number = (u64, fn(&mut State, u64));
 
-const NUMBERS: [Number; 24] = [
+const NUMBERS: [Number; 28] = [
     (u64::MAX, |s, n| s.place = n),
     (0xFFFF, |s, n| s.start = n as u16),
     (0xFFFF, |s, n| s.rest = n as u16),
@@ -209,6 +218,10 @@ const NUMBERS: [Number; 24] = [
     (0xFF, |s, n| s.address = n as u8),
     (0xFF, |s, n| s.on = n as u8),
     (0xFF, |s, n| s.keys = n as u8),
+    (0xFF, |s, n| s.met1 = n as u8),
+    (0xFF, |s, n| s.met2 = n as u8),
+    (0xFF, |s, n| s.met3 = n as u8),
+    (0xFF, |s, n| s.met4 = n as u8),
     (0xFF, |s, n| s.command = n as u8),
     (0xFF, |s, n| s.write = n as u8),
     (0xFF, |s, n| s.page = n as u8),
@@ -243,8 +256,8 @@ fn changed_numbers(run: &mut Run) -> Checked {
             for value in values(largest, lent.flash.len() as u64) {
                 let mut changed = state;
                 set(&mut changed, value);
-                if let Some(pair) = lent.pair(&changed, &mut run.random).map_err(in_case(case))? {
-                    go_on(pair, &mut run.random).map_err(in_case(case))?;
+                if let Some(twins) = lent.twins(&changed, &mut run.random).map_err(in_case(case))? {
+                    go_on(twins, &mut run.random).map_err(in_case(case))?;
                 }
                 cases += 1;
             }
@@ -254,22 +267,22 @@ fn changed_numbers(run: &mut Run) -> Checked {
 }
 
 /// A state that steps led to names a point; lent with the settings and the flash of another device it need
-/// not, for its page or block may be past the end.
+/// not, for its page or block may be past the end, and the zeros of its WAIT too many.
 fn reached(run: &mut Run) -> Checked {
     let (cases, changes) = (run.cases(120, 8_000), 10);
     for case in 0..cases {
         let mut master = somewhere(case, run).map_err(in_case(case))?;
         master.noise(20).map_err(in_case(case))?;
-        let state = *master.pair.state();
-        let same = master.pair.again();
+        let state = *master.twins.state();
+        let same = master.twins.again();
         expect_that(same.is_some(), "a state that names a point", state, || format!("case {case}"))?;
-        if let Some(pair) = same {
-            go_on(pair, &mut run.random).map_err(in_case(case))?;
+        if let Some(twins) = same {
+            go_on(twins, &mut run.random).map_err(in_case(case))?;
         }
         for _ in 0..changes {
             let lent = Lending::random(&mut run.random);
-            if let Some(pair) = lent.pair(&state, &mut run.random).map_err(in_case(case))? {
-                go_on(pair, &mut run.random).map_err(in_case(case))?;
+            if let Some(twins) = lent.twins(&state, &mut run.random).map_err(in_case(case))? {
+                go_on(twins, &mut run.random).map_err(in_case(case))?;
             }
         }
     }
@@ -283,13 +296,13 @@ fn random_bytes(run: &mut Run) -> Checked {
     for case in 0..cases {
         let random = &mut run.random;
         let mut state = c2_target::fresh();
-        for _ in 0..random.pick(&[1, 2, 3, 24]) {
+        for _ in 0..random.pick(&[1, 2, 3, 28]) {
             let (largest, set) = NUMBERS[random.below(NUMBERS.len())];
             let number = if random.below(2) == 0 { random.below(12) as u64 } else { random.next() };
             set(&mut state, number & largest);
         }
-        if let Some(pair) = lent.pair(&state, random).map_err(in_case(case))? {
-            go_on(pair, random).map_err(in_case(case))?;
+        if let Some(twins) = lent.twins(&state, random).map_err(in_case(case))? {
+            go_on(twins, random).map_err(in_case(case))?;
         }
     }
     Ok(cases)

@@ -12,7 +12,7 @@ use crate::second::c2::session::WAIT_LIMIT;
 use crate::second::c2::steps::{HIGH, LOW, OFF, PAUSE, RELEASED, RESET};
 use crate::second::c2::target::{Modelled, Target};
 use crate::second::numbers;
-use crate::second::settings::Settings;
+use crate::second::settings::{Pairs, Settings};
 
 pub const CHECKS: &[Check] = &[
     Check { name: "our target: refusals, in their order", run: refusals::<Target> },
@@ -33,41 +33,25 @@ pub const CHECKS: &[Check] = &[
     Check { name: "target: commands", run: commands::<Proved> },
 ];
 
-const SETTINGS: Settings = Settings { device_id: 0x5A, fpdat: 0xB4, page_size: 512, page_count: 2 };
+const SETTINGS: Settings = Settings {
+    device_id: 0x5A,
+    fpdat: 0xB4,
+    page_size: 512,
+    page_count: 2,
+    wait_limit: WAIT_LIMIT,
+    pairs: Pairs::NONE,
+};
 
 fn device<T: Modelled>(delays: &[u8]) -> Device<T> {
     Device::new(SETTINGS, vec![0xF0; 1024], delays.to_vec())
 }
 
 impl<T: Modelled> Device<T> {
-    fn address_write(&mut self, address: u8) {
-        self.frame(Kind::AddressWrite, address);
-    }
-
-    fn address_read(&mut self) -> End {
-        self.frame(Kind::AddressRead, 0)
-    }
-
-    fn data_write(&mut self, byte: u8) {
-        self.frame(Kind::DataWrite, byte);
-    }
-
-    fn data_read(&mut self) -> End {
-        self.frame(Kind::DataRead, 0)
-    }
-
     /// These delays come next, in this order. The list lent so far was empty, which leaves the place at 1.
     fn lend_delays(&mut self, delays: &[u8]) {
         assert!(self.delays.is_empty());
         self.delays = delays.to_vec();
         self.delays.rotate_right(1.min(delays.len()));
-    }
-
-    fn write_keys(&mut self) {
-        self.address_write(FPCTL);
-        for key in KEYS {
-            self.data_write(key);
-        }
     }
 }
 
@@ -83,10 +67,10 @@ fn ready<T: Modelled>(delays: &[u8]) -> Device<T> {
 
 /// Counts what was compared.
 #[derive(Default)]
-struct Tally(u64);
+pub struct Tally(pub u64);
 
 impl Tally {
-    fn expect<T: PartialEq + std::fmt::Debug>(
+    pub fn expect<T: PartialEq + std::fmt::Debug>(
         &mut self,
         inputs: &str,
         expected: T,
@@ -96,20 +80,26 @@ impl Tally {
         expect(expected, came, || inputs.to_string())
     }
 
-    fn gives(&mut self, inputs: &str, byte: u8, came: End) -> Result<(), Failure> {
+    pub fn gives(&mut self, inputs: &str, byte: u8, came: End) -> Result<(), Failure> {
         self.expect(inputs, End::Passed(byte), came)
     }
 }
 
 fn refusals<T: Modelled>(_: &mut Run) -> Checked {
-    let bad = Settings { device_id: 0, fpdat: 2, page_size: 500, page_count: 0 };
+    let five = Pairs { count: 5, registers: [3, 4, 5, 6], values: [0; 4] };
+    let bad = Settings { device_id: 0, fpdat: 2, page_size: 500, page_count: 0, wait_limit: 0, pairs: five };
     let rows = [
         (bad, 1024, 1, numbers::BAD_FPDAT),
         (Settings { fpdat: 3, ..bad }, 1024, 1, numbers::BAD_PAGE_SIZE),
         (Settings { page_size: 512, page_count: 0, ..SETTINGS }, 0, 1, numbers::BAD_PAGE_COUNT),
+        (Settings { page_size: 512, fpdat: 3, ..bad }, 0, 1, numbers::BAD_PAGE_COUNT),
         (Settings { page_count: 129, ..SETTINGS }, 66_048, 1, numbers::BAD_PAGE_COUNT),
         (Settings { page_size: 1024, page_count: 65, ..SETTINGS }, 66_560, 1, numbers::BAD_PAGE_COUNT),
         (Settings { page_count: u32::MAX, ..SETTINGS }, 1024, 1, numbers::BAD_PAGE_COUNT),
+        (Settings { wait_limit: 0, ..SETTINGS }, 1024, 0, numbers::BAD_WAIT_LIMIT),
+        (Settings { wait_limit: 0, pairs: five, ..SETTINGS }, 1023, 1, numbers::BAD_WAIT_LIMIT),
+        (Settings { pairs: five, ..SETTINGS }, 1024, 0, numbers::BAD_PAIRS),
+        (Settings { pairs: five, ..SETTINGS }, 1023, 1, numbers::BAD_PAIRS),
         (SETTINGS, 1023, 1, numbers::NO_POINT),
         (SETTINGS, 1025, 0, numbers::NO_POINT),
         (SETTINGS, 1024, 1, numbers::NO_STEP),
@@ -120,12 +110,17 @@ fn refusals<T: Modelled>(_: &mut Run) -> Checked {
     for (settings, flash_len, step, number) in rows {
         // in the middle of an Address Write, to see that nothing changes
         let mut device = device::<T>(&[]);
-        let steps = frames::play(Kind::AddressWrite, 0x77, &[1; 12], WAIT_LIMIT).steps;
+        let steps = frames::play(Kind::AddressWrite, 0x77, &[1; 12], WAIT_LIMIT.into()).steps;
         device.steps(&steps[..6]);
         let mut flash = vec![0; flash_len];
-        let came = device.target.step(&settings, &mut flash, &[], step);
+        let came = device.target.step(&settings, &Pairs::NONE, &mut flash, &[], step);
         let inputs = format!("{settings:?}, flash of {flash_len}, step {step}");
         tally.expect(&inputs, (number, 1), came)?;
+        // wanted pairs come after all settings, and before 17 and 16
+        let number =
+            if [numbers::NO_POINT, numbers::NO_STEP].contains(&number) { numbers::BAD_PAIRS } else { number };
+        let came = device.target.step(&settings, &five, &mut flash, &[], step);
+        tally.expect(&format!("{inputs}, wanted {five:?}"), (number, 1), came)?;
         device.steps(&steps[6..]);
         tally.gives(&inputs, 0x77, device.address_read())?;
     }
@@ -186,18 +181,21 @@ fn frames_steps(kind: Kind) -> Vec<u8> {
     let before_wait = if kind.reads() { 5 } else { 13 };
     let mut replies = vec![1; 17];
     replies[before_wait..before_wait + 2].fill(0);
-    frames::play(kind, 0x33, &replies, WAIT_LIMIT).steps
+    frames::play(kind, 0x33, &replies, WAIT_LIMIT.into()).steps
 }
 
 fn waits<T: Modelled>(_: &mut Run) -> Checked {
     let mut tally = Tally::default();
     let before_wait = [RELEASED, LOW, LOW, LOW, LOW];
-    for delay in 0..=255 {
-        let mut device = device::<T>(&[delay]);
-        device.steps(&before_wait);
-        let zeros = (0..).take_while(|_| device.step(RELEASED) == 0).count();
-        let inputs = format!("zeros in the WAIT of a Data Read, delay {delay}");
-        tally.expect(&inputs, usize::from(delay % 20), zeros)?;
+    for wait_limit in 1..=255 {
+        for delay in 0..=255 {
+            let mut device = device::<T>(&[delay]);
+            device.settings.wait_limit = wait_limit;
+            device.steps(&before_wait);
+            let zeros = (0..).take_while(|_| device.step(RELEASED) == 0).count();
+            let inputs = format!("zeros in the WAIT of a Data Read, limit {wait_limit}, delay {delay}");
+            tally.expect(&inputs, usize::from(delay) % usize::from(wait_limit), zeros)?;
+        }
     }
     // a reset just before a WAIT: its delay is not yet taken; a reset within it: it is
     let mut device = device::<T>(&[3, 25]);
@@ -218,7 +216,7 @@ fn drive(value: u32, width: u32) -> impl Iterator<Item = u8> {
 }
 
 /// A data frame of one to four bytes; its WAIT has no zeros.
-fn data_frame(kind: Kind, length: u32, data: u32) -> Vec<u8> {
+pub fn data_frame(kind: Kind, length: u32, data: u32) -> Vec<u8> {
     let width = 8 * (length + 1);
     let mut steps = vec![RELEASED];
     steps.extend(drive(u32::from(kind.ins()), 2).chain(drive(length, 2)));

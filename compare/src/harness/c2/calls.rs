@@ -6,12 +6,19 @@ use std::{ptr, slice};
 use proved::c2::{self, c2_advance, c2_open, c2_steps_left, Advanced, Opened, Remaining};
 
 use crate::harness::lent::{first_stray, Lent};
-use crate::second::settings::Settings;
+use crate::second::settings::{Pairs, Settings};
+
+impl From<&Pairs> for c2::Pairs {
+    fn from(pairs: &Pairs) -> c2::Pairs {
+        let Pairs { count, registers, values } = *pairs;
+        c2::Pairs { count, registers, values }
+    }
+}
 
 impl From<&Settings> for c2::Settings {
     fn from(settings: &Settings) -> c2::Settings {
-        let Settings { device_id, fpdat, page_size, page_count } = *settings;
-        c2::Settings { device_id, fpdat, page_size, page_count }
+        let Settings { device_id, fpdat, page_size, page_count, wait_limit, ref pairs } = *settings;
+        c2::Settings { device_id, fpdat, page_size, page_count, wait_limit, pairs: pairs.into() }
     }
 }
 

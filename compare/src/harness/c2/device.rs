@@ -3,14 +3,17 @@
 //! The target is our own or the proved one: what is said of a device can be tried on either.
 
 use crate::second::c2::frames::{End, Frame, Kind};
-use crate::second::c2::session::{Session, FIRST_STEP, WAIT_LIMIT};
+use crate::second::c2::interface::{FPCTL, KEYS};
+use crate::second::c2::session::{Session, FIRST_STEP};
 use crate::second::c2::target::{Modelled, Target};
 use crate::second::numbers;
-use crate::second::settings::Settings;
+use crate::second::settings::{Pairs, Settings};
 
 #[derive(Clone, Debug)]
 pub struct Device<T = Target> {
     pub settings: Settings,
+    /// what it wants before its flash is touched
+    pub wanted: Pairs,
     pub target: T,
     pub flash: Vec<u8>,
     pub delays: Vec<u8>,
@@ -24,15 +27,17 @@ impl Device {
 }
 
 impl<T: Modelled> Device<T> {
+    /// A device that wants the pairs of these settings.
     pub fn new(settings: Settings, flash: Vec<u8>, delays: Vec<u8>) -> Device<T> {
-        Device { settings, target: T::fresh(), flash, delays }
+        Device { settings, wanted: settings.pairs, target: T::fresh(), flash, delays }
     }
 
     /// The reply to a step; the device's own settings and flash are in order.
     pub fn step(&mut self, step: u8) -> u8 {
-        let Device { settings, target, flash, delays } = self;
-        let (number, reply) = target.step(settings, flash, delays, step);
-        assert_eq!(number, numbers::RUNNING, "{settings:?}, flash of {}, step {step}", flash.len());
+        let Device { settings, wanted, target, flash, delays } = self;
+        let (number, reply) = target.step(settings, wanted, flash, delays, step);
+        let len = flash.len();
+        assert_eq!(number, numbers::RUNNING, "{settings:?}, wanted {wanted:?}, flash of {len}, step {step}");
         reply
     }
 
@@ -45,9 +50,32 @@ impl<T: Modelled> Device<T> {
         let mut frame = Frame::begin(kind);
         loop {
             let reply = self.step(frame.step(byte));
-            if let Some(end) = frame.reply(reply == 1, WAIT_LIMIT) {
+            if let Some(end) = frame.reply(reply == 1, self.settings.wait_limit.into()) {
                 return end;
             }
+        }
+    }
+
+    pub fn address_write(&mut self, address: u8) {
+        self.frame(Kind::AddressWrite, address);
+    }
+
+    pub fn address_read(&mut self) -> End {
+        self.frame(Kind::AddressRead, 0)
+    }
+
+    pub fn data_write(&mut self, byte: u8) {
+        self.frame(Kind::DataWrite, byte);
+    }
+
+    pub fn data_read(&mut self) -> End {
+        self.frame(Kind::DataRead, 0)
+    }
+
+    pub fn write_keys(&mut self) {
+        self.address_write(FPCTL);
+        for key in KEYS {
+            self.data_write(key);
         }
     }
 

@@ -1,6 +1,8 @@
 //! A session driven on both sides, with refused calls and questions in between.
 
 use crate::harness::c2::driver::{ask, open, take, Opening, Taking};
+use crate::harness::c2::job::random_wait_limit;
+use crate::harness::c2::pairs::any_pairs;
 use crate::harness::random::Random;
 use crate::harness::report::Failure;
 use crate::second::c2::record::{read, RECORD_LEN};
@@ -17,11 +19,14 @@ pub fn mostly<T: Copy>(random: &mut Random, good: &[T], odd: &[T]) -> T {
 pub fn any_settings(random: &mut Random) -> Settings {
     let odd_sizes = [0, 1, 256, 511, 513, 768, 1023, 1025, 2048, 65_536, 1 << 31, u32::MAX];
     let odd_counts = [0, 64, 65, 127, 128, 129, 255, 256, 65_536, 1 << 22, 1 << 23, (1 << 23) + 1, u32::MAX];
+    let fpdat = mostly(random, &[3, 4, 0xB4, 255], &[0, 1, 2]);
     Settings {
         device_id: random.byte(),
-        fpdat: mostly(random, &[3, 4, 0xB4, 255], &[0, 1, 2]),
+        fpdat,
         page_size: mostly(random, &[512, 1024], &odd_sizes),
         page_count: mostly(random, &[1, 2, 5, 32, 64], &odd_counts),
+        wait_limit: if random.below(6) == 0 { 0 } else { random_wait_limit(random) },
+        pairs: any_pairs(random, fpdat),
     }
 }
 

@@ -2,20 +2,20 @@
 //! steps between them. Where a frame goes on is told by our own target.
 
 use crate::harness::c2::driven::any_settings;
-use crate::harness::c2::pair::Pair;
+use crate::harness::c2::model::Setup;
+use crate::harness::c2::pairs::any_pairs;
+use crate::harness::c2::twins::Twins;
 use crate::harness::random::Random;
 use crate::harness::report::Failure;
 use crate::second::c2::frames::Kind;
 use crate::second::c2::interface::{BLOCK_READ, BLOCK_WRITE, FPCTL, IN_BUSY, KEYS, OUT_READY, PAGE_ERASE};
-use crate::second::c2::session::WAIT_LIMIT;
 use crate::second::c2::steps::{driven, HIGH, LOW, OFF, PAUSE, RELEASED, RESET};
-use crate::second::settings::Settings;
 
 /// More reads than d and e together ever ask for.
 const PATIENT: usize = 520;
 
 pub struct Master<'a> {
-    pub pair: Pair,
+    pub twins: Twins,
     pub random: &'a mut Random,
     /// one step in so many goes wrong, none if this is 0
     pub wrong: usize,
@@ -34,9 +34,9 @@ struct Said {
 }
 
 impl Master<'_> {
-    pub fn new(pair: Pair, random: &mut Random) -> Master<'_> {
+    pub fn new(twins: Twins, random: &mut Random) -> Master<'_> {
         let patience = random.pick(&[2, 20, 20, PATIENT]);
-        Master { pair, random, wrong: 0, astray: 0, patience }
+        Master { twins, random, wrong: 0, astray: 0, patience }
     }
 
     fn now_and_then(&mut self, one_in: usize) -> bool {
@@ -47,38 +47,38 @@ impl Master<'_> {
         if self.now_and_then(self.wrong) {
             return self.wrong_step(step);
         }
-        self.pair.step(step)
+        self.twins.step(step)
     }
 
     /// Another strobe instead, or something before it.
     fn wrong_step(&mut self, step: u8) -> Result<u8, Failure> {
         if self.random.below(3) == 0 {
-            return self.pair.step(self.random.pick(&[RELEASED, LOW, HIGH]));
+            return self.twins.step(self.random.pick(&[RELEASED, LOW, HIGH]));
         }
         let unknown = self.random.pick(&[1, 7, 8, 64, 128, 255]);
         let before = self.random.pick(&[step, OFF, PAUSE, RESET, unknown]);
-        self.pair.step(before)?;
+        self.twins.step(before)?;
         if self.random.below(4) == 0 {
             self.refused_step()?;
         }
-        self.pair.step(step)
+        self.twins.step(step)
     }
 
     /// A step that is lent what it must refuse.
     pub fn refused_step(&mut self) -> Result<(), Failure> {
-        let Master { pair, random, .. } = self;
+        let Master { twins, random, .. } = self;
         let step = if random.below(3) == 0 { random.byte() } else { random.below(7) as u8 };
-        let len = pair.flash().len();
+        let len = twins.flash().len();
         if random.below(2) == 0 {
             let wrong_lens = [0, 1, len - 512, len - 1, len + 1, len + 512, 2 * len];
             let wrong_len = random.pick(&wrong_lens);
             let flash = random.bytes(wrong_len);
-            return pair.refused(&pair.settings.clone(), &flash, step);
+            return twins.refused(&twins.setup(), &flash, step);
         }
-        let settings = bad_settings(random);
+        let setup = bad_setup(random, &twins.setup());
         let flash_len = random.pick(&[0, 512, len]);
         let flash = random.bytes(flash_len);
-        pair.refused(&settings, &flash, step)
+        twins.refused(&setup, &flash, step)
     }
 
     fn drive(&mut self, value: u32, width: u32) -> Result<(), Failure> {
@@ -103,7 +103,7 @@ impl Master<'_> {
 
     /// Where a step went wrong there may be no WAIT here, and no end to the zeros.
     fn wait(&mut self) -> Result<(), Failure> {
-        for _ in 0..WAIT_LIMIT {
+        for _ in 0..self.twins.settings.wait_limit {
             if self.step(RELEASED)? == 1 {
                 break;
             }
@@ -140,16 +140,16 @@ impl Master<'_> {
 
     /// A frame that went wrong is mostly brought to its end.
     fn after_frame(&mut self) -> Result<(), Failure> {
-        if self.pair.in_frame() && self.random.below(4) > 0 {
+        if self.twins.in_frame() && self.random.below(4) > 0 {
             self.finish_frame()?;
         }
-        self.pair.compare_flash()
+        self.twins.compare_flash()
     }
 
     pub fn finish_frame(&mut self) -> Result<(), Failure> {
-        while self.pair.in_frame() {
+        while self.twins.in_frame() {
             let step = self.random.pick(&[RELEASED, RELEASED, LOW, HIGH]);
-            self.pair.step(step)?;
+            self.twins.step(step)?;
         }
         Ok(())
     }
@@ -175,26 +175,39 @@ impl Master<'_> {
         Ok(())
     }
 
-    /// Any frame, to any address, with any LENGTH.
+    /// Any frame, to any address, with any LENGTH, or a write to a wanted register.
     pub fn stray_frame(&mut self) -> Result<(), Failure> {
+        let wanted: Vec<_> = self.twins.wanted.named().collect();
+        if !wanted.is_empty() && self.random.below(3) == 0 {
+            let (register, value) = self.random.pick(&wanted);
+            self.select(register)?;
+            let other = self.any_byte();
+            let length = self.random.pick(&[0, 0, 0, 0, 1, 3]);
+            let data = u32::from(self.random.pick(&[value, value, other]));
+            self.say(Said { kind: Kind::DataWrite, length, data })?;
+            return self.select(self.twins.settings.fpdat);
+        }
         let kind = self.random.pick(&Kind::ALL);
         let length = if kind.waits() { self.random.pick(&[0, 0, 0, 1, 2, 3]) } else { 0 };
         let data = u32::from(self.any_byte()) | (self.random.next() as u32) << 8;
         self.say(Said { kind, length, data })?;
         if kind == Kind::AddressWrite && self.random.below(3) > 0 {
-            return self.select(self.pair.settings.fpdat);
+            return self.select(self.twins.settings.fpdat);
         }
         Ok(())
     }
 
     /// A byte that means something somewhere, or any.
     fn any_byte(&mut self) -> u8 {
-        let fpdat = self.pair.settings.fpdat;
+        let fpdat = self.twins.settings.fpdat;
         let known = [0x00, 0x01, 0x02, 0x04, fpdat, BLOCK_READ, BLOCK_WRITE, PAGE_ERASE];
-        if self.random.below(3) == 0 {
-            return self.random.byte();
+        let wanted: Vec<_> =
+            self.twins.wanted.named().flat_map(|(register, value)| [register, value]).collect();
+        match self.random.below(12) {
+            0..=3 => self.random.byte(),
+            4..=5 if !wanted.is_empty() => self.random.pick(&wanted),
+            _ => self.random.pick(&known),
         }
-        self.random.pick(&known)
     }
 
     fn select(&mut self, address: u8) -> Result<(), Failure> {
@@ -202,10 +215,14 @@ impl Master<'_> {
         Ok(())
     }
 
-    /// Turns the interface on, mostly.
+    /// Turns the interface on, mostly, and writes what the device wants, before or after.
     pub fn connect(&mut self) -> Result<(), Failure> {
         if self.random.below(3) > 0 {
             self.step(RESET)?;
+        }
+        let before = self.random.below(8) == 0;
+        if before {
+            self.prepare()?;
         }
         self.frame(Kind::AddressWrite, FPCTL)?;
         for key in KEYS {
@@ -213,12 +230,41 @@ impl Master<'_> {
             self.slip()?;
         }
         self.step(PAUSE)?;
-        self.frame(Kind::AddressWrite, self.pair.settings.fpdat)?;
+        if !before {
+            self.prepare()?;
+        }
+        self.frame(Kind::AddressWrite, self.twins.settings.fpdat)?;
         if self.random.below(3) == 0 {
             // nothing of an earlier command may show
             self.get()?;
         }
         Ok(())
+    }
+
+    /// Writes the wanted pairs, in any order; now and then one of them is left out or written otherwise.
+    fn prepare(&mut self) -> Result<(), Failure> {
+        let mut wanted: Vec<_> = self.twins.wanted.named().collect();
+        if !wanted.is_empty() {
+            let by = self.random.below(wanted.len());
+            wanted.rotate_left(by);
+        }
+        for (register, value) in wanted {
+            match self.random.below(24) {
+                0 => continue,
+                1 => self.write(register, value ^ 1)?,
+                2 => {
+                    self.write(register, value ^ 0x80)?;
+                    self.write(register, value)?;
+                }
+                _ => self.write(register, value)?,
+            }
+        }
+        Ok(())
+    }
+
+    fn write(&mut self, register: u8, value: u8) -> Result<(), Failure> {
+        self.frame(Kind::AddressWrite, register)?;
+        self.frame(Kind::DataWrite, value).map(|_| ())
     }
 
     /// Now and then something else between the key writes, or after them.
@@ -301,7 +347,7 @@ impl Master<'_> {
 
     fn erase(&mut self) -> Result<(), Failure> {
         self.begin(PAGE_ERASE)?;
-        let count = self.pair.settings.page_count as usize;
+        let count = self.twins.settings.page_count as usize;
         let inside = self.random.below(count);
         let page = self.random.pick(&[inside, inside, inside, count - 1, count, 255]);
         self.put(page as u8)?;
@@ -317,7 +363,7 @@ impl Master<'_> {
         let any = self.random.byte();
         let code = self.random.pick(&[0, 1, 2, 3, 5, 255, any % 32, any]);
         let len = if code == 0 { 256 } else { usize::from(code) };
-        let flash_len = self.pair.flash().len();
+        let flash_len = self.twins.flash().len();
         let inside = self.random.below(flash_len - len + 1);
         let anywhere = self.random.below(65_536);
         let last = flash_len - len;
@@ -362,18 +408,20 @@ impl Master<'_> {
                 4..=5 => OFF,
                 _ => self.random.pick(&[RELEASED, LOW, HIGH]),
             };
-            self.pair.step(step)?;
+            self.twins.step(step)?;
         }
-        self.pair.compare_flash()
+        self.twins.compare_flash()
     }
 }
 
-/// Settings with a fault.
-fn bad_settings(random: &mut Random) -> Settings {
+/// Settings or wanted pairs with a fault.
+fn bad_setup(random: &mut Random, good: &Setup) -> Setup {
     loop {
-        let settings = any_settings(random);
-        if settings.refusal().is_some() {
-            return settings;
+        let settings = if random.below(3) == 0 { good.settings } else { any_settings(random) };
+        let wanted = if random.below(3) == 0 { good.wanted } else { any_pairs(random, settings.fpdat) };
+        let setup = Setup { settings, wanted };
+        if setup.refusal().is_some() {
+            return setup;
         }
     }
 }

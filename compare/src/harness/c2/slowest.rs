@@ -1,21 +1,26 @@
-//! The longest way through a session, written out from document 01's order.
+//! The longest way through a session, written out from document 01's order and document 02, e.
+
+use crate::second::settings::Settings;
 
 /// The replies of the slowest device that still satisfies every WAIT and every poll.
-pub struct Slowest(Vec<u8>);
+pub struct Slowest {
+    replies: Vec<u8>,
+    wait_limit: u8,
+}
 
 impl Slowest {
     /// Replies that are not looked at.
     fn unused(&mut self, count: usize) {
-        self.0.extend(vec![0; count]);
+        self.replies.extend(vec![0; count]);
     }
 
     fn byte(&mut self, byte: u8) {
-        self.0.extend((0..8).map(|bit| byte >> bit & 1));
+        self.replies.extend((0..8).map(|bit| byte >> bit & 1));
     }
 
     fn wait(&mut self) {
-        self.0.extend([0; 19]);
-        self.0.push(1);
+        self.replies.extend(vec![0; usize::from(self.wait_limit) - 1]);
+        self.replies.push(1);
     }
 
     fn address_write(&mut self) {
@@ -84,16 +89,21 @@ impl Slowest {
         }
     }
 
-    pub fn session(device_id: u8, page_size: usize, image: &[u8]) -> Vec<u8> {
-        let mut replies = Slowest(Vec::new());
-        replies.unused(1);
-        replies.data_read(device_id);
-        replies.unused(1);
-        replies.address_write();
-        (0..3).for_each(|_| replies.data_write());
-        replies.unused(1);
-        image.chunks(page_size).for_each(|page| replies.page(page));
-        replies.unused(1);
-        replies.0
+    pub fn session(settings: &Settings, image: &[u8]) -> Vec<u8> {
+        let Settings { device_id, page_size, wait_limit, pairs, .. } = *settings;
+        let mut slowest = Slowest { replies: Vec::new(), wait_limit };
+        slowest.unused(1);
+        slowest.data_read(device_id);
+        slowest.unused(1);
+        slowest.address_write();
+        (0..3).for_each(|_| slowest.data_write());
+        slowest.unused(1);
+        for _ in 0..pairs.count {
+            slowest.address_write();
+            slowest.data_write();
+        }
+        image.chunks(page_size as usize).for_each(|page| slowest.page(page));
+        slowest.unused(1);
+        slowest.replies
     }
 }

@@ -1,11 +1,12 @@
-//! What the numbers of the proved target's state mean (include/c2.h), and which states name a point that a
-//! frame and a command have (document 01, number 17). Nothing here asks the proved code.
+//! What the numbers of the proved target's state mean (include/c2_target.h), and which states name a point
+//! that a frame and a command have (document 01, number 17). Nothing here asks the proved code.
 
-use std::collections::VecDeque;
+use std::collections::{HashMap, VecDeque};
 use std::ops::Range;
 
 use proved::c2_target::State;
 
+use crate::harness::c2::model::Setup;
 use crate::second::c2::frames::Kind;
 use crate::second::c2::interface::{BLOCK_READ, BLOCK_WRITE, FAILED, FPCTL, KEYS, OKAY, PAGE_ERASE};
 use crate::second::c2::target::{Field, Frame, Target};
@@ -20,8 +21,6 @@ const READS: u8 = 4;
 
 /// A frame that does nothing at its STOP is taken for one with the longest LENGTH.
 const LONGEST: u8 = 3;
-/// A WAIT has at most 19 zeros, and its first strobe takes one of them.
-const MOST_ZEROS_LEFT: u8 = 18;
 
 /// For each point, which of heard, value, left, zeros and effect are in use.
 const POINTS: [[bool; 5]; 11] = {
@@ -62,8 +61,14 @@ const OUTPUTS: [[bool; 3]; 4] = [
 ];
 
 /// Our own target in this state, none if no frame or command has such a point.
-pub fn read(state: &State, settings: &Settings, flash: &[u8]) -> Option<Target> {
-    let frame = read_frame(state)?;
+pub fn read(state: &State, setup: &Setup, flash: &[u8]) -> Option<Target> {
+    let settings = &setup.settings;
+    let frame = read_frame(state, settings.wait_limit)?;
+    let key_writes = KEYS.get(..usize::from(state.keys))?;
+    // a frame that is under way has taken all three away at its START
+    if frame.is_some() && key_writes.len() == KEYS.len() {
+        return None;
+    }
     Some(Target {
         address: state.address,
         interface_on: truth(state.on)?,
@@ -72,12 +77,21 @@ pub fn read(state: &State, settings: &Settings, flash: &[u8]) -> Option<Target> 
         // a frame that is under way has begun after all key writes
         frame_since: frame.is_some(),
         frame,
-        data_writes: KEYS.get(..usize::from(state.keys))?.iter().map(|&key| (FPCTL, key)).collect(),
+        data_writes: key_writes.iter().map(|&key| (FPCTL, key)).collect(),
+        last_values: read_last_values(state, setup)?,
         command: read_command(state, settings, flash.len())?,
         output: read_output(state, flash)?,
         busy_reads: state.busy,
         unready_reads: state.late,
     })
+}
+
+/// Which wanted pairs are met; of any other register nothing is told. What is told of a pair that is not
+/// named is not looked at.
+fn read_last_values(state: &State, setup: &Setup) -> Option<HashMap<u8, u8>> {
+    let State { met1, met2, met3, met4, .. } = *state;
+    let met: Option<Vec<bool>> = [met1, met2, met3, met4].into_iter().map(truth).collect();
+    Some(setup.wanted.named().zip(met?).filter(|&(_, met)| met).map(|(pair, _)| pair).collect())
 }
 
 fn truth(number: u8) -> Option<bool> {
@@ -91,7 +105,7 @@ fn others_zero<const N: usize>(table: &[[bool; N]], tag: u8, numbers: [u16; N]) 
 }
 
 /// The frame that is under way, if one is.
-fn read_frame(state: &State) -> Option<Option<Frame>> {
+fn read_frame(state: &State, wait_limit: u8) -> Option<Option<Frame>> {
     let State { point, heard, value, left, zeros, effect, byte, .. } = *state;
     others_zero(&POINTS, point, [heard, value, left, zeros, effect].map(u16::from))?;
     if ![SETS_ADDRESS, WRITES].contains(&effect) && byte != 0 {
@@ -101,7 +115,7 @@ fn read_frame(state: &State) -> Option<Option<Frame>> {
         0 => Some(None),
         1..=5 => read_heard(state).map(Some),
         6 => read_long_data(left).map(Some),
-        7..=8 => read_wait(state).map(Some),
+        7..=8 => read_wait(state, wait_limit).map(Some),
         9 => read_sent(state).map(Some),
         _ => Some(Some(Frame { field: Field::Stop, ..frame_of(effect, byte)? })),
     }
@@ -143,8 +157,9 @@ fn read_long_data(left: u8) -> Option<Frame> {
     Some(Frame { field: Field::Written, done, ..frame_of(NOTHING, 0)? })
 }
 
-/// A WAIT: the bits that the target sends after it tell the frame.
-fn read_wait(state: &State) -> Option<Frame> {
+/// A WAIT: the bits that the target sends after it tell the frame. It has fewer zeros than its limit, and its
+/// first strobe takes one of them.
+fn read_wait(state: &State, wait_limit: u8) -> Option<Frame> {
     let State { point, left, zeros, effect, byte, .. } = *state;
     let frame = frame_of(effect, byte)?;
     let frame = match (effect, left) {
@@ -152,8 +167,9 @@ fn read_wait(state: &State) -> Option<Frame> {
         (NOTHING, 16 | 24 | 32) => Frame { ins: Kind::DataRead.ins(), length: left / 8 - 1, ..frame },
         _ => return None,
     };
-    let begun = u32::from(point == 8);
-    (zeros <= MOST_ZEROS_LEFT).then_some(Frame { field: Field::Wait, done: begun, zeros, ..frame })
+    let begun = u8::from(point == 8);
+    let fits = u32::from(zeros) + u32::from(begun) < u32::from(wait_limit);
+    fits.then_some(Frame { field: Field::Wait, done: begun.into(), zeros, ..frame })
 }
 
 /// Bits that the target sends: those left of an ADDRESS or of a byte, or up to four bytes of zeros.

@@ -2,9 +2,9 @@
 //! hold a session within its ranges. Nothing here asks the list of operations or the proved code.
 
 use crate::second::c2::frames::Place;
-use crate::second::c2::session::{refusal, Act, Held, Outcome, Point, Stage, State, POLL_LIMIT, WAIT_LIMIT};
+use crate::second::c2::session::{refusal, Act, Held, Outcome, Point, Stage, State, POLL_LIMIT};
 use crate::second::numbers;
-use crate::second::settings::Settings;
+use crate::second::settings::{Pairs, Settings};
 
 pub const RECORD_LEN: usize = 32;
 
@@ -26,10 +26,14 @@ pub const ACT: usize = 13;
 pub const STROBE: usize = 15;
 pub const COUNT: usize = 16;
 pub const BITS: usize = 17;
-pub const SPARE: usize = 18;
+pub const WAIT_LIMIT: usize = 18;
+pub const PAIR_COUNT: usize = 19;
+/// Of each pair in turn its register, then its value.
+pub const PAIRS: usize = 20;
+pub const SPARE: usize = 28;
 
-pub const STAGES: [Stage; 5] =
-    [Stage::Lead, Stage::Erase, Stage::BlockWrite, Stage::BlockRead, Stage::LastReset];
+pub const STAGES: [Stage; 6] =
+    [Stage::Lead, Stage::Erase, Stage::BlockWrite, Stage::BlockRead, Stage::LastReset, Stage::Pairs];
 
 /// Sets the field that begins there.
 pub fn set(record: &mut Record, at: usize, number: usize) {
@@ -56,6 +60,11 @@ pub fn pack(held: &Held) -> Record {
     set(&mut record, PAGE_COUNT, held.settings.page_count as usize);
     set(&mut record, FIRST_PAGE, held.first_page);
     set(&mut record, PAGES, held.pages);
+    set(&mut record, WAIT_LIMIT, usize::from(held.settings.wait_limit));
+    set(&mut record, PAIR_COUNT, usize::from(held.settings.pairs.count));
+    for (number, (register, value)) in held.settings.pairs.named().enumerate() {
+        record[PAIRS + 2 * number..][..2].copy_from_slice(&[register, value]);
+    }
     match &held.state {
         State::Ended(outcome) => {
             set(&mut record, NUMBER, outcome.number as usize);
@@ -85,6 +94,8 @@ pub fn read(bytes: &[u8]) -> Option<Held> {
         fpdat: record[FPDAT],
         page_size: two(record, PAGE_SIZE) as u32,
         page_count: u32::from(record[PAGE_COUNT]),
+        wait_limit: record[WAIT_LIMIT],
+        pairs: read_pairs(record)?,
     };
     let (first_page, pages) = (usize::from(record[FIRST_PAGE]), usize::from(record[PAGES]));
     let image_len = pages * settings.page_size as usize;
@@ -99,6 +110,13 @@ pub fn read(bytes: &[u8]) -> Option<Held> {
     Some(Held { settings, first_page, pages, state })
 }
 
+/// At most four pairs; entries that are not in use are 0. Their registers are tested with the settings.
+fn read_pairs(record: &Record) -> Option<Pairs> {
+    let entries: Vec<_> = record[PAIRS..SPARE].chunks(2).map(|entry| (entry[0], entry[1])).collect();
+    let (named, unused) = entries.split_at_checked(record[PAIR_COUNT].into())?;
+    unused.iter().all(|&entry| entry == (0, 0)).then(|| Pairs::of(named))
+}
+
 fn zero(bytes: &[u8]) -> bool {
     bytes.iter().all(|&byte| byte == 0)
 }
@@ -109,7 +127,7 @@ fn read_outcome(record: &Record, image_len: usize) -> Option<Outcome> {
     let (number, offset) = (u32::from(record[NUMBER]), two(record, OFFSET));
     let ends = (numbers::BAD_REPLY..=numbers::COMPARE_DIFFERS).contains(&number) || number == numbers::DONE;
     let offset_limit = if number == numbers::COMPARE_DIFFERS { image_len } else { 1 };
-    let in_range = ends && offset < offset_limit && zero(&record[STAGE..SPARE]);
+    let in_range = ends && offset < offset_limit && zero(&record[STAGE..WAIT_LIMIT]);
     in_range.then_some(Outcome { number, offset })
 }
 
@@ -122,7 +140,7 @@ fn read_point(record: &Record, settings: &Settings, pages: usize) -> Option<Poin
     (two(record, OFFSET) == 0 && exists(&point, settings, pages)).then_some(point)
 }
 
-/// How many pages, blocks and acts a stage has; one where the field is not in use.
+/// How many pages (or pairs), blocks and acts a stage has; one where the field is not in use.
 pub fn extent(stage: Stage, settings: &Settings, pages: usize) -> [usize; 3] {
     let blocks = settings.page_size as usize / 256;
     match stage {
@@ -130,6 +148,7 @@ pub fn extent(stage: Stage, settings: &Settings, pages: usize) -> [usize; 3] {
         Stage::Erase => [pages, 1, 13],
         Stage::BlockWrite | Stage::BlockRead => [pages, blocks, 525],
         Stage::LastReset => [1, 1, 1],
+        Stage::Pairs => [settings.pairs.count.into(), 1, 2],
     }
 }
 
@@ -142,7 +161,7 @@ fn exists(point: &Point, settings: &Settings, pages: usize) -> bool {
     }
     let shape = shape(act);
     place.strobe < shape.strobes()
-        && place.count < shape.count_limit(place.strobe)
+        && place.count < shape.count_limit(place.strobe, settings.wait_limit)
         && place.bits < shape.bits_limit(place.strobe)
 }
 
@@ -169,6 +188,7 @@ pub fn shape(act: &Act) -> Shape {
     match act.stage {
         Stage::Lead => lead_shape(number),
         Stage::LastReset => Shape::NoFrame,
+        Stage::Pairs => [Shape::AddressWrite, Shape::DataWrite][number],
         Stage::Erase | Stage::BlockWrite | Stage::BlockRead => command_shape(act.stage, number),
     }
 }
@@ -210,9 +230,9 @@ impl Shape {
     }
 
     /// Zeros seen in a WAIT and unsatisfied reads of a poll are below this; elsewhere nothing is counted.
-    pub fn count_limit(self, strobe: usize) -> usize {
+    pub fn count_limit(self, strobe: usize, wait_limit: u8) -> usize {
         match (self, strobe) {
-            (Shape::DataWrite, 13) | (Shape::DataRead, 5) => WAIT_LIMIT as usize,
+            (Shape::DataWrite, 13) | (Shape::DataRead, 5) => usize::from(wait_limit),
             (Shape::Poll, _) => POLL_LIMIT as usize,
             _ => 1,
         }

@@ -1,4 +1,5 @@
-//! A session (document 01, "Settings and session", "Numbers that come back", "How much is left").
+//! A session (document 01, "Settings and session", "Numbers that come back", "How much is left"; its WAITs by
+//! document 02, d, its pairs of register and value by e).
 //!
 //! Opening writes the whole session out as a list of operations; a reply moves along that list.
 
@@ -10,7 +11,8 @@ use crate::second::c2::steps::{OFF, PAUSE, RESET};
 use crate::second::numbers;
 use crate::second::settings::Settings;
 
-pub const WAIT_LIMIT: u32 = 20;
+/// Document 01's limit of a WAIT, which old units have in their settings.
+pub const WAIT_LIMIT: u8 = 20;
 pub const POLL_LIMIT: u32 = 256;
 
 /// What an accepted opening answers.
@@ -51,9 +53,9 @@ impl Operation {
         }
     }
 
-    /// Each WAIT counts to 20 strobes and each poll to 256 reads.
-    fn most_steps(self) -> u64 {
-        let once = self.frame().map_or(1, |kind| kind.most_strobes(WAIT_LIMIT));
+    /// Each WAIT counts to its limit and each poll to 256 reads.
+    fn most_steps(self, wait_limit: u32) -> u64 {
+        let once = self.frame().map_or(1, |kind| kind.most_strobes(wait_limit));
         if self.polls() {
             u64::from(POLL_LIMIT) * once
         } else {
@@ -66,7 +68,8 @@ impl Operation {
     }
 }
 
-/// The parts of a session's order: the lead goes up to the pause and includes it.
+/// The parts of a session's order, numbered as the record has them: the lead goes up to the pause and
+/// includes it, and the pairs come right after it.
 #[derive(Clone, Copy, Debug, PartialEq, Eq)]
 pub enum Stage {
     Lead,
@@ -74,10 +77,11 @@ pub enum Stage {
     BlockWrite,
     BlockRead,
     LastReset,
+    Pairs,
 }
 
-/// Where an operation stands in the order: the page counts in the image, the block in the page, the act in
-/// the stage. As narrow as in the record, for the list is long.
+/// Where an operation stands in the order: the page counts in the image, or is the number of a pair, the
+/// block in the page, the act in the stage. As narrow as in the record, for the list is long.
 #[derive(Clone, Copy, Debug, PartialEq, Eq)]
 pub struct Act {
     pub stage: Stage,
@@ -92,7 +96,7 @@ struct Entry {
     act: Act,
 }
 
-/// The list of operations of a session, in the order of document 01.
+/// The list of operations of a session, in the order of document 01 and of document 02, e.
 struct Order {
     fpdat: u8,
     /// where the operation to be added next stands
@@ -106,6 +110,11 @@ impl Order {
         let mut order = Order { fpdat: settings.fpdat, next, entries: Vec::new() };
         order.identify(settings.device_id);
         order.turn_interface_on();
+        for (number, (register, value)) in settings.pairs.named().enumerate() {
+            order.enter(Stage::Pairs, number, 0);
+            order.add(Operation::AddressWrite(register));
+            order.add(Operation::DataWrite(Byte::Fixed(value)));
+        }
         for page in 0..pages {
             order.program_page(settings.page_size as usize, first_page + page, page);
         }
@@ -270,7 +279,7 @@ pub struct Session {
     outcome: Outcome,
 }
 
-/// The lowest of the refusals 1 to 5, in the order of their numbers.
+/// The first refusal in the order of the tests: those of the settings, 4, 5.
 pub fn refusal(settings: &Settings, first_page: u32, image_len: usize) -> Option<u32> {
     if let Some(number) = settings.refusal() {
         return Some(number);
@@ -290,7 +299,8 @@ impl Session {
             return Err(number);
         }
         let pages = image.len() / settings.page_size as usize;
-        Ok(Session::begin(*settings, first_page as usize, pages))
+        let settings = Settings { pairs: settings.pairs.kept(), ..*settings };
+        Ok(Session::begin(settings, first_page as usize, pages))
     }
 
     fn begin(settings: Settings, first_page: usize, pages: usize) -> Session {
@@ -299,7 +309,7 @@ impl Session {
         let mut later: Vec<u64> = Vec::with_capacity(entries.len());
         for entry in entries.iter().rev() {
             later.push(sum);
-            sum += entry.operation.most_steps();
+            sum += entry.operation.most_steps(settings.wait_limit.into());
         }
         later.reverse();
         let outcome = Outcome::of(numbers::RUNNING);
@@ -348,6 +358,10 @@ impl Session {
         Point { act: self.entries[self.at].act, place }
     }
 
+    fn wait_limit(&self) -> u32 {
+        self.settings.wait_limit.into()
+    }
+
     fn operation(&self) -> Operation {
         self.entries[self.at].operation
     }
@@ -365,14 +379,15 @@ impl Session {
         self.outcome.number == numbers::RUNNING
     }
 
-    /// The most steps still to come with a reply, by document 01's counting rule.
+    /// The most steps still to come with a reply, by document 01's counting rule as document 02, d and e, has
+    /// it.
     pub fn most_steps_left(&self) -> u64 {
         if !self.running() {
             return 0;
         }
         let later_reads = if self.operation().polls() { POLL_LIMIT - 1 - self.reads } else { 0 };
-        let a_read = Kind::AddressRead.most_strobes(WAIT_LIMIT);
-        let here = self.frame.map_or(1, |frame| frame.most_strobes_left(WAIT_LIMIT));
+        let a_read = Kind::AddressRead.most_strobes(self.wait_limit());
+        let here = self.frame.map_or(1, |frame| frame.most_strobes_left(self.wait_limit()));
         here + u64::from(later_reads) * a_read + self.later[self.at]
     }
 
@@ -419,9 +434,10 @@ impl Session {
         if reply > 1 {
             return Err(Outcome::of(numbers::BAD_REPLY));
         }
+        let wait_limit = self.wait_limit();
         match &mut self.frame {
             None => self.next_operation()?,
-            Some(frame) => match frame.reply(reply == 1, WAIT_LIMIT) {
+            Some(frame) => match frame.reply(reply == 1, wait_limit) {
                 None => {}
                 Some(End::WaitLimit) => return Err(Outcome::of(numbers::WAIT_LIMIT_REACHED)),
                 Some(End::Passed(byte)) => self.judge(byte, image)?,

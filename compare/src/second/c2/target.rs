@@ -1,6 +1,7 @@
-//! The modelled target (document 01, section of that name), one step at a time.
+//! The modelled target (document 01, section of that name; its WAITs by document 02, d, what it wants before
+//! flash is touched by e), one step at a time.
 
-use std::collections::VecDeque;
+use std::collections::{HashMap, VecDeque};
 use std::ops::Range;
 
 use crate::second::c2::frames::Kind;
@@ -9,24 +10,29 @@ use crate::second::c2::interface::{
 };
 use crate::second::c2::steps::{LOW, OFF, PAUSE, RELEASED, RESET};
 use crate::second::numbers;
-use crate::second::settings::Settings;
+use crate::second::settings::{Pairs, Settings};
 
 /// A target that takes steps.
 pub trait Modelled {
     fn fresh() -> Self;
 
     /// Takes one step; gives the number and the reply.
-    fn step(&mut self, settings: &Settings, flash: &mut [u8], delays: &[u8], step: u8) -> (u32, u8);
+    fn step(
+        &mut self,
+        settings: &Settings,
+        wanted: &Pairs,
+        flash: &mut [u8],
+        delays: &[u8],
+        step: u8,
+    ) -> (u32, u8);
 
     fn collision(&self) -> bool;
 }
 
-/// A WAIT sends the delay modulo this number of zeros.
-const WAIT_ZEROS: u8 = 20;
-
 /// What a step is lent, besides the target's own state.
 struct Lent<'a> {
     settings: &'a Settings,
+    wanted: &'a Pairs,
     flash: &'a mut [u8],
     delays: &'a [u8],
 }
@@ -98,6 +104,8 @@ pub struct Target {
     pub data_writes: VecDeque<(u8, u8)>,
     /// a frame has begun after the last of them
     pub frame_since: bool,
+    /// of each register that was written since the reset, the last value
+    pub last_values: HashMap<u8, u8>,
     /// the bytes put so far of a command that has not had them all
     pub command: Vec<u8>,
     pub output: VecDeque<u8>,
@@ -107,9 +115,9 @@ pub struct Target {
     pub unready_reads: u8,
 }
 
-/// The lowest refusal in the order of the tests: 1 to 3, 17, 16.
-fn refusal(settings: &Settings, flash_len: usize, step: u8) -> Option<u32> {
-    if let Some(number) = settings.refusal() {
+/// The first refusal in the order of the tests: those of the settings, 19 of the wanted pairs, 17, 16.
+fn refusal(settings: &Settings, wanted: &Pairs, flash_len: usize, step: u8) -> Option<u32> {
+    if let Some(number) = settings.refusal().or_else(|| wanted.refusal(settings.fpdat)) {
         return Some(number);
     }
     if flash_len as u64 != settings.flash_len() {
@@ -124,11 +132,18 @@ impl Modelled for Target {
     }
 
     /// A refused step changes nothing and replies 1.
-    fn step(&mut self, settings: &Settings, flash: &mut [u8], delays: &[u8], step: u8) -> (u32, u8) {
-        if let Some(number) = refusal(settings, flash.len(), step) {
+    fn step(
+        &mut self,
+        settings: &Settings,
+        wanted: &Pairs,
+        flash: &mut [u8],
+        delays: &[u8],
+        step: u8,
+    ) -> (u32, u8) {
+        if let Some(number) = refusal(settings, wanted, flash.len(), step) {
             return (number, 1);
         }
-        let mut lent = Lent { settings, flash, delays };
+        let mut lent = Lent { settings, wanted, flash, delays };
         let high = match step {
             RESET => self.reset(),
             PAUSE => self.pause(),
@@ -211,7 +226,7 @@ impl Target {
     /// The WAIT begins, and takes its delay, at its first strobe.
     fn wait(&mut self, frame: &mut Frame, lent: &Lent) -> bool {
         if frame.done == 0 {
-            frame.zeros = self.take_delay(lent) % WAIT_ZEROS;
+            frame.zeros = self.take_delay(lent) % lent.settings.wait_limit;
         }
         frame.done += 1;
         if frame.zeros > 0 {
@@ -309,9 +324,19 @@ impl Target {
         }
         self.data_writes.push_back((self.address, byte));
         self.frame_since = false;
+        self.last_values.insert(self.address, byte);
         if self.at_interface(lent) {
             self.put(byte, lent);
         }
+    }
+
+    /// Whether a wanted pair is met: its value was the last one written to its register since the reset.
+    pub fn met(&self, (register, value): (u8, u8)) -> bool {
+        self.last_values.get(&register) == Some(&value)
+    }
+
+    fn prepared(&self, lent: &Lent) -> bool {
+        lent.wanted.named().all(|pair| self.met(pair))
     }
 
     /// A byte for the Programming Interface: the command's next one, or a new command.
@@ -320,6 +345,9 @@ impl Target {
         self.unready_reads = 0;
         self.command.push(byte);
         match self.command[0] {
+            PAGE_ERASE | BLOCK_WRITE if self.command.len() == 1 && !self.prepared(lent) => {
+                self.end_command(FAILED)
+            }
             PAGE_ERASE => self.page_erase(lent),
             BLOCK_WRITE => self.block_write(lent),
             BLOCK_READ => self.block_read(lent),

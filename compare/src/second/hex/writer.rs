@@ -16,7 +16,7 @@ pub fn line(address: u16, kind: u8, data: &[u8], end: &str) -> String {
     format!(":{digits}{end}")
 }
 
-/// The refusals 1 to 5, as of an opening.
+/// The first refusal, as of an opening: those of the settings, 4, 5.
 fn refusal(settings: &Settings, first_page: u32, image_len: usize) -> Option<u32> {
     if let Some(number) = settings.refusal() {
         return Some(number);

@@ -1,18 +1,18 @@
 -- What a call that takes replies answers and leaves, at each of its returns, as
 -- c2_calls says it (`done C2`).
 use mathlib.Core.Path.{_≡_, refl, sym, ap, _∙_}
-use mathlib.Core.List.{List, _++_, append-nil}
+use mathlib.Core.List.{List, _++_}
 use Prim.Native.Nat.{ℕ, _+_, _<_, _≤_}
-use native.Mathlib.Omega.{arith}
 use borrow.Author.Tests.{le-leb, lt-leb, eq-eqb, ne-eqb}
-use lib.ListN.{length, take, drop, drop-of-length-le}
-use lib.Seq.{take-all}
+use lib.ListN.{length, take, drop}
 use Rattle.numbers.specs.Numbers.{bad-record, other-image, no-room}
 use Rattle.c2_wire.specs.Exchange.{Exchange, Outcome, fed, steps, outcome-of}
 use Rattle.c2_session.specs.declared.Session.{Session}
-use Rattle.c2_record.specs.declared.Unpacked.the-variants.{Held, Refused}
-use Rattle.c2_record.specs.Record.{packed, unpacked}
-use Rattle.c2_record.proofs.Laws.Claims.{packed-whole, unpack-pack}
+use Rattle.c2_session.specs.declared.Point.{Point}
+use Rattle.c2_record.specs.declared.Reached.the-variants.{At}
+use Rattle.c2_record.specs.Record.{Held, Refused, packed, unpacked, reached-in}
+use Rattle.c2_record.specs.Code.Said.{session-beside}
+use Rattle.c2_record.proofs.Laws.Said.{reached-held}
 use Rattle.exchange.specs.Calls.{call-done}
 use Rattle.c2_calls.specs.declared.Advanced.{Advanced}
 use Rattle.c2_opening.specs.Opened.{image-length, exchange-at, session-fed}
@@ -30,12 +30,16 @@ Leaves r image rs buffer place a b r₁ =
     (a ≡ call-done C2 (taking r image rs buffer place) .answer)
     × ((b ≡ call-done C2 (taking r image rs buffer place) .steps) × (r₁ ≡ call-done C2 (taking r image rs buffer place) .held))
 
+-- the session beside the point that was unpacked is the one that the record holds
+pub session-held : (r : List ℕ) (p : Point) → At p ≡ reached-in (unpacked r) → (s : Session) → s ≡ session-beside p r → unpacked r ≡ Held s
+session-held r p h s e = reached-held r p h ∙ ap Held (sym e)
+
 module _ (r image rs buffer : List ℕ) (place : ℕ) (a : Advanced) where
-  pub refuses-record : unpacked 20 256 r ≡ Refused → a ≡ refused-answer bad-record → Leaves r image rs buffer place a buffer r
+  pub refuses-record : unpacked r ≡ Refused → a ≡ refused-answer bad-record → Leaves r image rs buffer place a buffer r
   unfolding call-done refusal untouched
   refuses-record e f = rw e (f, (refl, refl))
 
-  module _ (s : Session) (e : unpacked 20 256 r ≡ Held s) where
+  module _ (s : Session) (e : unpacked r ≡ Held s) where
     pub refuses-image : (length image ≡ image-length s → ⊥) → a ≡ refused-answer other-image → Leaves r image rs buffer place a buffer r
     unfolding call-done refusal untouched
     refuses-image g f = rw (e, ne-eqb (length image) (image-length s) g) (f, (refl, refl))
@@ -67,16 +71,3 @@ module _ (r image rs buffer : List ℕ) (place : ℕ) (a : Advanced) where
 
         taken-same : a .taken ≡ length (steps (exchange-at s image) rs)
         taken-same = f .2 ∙ q ∙ ap length (wrote-is s image rs l)
-
--- the new record takes the place of the one that was held: both are 32 bytes
-module _ (r p : List ℕ) (s x : Session) (e : unpacked 20 256 r ≡ Held s) (f : p ≡ packed x) where
-  same-size : length p ≡ length r
-  same-size = ap length f ∙ packed-whole x .size ∙ sym (packed-whole s .size) ∙ ap length (unpack-pack 20 256 s r e)
-
-  pub record-fits : length p ≤ length r
-  record-fits = omega (arith, same-size)
-
-  pub record-replaced : (n : ℕ) → n ≡ length p → take n p ++ drop n r ≡ packed x
-  record-replaced n h =
-      let short : length r ≤ length p = omega (arith, same-size) in
-      rw (h, take-all (length p) p (omega arith), drop-of-length-le r short, append-nil) f

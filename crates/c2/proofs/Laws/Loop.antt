@@ -46,9 +46,9 @@ module _ (image replies steps₀ : List ℕ) (s₀ : Session) where
 
   module _ (steps : List ℕ) (s : Session) (i : ℕ) (k : Sofar image replies steps₀ s₀ steps s i) where
     pub goes : i < length replies → is-running (s .point) ≡ true
-        → Sofar image replies steps₀ s₀ (set steps i (session-step (advanced 20 256 s (getD replies i 0) image) image)) (advanced 20 256 s (getD replies i 0) image) (i + 1)
+        → Sofar image replies steps₀ s₀ (set steps i (session-step (advanced s (getD replies i 0) image) image)) (advanced s (getD replies i 0) image) (i + 1)
     goes h run =
-        let v : ℕ = session-step (advanced 20 256 s (getD replies i 0) image) image in
+        let v : ℕ = session-step (advanced s (getD replies i 0) image) image in
         let hs : i < length steps = omega (arith, k .long, k .room) in
         let hi : i < suc i = omega arith in
         record {
@@ -87,8 +87,8 @@ pub goes-running : (image replies steps₀ : List ℕ) (s₀ : Session) (steps :
 goes-running image replies steps₀ s₀ steps r i k ready h run r₁ er v ev =
     let x : ℕ = getD replies i 0 in
     let knows : Knows s₀ image r₁ = rw er (runner-goes s₀ image r x ready .1) in
-    let e : session-of s₀ r₁ ≡ advanced 20 256 (session-of s₀ r) x image = ap (session-of s₀) er ∙ session-goes s₀ image r x ready in
-    let f : v ≡ session-step (advanced 20 256 (session-of s₀ r) x image) image
+    let e : session-of s₀ r₁ ≡ advanced (session-of s₀ r) x image = ap (session-of s₀) er ∙ session-goes s₀ image r x ready in
+    let f : v ≡ session-step (advanced (session-of s₀ r) x image) image
     = ev ∙ session-waits s₀ image r₁ knows ∙ ap (λ (z : Session). session-step z image) e in
     (rw (f, e) (goes image replies steps₀ s₀ steps (session-of s₀ r) i k h run), goes-on-ready s₀ image r₁ knows)
 

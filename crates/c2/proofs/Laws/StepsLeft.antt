@@ -8,9 +8,7 @@ use Rattle.c2_wire.specs.Exchange.{Outcome}
 use Rattle.c2_session.specs.declared.Session.{Session}
 use Rattle.c2_figure.specs.Code.Left.{steps-left}
 use Rattle.c2_figure.proofs.Laws.Left.{counts}
-use Rattle.c2_record.specs.declared.Unpacked.{Unpacked}
-use Rattle.c2_record.specs.declared.Unpacked.the-variants.{Held, Refused}
-use Rattle.c2_record.specs.Record.{unpacked}
+use Rattle.c2_record.specs.Record.{Held, Refused, unpacked}
 use Rattle.exchange.specs.Calls.{call-done}
 use Rattle.c2_calls.specs.declared.Remaining.{Remaining}
 use Rattle.c2_opening.specs.Opened.{image-length}
@@ -20,18 +18,17 @@ use Rattle.c2_outcome.specs.Outcome.{number-of}
 use Rattle.c2_opening.proofs.Laws.Follows.{Lent, outcome-now}
 use Rattle.c2_calls.proofs.Laws.Claims.{lent-held, blank-bytes}
 
-pub asks-refused : (r : List ℕ) (a : Remaining) → unpacked 20 256 r ≡ Refused → a ≡ record { number = bad-record; steps = 0 } → a ≡ call-done C2 (asking r)
+pub asks-refused : (r : List ℕ) (a : Remaining) → unpacked r ≡ Refused → a ≡ record { number = bad-record; steps = 0 } → a ≡ call-done C2 (asking r)
 unfolding call-done refusal untouched
 asks-refused r a e f = rw e f
 
-pub asks-held : (r : List ℕ) (u : Unpacked) (s : Session) (a : Remaining) → u ≡ unpacked 20 256 r → u ≡ Held s → a .number ≡ number-of (s .point)
-    → a .steps ≡ steps-left 20 256 s → a ≡ call-done C2 (asking r)
+pub asks-held : (r : List ℕ) (s : Session) (a : Remaining) → unpacked r ≡ Held s → a .number ≡ number-of (s .point)
+    → a .steps ≡ steps-left s → a ≡ call-done C2 (asking r)
 unfolding call-done refusal does
-asks-held r u s a d e f g =
-    let held : unpacked 20 256 r ≡ Held s = sym d ∙ e in
+asks-held r s a held f g =
     let l : Lent s (blank s) = lent-held r (blank s) s held (blank-bytes (image-length s)) (length-replicate (image-length s) 0) in
     rw held
     (λ t. record {
       number = (f ∙ sym (ap (λ (o : Outcome). o .number) (outcome-now s (blank s) l))) t;
-      steps = (g ∙ sym (counts 20 256 s (blank s) (l .range) (l .whole))) t;
+      steps = (g ∙ sym (counts s (blank s) (l .range) (l .whole))) t;
     })

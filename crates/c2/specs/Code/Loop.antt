@@ -12,10 +12,10 @@ use Rattle.c2_outcome.specs.Outcome.{is-running}
 -- the session after the replies; one that has ended takes none
 abbrev pub ran : (image : List ℕ) → Session → List ℕ → Session
 ran image s [] = s
-ran image s (r ∷ rs) = cond (is-running (s .point)) (ran image (advanced 20 256 s r image) rs) s
+ran image s (r ∷ rs) = cond (is-running (s .point)) (ran image (advanced s r image) rs) s
 
 -- the steps written, one for each reply taken
 abbrev pub wrote : (image : List ℕ) → Session → List ℕ → List ℕ
 wrote image s [] = []
 wrote image s (r ∷ rs) =
-    cond (is-running (s .point)) (session-step (advanced 20 256 s r image) image ∷ wrote image (advanced 20 256 s r image) rs) []
+    cond (is-running (s .point)) (session-step (advanced s r image) image ∷ wrote image (advanced s r image) rs) []

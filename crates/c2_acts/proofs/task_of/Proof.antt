@@ -29,6 +29,12 @@ read-task-requires c κs = search needs
 enum-told-5 : tie.Need-enum-told-5
 enum-told-5 c = search needs
 
+enum-told-6 : tie.Need-enum-told-6
+enum-told-6 c = search needs
+
+register-task-requires : tie.Need-register-task-requires
+register-task-requires c κs = search needs
+
 returns : tie.Need-returns
 returns c = cc
 
@@ -44,6 +50,9 @@ returns-4 c = cc
 returns-5 : tie.Need-returns-5
 returns-5 c = search needs
 
+returns-6 : tie.Need-returns-6
+returns-6 c = cc
+
 pub task-of-spec : {M : Type 1} → statement M
 task-of-spec =
     tie.close
@@ -57,8 +66,11 @@ task-of-spec =
     enum-told-4
     read-task-requires
     enum-told-5
+    enum-told-6
+    register-task-requires
     returns
     returns-2
     returns-3
     returns-4
-    returns-5)
+    returns-5
+    returns-6)

@@ -5,7 +5,7 @@ use mathlib.Core.Bool.{cond}
 use Prim.Native.Nat.{ℕ, _%_}
 use lib.Dec.{eqb, ltb}
 use Rattle.c2_acts.specs.declared.Stage.{Stage}
-use Rattle.c2_acts.specs.declared.Stage.the-variants.{Lead, Erase, Write, Read, Close}
+use Rattle.c2_acts.specs.declared.Stage.the-variants.{Lead, Erase, Write, Read, Close, Register}
 use Rattle.c2_acts.specs.declared.Task.{Task}
 use Rattle.c2_acts.specs.declared.Task.the-variants.{Reset, Pause, Address, Send, Input, Output, Ident, Status, Compare}
 
@@ -38,6 +38,10 @@ read-task act =
     (cond (eqb act 4) Status
     (cond (ltb act 11) (put-task act) (cond (eqb (act % 2) 1) Output (cond (eqb act 12) Status Compare)))))
 
+-- what an act of a pair does: its register is addressed, then written
+abbrev pub register-task : ℕ → Task
+register-task act = cond (eqb act 0) Address Send
+
 -- what an act of a stage does
 abbrev pub task-of : Stage → ℕ → Task
 task-of Lead act = lead-task act
@@ -45,11 +49,13 @@ task-of Erase act = erase-task act
 task-of Write act = write-task act
 task-of Read act = read-task act
 task-of Close act = Reset
+task-of Register act = register-task act
 
--- how many acts a stage has: Erase for each page, Write and Read for each block
+-- how many acts a stage has: Erase for each page, Write and Read for each block, Register for each pair
 abbrev pub acts-in : Stage → ℕ
 acts-in Lead = 8
 acts-in Erase = 13
 acts-in Write = 525
 acts-in Read = 525
 acts-in Close = 1
+acts-in Register = 2

@@ -1,6 +1,6 @@
 -- C2's calls go on by their replies, so what `exchange` says of lists of calls holds of them.
-use mathlib.Core.Path.{_≡_, refl, sym, ap, _∙_}
-use mathlib.Core.List.{List, [], _∷_, _++_, append-nil}
+use mathlib.Core.Path.{_≡_, sym, ap, _∙_}
+use mathlib.Core.List.{List, [], _++_, append-nil}
 use Prim.Native.Nat.{ℕ, _+_, _≤_}
 use native.Mathlib.Omega.{arith}
 use borrow.Author.Tests.{eq-eqb, leb-true, le-leb}
@@ -14,18 +14,17 @@ use Rattle.numbers.specs.Numbers.{other-image, no-room}
 use Rattle.c2_wire.specs.Exchange.{Exchange, asks, fed, steps, outcome-of}
 use Rattle.c2_wire.proofs.Laws.Exchange.{fed-append, steps-append, taken-append}
 use Rattle.settings.specs.declared.Settings.{Settings}
-use Rattle.c2_order.specs.Conversation.{session-limits}
+use Rattle.c2_order.specs.Conversation.{limits-of}
 use Rattle.c2_order.specs.Point.{Point}
 use Rattle.c2_order.specs.Figure.{figure}
 use Rattle.c2_order.specs.Claims.{Opening, exchange-of, point-after}
 use Rattle.c2_session.specs.declared.Session.{Session}
-use Rattle.c2_record.specs.declared.Unpacked.{Unpacked}
-use Rattle.c2_record.specs.declared.Unpacked.the-variants.{Held}
-use Rattle.c2_record.specs.Record.{packed, unpacked}
+use Rattle.c2_record.specs.Record.{Unpacked, Held, packed, unpacked}
+use Rattle.c2_position.specs.Position.{position}
 use Rattle.c2_opening.specs.Opened.{opened-session, image-length, session-fed}
 use Rattle.c2_opening.proofs.Laws.Follows.{outcome-now}
 use Rattle.c2_calls.specs.declared.Remaining.{Remaining}
-use Rattle.c2_calls.specs.Calls.{Call, opening, taking, asking, held-number, refusal, Taking-done, taken-answer, steps-written, takes, blank, remaining-answer, does}
+use Rattle.c2_calls.specs.Calls.{opening, taking, asking, held-number, refusal, Taking-done, taken-answer, steps-written, takes, blank, remaining-answer, does}
 use Rattle.c2_calls.specs.Claims.{Follows}
 use Rattle.c2_calls.specs.Family.{Told, told-left, hears, replies-of, C2, session-after, by-replies}
 use Rattle.c2_calls.proofs.Laws.Claims.{first-is-reset, replies-follow, parts-join, lent-held, blank-bytes, figure-of-any}
@@ -51,22 +50,23 @@ room image rs buffer place s ok =
 -- what holds of the session after replies to an accepted opening
 module _ (t : Settings) (first : ℕ) (image : List ℕ) (o : Opening t first image) where
   pub after : (rs : List ℕ) → Follows t first image rs
-  after rs = replies-follow t first image rs (o .id) (o .fpdat) (o .bytes) (o .accepted)
+  after rs = replies-follow t first image rs (o .settings) (o .bytes) (o .accepted)
 
   -- what a question is answered that is lent the session's record
   pub asked : (rs : List ℕ)
-      → remaining-answer (unpacked 20 256 (packed (session-after t first image rs)))
-      ≡ record { number = outcome-of (fed (exchange-of session-limits t first image) rs) .number; steps = figure session-limits (point-after session-limits t first image rs) }
+      → remaining-answer (unpacked (packed (session-after t first image rs)))
+      ≡ record { number = outcome-of (fed (exchange-of (limits-of t) t first image) rs) .number; steps = figure (limits-of t) (point-after (limits-of t) t first image rs) }
   asked rs =
       let s = session-after t first image rs in
       let f = after rs in
       let here = lent-held (packed s) image s (f .held) (o .bytes) (f .whole) in
       let there = lent-held (packed s) (blank s) s (f .held) (blank-bytes (image-length s)) (length-replicate (image-length s) 0) in
       let n = outcome-now s (blank s) there ∙ sym (outcome-now s image here) ∙ ap outcome-of (f .left) in
-      let g = sym (figure-of-any s image (here .range) (f .whole)) ∙ ap (λ (x : Point). figure session-limits x) (f .point) in
+      let g = sym (figure-of-any s image (here .range) (f .whole)) ∙ ap (λ (z : Settings). figure (limits-of z) (position s image)) (f .settings)
+      ∙ ap (λ (x : Point). figure (limits-of t) x) (f .point) in
       rw (f .held) (λ i. record { number = n i .number; steps = g i })
 
-  pub left-told : (rs : List ℕ) → told-left (packed (session-after t first image rs)) ≡ figure session-limits (point-after session-limits t first image rs)
+  pub left-told : (rs : List ℕ) → told-left (packed (session-after t first image rs)) ≡ figure (limits-of t) (point-after (limits-of t) t first image rs)
   left-told rs = ap (λ (a : Remaining). a .steps) (asked rs)
 
   -- the record after replies, and what the session is to say
@@ -74,17 +74,17 @@ module _ (t : Settings) (first : ℕ) (image : List ℕ) (o : Opening t first im
   kept qs = packed (session-after t first image qs)
 
   abbrev said : Exchange
-  said = exchange-of session-limits t first image
+  said = exchange-of (limits-of t) t first image
 
   abbrev by : (replies : List ℕ) → Told
   by rs = by-replies t first image rs
 
   -- an accepted call that takes replies goes on from those before
-  module _ (qs rs buffer : List ℕ) (place : ℕ) (ok : held-number (unpacked 20 256 (kept qs)) (length image) (length rs) (length buffer) place ≡ 0) where
+  module _ (qs rs buffer : List ℕ) (place : ℕ) (ok : held-number (unpacked (kept qs)) (length image) (length rs) (length buffer) place ≡ 0) where
     fine : held-number (Held (session-after t first image qs)) (length image) (length rs) (length buffer) place ≡ 0
     fine = ap (λ (x : Unpacked). held-number x (length image) (length rs) (length buffer) place) (sym (after qs .held)) ∙ ok
 
-    done-is : takes (unpacked 20 256 (kept qs)) (kept qs) image rs buffer place
+    done-is : takes (unpacked (kept qs)) (kept qs) image rs buffer place
         ≡ record { answer = taken-answer (fed said qs) rs; steps = steps-written (fed said qs) rs place buffer; held = kept (qs ++ rs) }
     done-is =
         let joins = parts-join (opened-session t first (length image)) image qs rs in

@@ -1,49 +1,22 @@
--- A new session after a cut ends as if there had been none before it: `Again` of specs/Cut.antt.
+-- Over flashes that differ in named pages alone, programming these pages comes to the same flash: so a new
+-- session after a cut ends as if there had been none before it.
 use mathlib.Core.Path.{_≡_, refl, sym, ap, _∙_, subst}
-use mathlib.Core.Bool.{false}
-use mathlib.Core.List.{List, [], _∷_, _++_}
+use mathlib.Core.List.{List, [], _∷_, _++_, map}
 use Prim.Native.Nat.{ℕ, zero, suc, _+_, _*_, _<_}
 use native.Mathlib.Omega.{arith}
 use native.Mathlib.Decide.{ℕ-discrete}
 use lib.ListN.{length, take, drop, length-drop, take-append-drop}
 use lib.Seq.{take-all, drop-drop}
-use Rattle.c2_wire.specs.Exchange.{Exchange, ended, ask, at}
 use Rattle.settings.specs.declared.Settings.{Settings}
-use Rattle.c2_order.specs.Order.{Page, order}
-use Rattle.c2_order.specs.Conversation.{conversation}
-use Rattle.c2_target.specs.declared.Target.{Target}
-use Rattle.c2_target.specs.Delays.{Setup}
-use Rattle.c2_play.specs.Playing.{Played, against, whole-step, play}
-use Rattle.c2_play.specs.Programmed.{Met, Programmed}
-use Rattle.c2_target.proofs.Laws.Known.{Lent, known-says}
-use Rattle.c2_play.proofs.Laws.LeftBy.{Lasts, answer-lasts}
-use Rattle.c2_play.proofs.Laws.Playing.{play-unmarked}
-use Rattle.c2_cut.specs.Walk.{Walk, walked}
-use Rattle.c2_play.specs.Pages.{page-of, with-pages, At, Named}
-use Rattle.c2_cut.specs.Cut.{numbers, Agains}
-use Rattle.c2_play.proofs.Laws.Run.{All-fit}
+use Rattle.c2_order.specs.Order.{Page}
+use Rattle.c2_play.specs.Pages.{page-of, with-pages, At}
+use Rattle.c2_play.proofs.Laws.Named.{Named, All-fit}
 use Rattle.c2_play.proofs.Laws.Rise.{nothing-at, all-at}
 use Rattle.c2_cut.proofs.Laws.PageOf.{pages-length, pages-other, pages-held}
 use Rattle.c2_cut.proofs.Laws.Cut.{at-below}
-use Rattle.c2_play.proofs.Laws.WholeStep.{programs-pages}
-use Rattle.c2_cut.proofs.Laws.Claims.{cuts}
 
--- the rest of a run that is cut, played on, comes to the same end
-play-walked : (u : Setup) (n : ℕ) (e : Exchange) (t : Target) (f : List ℕ)
-    → play u (walked (whole-step u) n e t f .left) (walked (whole-step u) n e t f .target) (walked (whole-step u) n e t f .flash) ≡ play u e t f
-unfolding walked against
-play-walked u zero e t f = refl
-play-walked u (suc n) (ended o) t f = refl
-play-walked u (suc n) (ask (at g s) k) t f = play-walked u n (k (whole-step u t f s .reply)) (whole-step u t f s .target) (whole-step u t f s .flash)
-
--- the state exists wherever a run is cut
-walked-lasts : (u : Setup) → Lent u → (n : ℕ) (e : Exchange) (t : Target) (f : List ℕ) → Lasts u t f
-    → Lasts u (walked (whole-step u) n e t f .target) (walked (whole-step u) n e t f .flash)
-unfolding walked whole-step
-walked-lasts u lent zero e t f h = h
-walked-lasts u lent (suc n) (ended o) t f h = h
-walked-lasts u lent (suc n) (ask (at g s) k) t f h =
-    walked-lasts u lent n (k (whole-step u t f s .reply)) (whole-step u t f s .target) (whole-step u t f s .flash) (answer-lasts u lent t f _ h)
+abbrev pub numbers : List Page → List ℕ
+numbers ps = map (λ p. p .number) ps
 
 -- flashes of the same pages are the same
 by-pages : (size count : ℕ) (f g : List ℕ) → length f ≡ size * count → length g ≡ size * count
@@ -95,7 +68,6 @@ same-place (q ∷ qs) (r ∷ ps) h (suc i) p a =
     let x = same-place qs ps e i p (record { later = a .later; is = a .is }) in
     (x .0, record { later = x .1 .later; is = x .1 .is }, x .2)
 
--- over flashes that differ in named pages alone, programming these pages comes to the same flash
 pub pages-again : (s : Settings) (qs : List Page) (f F : List ℕ) → Named s qs → length f ≡ s .size * s .count → length F ≡ s .size * s .count
     → ((q : ℕ) → q < s .count → ((i : ℕ) (p : Page) → At qs i p → p .number ≡ q → ⊥) → page-of (s .size) q F ≡ page-of (s .size) q f)
     → with-pages (s .size) qs F ≡ with-pages (s .size) qs f
@@ -130,32 +102,3 @@ pages-again s qs f F named ef eF h =
         subst (λ (x : ℕ). page-of (s .size) x (with-pages (s .size) qs F) ≡ page-of (s .size) x (with-pages (s .size) qs f)) e
         (held F eF i p a ∙ sym (held f ef i p a))
     go q hq (missing off) = other F eF q off ∙ h q hq off ∙ sym (other f ef q off)
-
-pub agains : Agains
-agains l u ps t f h n =
-    let met = h .met in
-    let s = u .settings in
-    let e : Exchange = conversation l (order s ps) in
-    let w : Walk = walked (whole-step u) n e t f in
-    let lent : Lent u = record { id = h .id; delays = met .delays; wait = met .some } in
-    let x : Lasts u (w .target) (w .flash) = walked-lasts u lent n e t f (record { bytes = met .flash; exists = met .state }) in
-    let clean : play u (w .left) (w .target) (w .flash) .target .collision ≡ false =
-    ap (λ (p : Played). p .target .collision) (play-walked u n e t f) ∙ programs-pages l u ps t f h .clean in
-    let again : Met l u (w .target) (w .flash) =
-    record {
-      state = x .exists;
-      unmarked = play-unmarked u (w .left) (w .target) (w .flash) clean;
-      flash = x .bytes;
-      delays = met .delays;
-      some = met .some;
-      wait = met .wait;
-      reads = met .reads;
-    } in
-    let c = cuts l u ps t f h n in
-    record {
-      met = again;
-      ends = λ qs nq same. subst (λ (F : List ℕ). Programmed F (play u (conversation l (order s qs)) (w .target) (w .flash)))
-          (pages-again s qs f (w .flash) nq (known-says u t f (met .state) .flash) (known-says u (w .target) (w .flash) (x .exists) .flash)
-          (λ q hq off. c .unnamed q hq (λ i p b eq. let y = same-place qs ps same i p b in off i (y .0) (y .1) (y .2 ∙ eq))))
-          (programs-pages l u qs (w .target) (w .flash) (record { accepted = h .accepted; id = h .id; fpdat = h .fpdat; named = nq; met = again }));
-    }

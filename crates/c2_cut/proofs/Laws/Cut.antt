@@ -1,32 +1,24 @@
 -- What a cut leaves of each page: `Cut` of specs/Cut.antt.
-use mathlib.Core.Path.{_≡_, sym, ap, _∙_}
-use mathlib.Core.Bool.{false}
+use mathlib.Core.Path.{_≡_, sym, ap, subst, _∙_}
 use mathlib.Core.List.{List, [], _∷_}
+use mathlib.Core.Logic.{inl, inr}
 use Prim.Native.Nat.{ℕ, zero, suc, _-_, _*_, _<_, _≤_}
 use native.Mathlib.Omega.{arith}
 use borrow.Author.Tests.{ltb-true, ltb-false, leb-true, leb-false}
 use lib.Dec.{ltb, leb}
-use lib.ListN.{length, take, length-append, length-drop, length-replicate}
+use lib.ListN.{length, take, drop, length-append, length-drop, length-replicate}
 use lib.Seq.{take-all, length-take-le}
 use Rattle.laws.proofs.Tests.{by-test}
 use Rattle.settings.specs.declared.Settings.{Settings}
-use Rattle.c2_order.specs.Order.{Page, order}
-use Rattle.c2_order.specs.Conversation.{Limits, limits, conversation}
-use Rattle.c2_target.specs.declared.Target.{Target}
-use Rattle.c2_target.specs.Delays.{Setup}
-use Rattle.c2_target.specs.Target.{stepped}
-use Rattle.c2_play.specs.Playing.{run-replies}
-use Rattle.c2_play.proofs.Laws.Interface.{Fit}
-use Rattle.c2_cut.specs.Walk.{walked}
-use Rattle.c2_play.specs.Pages.{page-of, with-pages, At, Fits, Named}
-use Rattle.c2_cut.specs.Cut.{Over, Cut}
+use Rattle.c2_order.specs.Order.{Page}
+use Rattle.c2_order.specs.Conversation.{Limits}
+use Rattle.c2_play.specs.Pages.{page-of, with-pages, At}
+use Rattle.c2_play.proofs.Laws.Named.{Fits, Named, All-fit, page-inside}
+use Rattle.c2_cut.specs.Cut.{Over, Partly, Cut}
 use Rattle.c2_play.proofs.Laws.Rise.{all-at, nothing-at}
-use Rattle.c2_play.proofs.Laws.Page.{Mid, untouched, written, part}
-use Rattle.c2_play.proofs.Laws.Run.{All-fit}
+use Rattle.c2_play.proofs.Laws.Page.{Mid, untouched, written, part, part-whole}
 use Rattle.c2_cut.proofs.Laws.Pages.{Standing, leading, between, underway}
-use Rattle.c2_cut.proofs.Laws.Order.{full-reach, order-stands}
-use Rattle.c2_cut.proofs.Laws.PageOf.{page-other, inside, pages-length, pages-other, pages-held}
-use Rattle.c2_cut.proofs.Laws.Over.{over-to, over-from, reach-mono, reach-rises}
+use Rattle.c2_cut.proofs.Laws.PageOf.{page-same, page-other, pages-length, pages-other, pages-held}
 
 -- a place of the list is below its length
 pub at-below : (ps : List Page) (i : ℕ) (p : Page) → At ps i p → i < length ps
@@ -53,7 +45,7 @@ mid-other : (s : Settings) (p : Page) (q : ℕ) (g F : List ℕ) → Fits s p �
     → page-of (s .size) q F ≡ page-of (s .size) q g
 mid-other s p q g F fits eg ne (untouched e) = ap (page-of (s .size) q) e
 mid-other s p q g F fits eg ne (written k e) =
-    ap (page-of (s .size) q) e ∙ page-other (s .size) (p .number) q (part (s .size) p k) g (inside s p g fits eg) (part-length (s .size) p k (fits .whole)) ne
+    ap (page-of (s .size) q) e ∙ page-other (s .size) (p .number) q (part (s .size) p k) g (page-inside s p g fits eg) (part-length (s .size) p k (fits .whole)) ne
 
 -- What a cut leaves of each page, by where the steps fall.
 module _ (s : Settings) (ps : List Page) (named : Named s ps) (f F : List ℕ) (R : ℕ → ℕ) (n : ℕ) (ef : length f ≡ s .size * s .count)
@@ -118,6 +110,56 @@ module _ (s : Settings) (ps : List Page) (named : Named s ps) (f F : List ℕ) (
       (λ eq. absurd (let z : j ≡ i = named .once j i r p b a eq in omega arith)) mid
       ∙ pages-other s ps j (p .number) f fits ef (λ k q hk c eq. absurd (let z : k ≡ i = named .once k i q p c a eq in omega arith))
 
+  abbrev Partly-now : Page → Type 0
+  Partly-now p = Partly size (p .bytes) (page-of size (p .number) f) (page-of size (p .number) F)
+
+  -- a page before the j-th holds its image (`held-before`), any other is as it was (`kept-after`), where the first j
+  -- pages are in the flash
+  held-before : (i j : ℕ) (p : Page) → At ps i p → i < j → page-of size (p .number) (with-pages size (take j ps) f) ≡ part size p size
+  held-before i j p a h =
+      pages-held s ps i j p f fits ef h a (λ k q hk c eq. absurd (let z : i ≡ k = named .once i k p q a c (sym eq) in omega arith))
+      ∙ sym (part-whole s p (named .fits i p a))
+
+  kept-after : (i j : ℕ) (p : Page) → At ps i p → j ≤ i → page-of size (p .number) (with-pages size (take j ps) f) ≡ page-of size (p .number) f
+  kept-after i j p a h = pages-other s ps j (p .number) f fits ef (λ k q hk c eq. absurd (let z : k ≡ i = named .once k i q p c a eq in omega arith))
+
+  -- the page that is under way
+  mid-here : (i : ℕ) (p : Page) → At ps i p → Mid size p (with-pages size (take i ps) f) F → Partly-now p
+  mid-here i p a (untouched e) = inl (ap (page-of size (p .number)) e ∙ kept-after i i p a (omega arith))
+  mid-here i p a (written k e) =
+      let g = with-pages size (take i ps) f in
+      let fit = named .fits i p a in
+      inr (
+        k,
+        ap (page-of size (p .number)) e
+            ∙ page-same size (p .number) (part size p k) g (page-inside s p g fit (pages-length s ps i f fits ef)) (part-length size p k (fit .whole)),
+      )
+
+  stands-each : Standing size ps f R n F → (i : ℕ) (p : Page) → At ps i p → Partly-now p
+  stands-each (leading h e) i p a = inl (ap (page-of size (p .number)) e)
+  stands-each (between j hj hr hn e) i p a =
+      by-test (ltb i j)
+      (λ b. inr (size, ap (page-of size (p .number)) e ∙ held-before i j p a (ltb-true i j b)))
+      (λ b. inl (ap (page-of size (p .number)) e ∙ kept-after i j p a (ltb-false i j b)))
+  stands-each (underway j r after hd h1 h2 mid) i p a =
+      by-test (ltb i j)
+      (λ x. inr (size, other (λ z. omega (arith, ltb-true i j x, z)) ∙ held-before i j p a (ltb-true i j x)))
+      (λ x. by-test (ltb j i)
+      (λ y. inl (other (λ z. omega (arith, ltb-true j i y, z)) ∙ kept-after i j p a (ltb-false i j x)))
+      (λ y. let ij : j ≡ i = omega (arith, ltb-false i j x, ltb-false j i y) in
+      mid-here i p a (subst (λ (z : ℕ). Mid size p (with-pages size (take z ps) f) F) ij (subst (λ (z : Page). Mid size z (with-pages size (take j ps) f) F) (same ij) mid))))
+    where
+      b : At ps j r
+      b = record { later = after; is = hd }
+
+      other : (j ≡ i → ⊥) → page-of size (p .number) F ≡ page-of size (p .number) (with-pages size (take j ps) f)
+      other ne =
+          mid-other s r (p .number) (with-pages size (take j ps) f) F (named .fits j r b) (pages-length s ps j f fits ef)
+          (λ eq. absurd (ne (named .once j i r p b a eq))) mid
+
+      same : j ≡ i → r ≡ p
+      same ij = let e : r ∷ after ≡ p ∷ a .later = sym hd ∙ ap (λ (z : ℕ). drop z ps) ij ∙ a .is in cc e
+
   -- at most one page is begun and its read-back not over
   only-one : (i j : ℕ) → R i ≤ n - 1 → n - 1 < R (suc i) → R j ≤ n - 1 → n - 1 < R (suc j) → i ≡ j
   only-one i j hi gi hj gj =
@@ -143,23 +185,5 @@ module _ (s : Settings) (ps : List Page) (named : Named s ps) (f F : List ℕ) (
             only-one i j
             (before-says i hi) (by-test (leb (R (suc i)) (n - 1)) (λ b. absurd (gi (all-is (suc i) (leb-true (R (suc i)) (n - 1) b)))) (λ b. leb-false (R (suc i)) (n - 1) b))
             (before-says j hj) (by-test (leb (R (suc j)) (n - 1)) (λ b. absurd (gj (all-is (suc j) (leb-true (R (suc j)) (n - 1) b)))) (λ b. leb-false (R (suc j)) (n - 1) b));
+        each = λ i p a. stands-each x i p a;
       }
-
-module _ (u : Setup) (l r : ℕ) (fit : Fit u l r) (B : ℕ) (whole : u .settings .size ≡ 256 * B) (some : 1 ≤ B)
-    (few : u .settings .size * u .settings .count ≤ 65536) where
-  -- request h against the steps that are not refused
-  pub cut-stepped : (ps : List Page) (t : Target) (f : List ℕ) → Named (u .settings) ps → t .collision ≡ false
-      → length f ≡ u .settings .size * u .settings .count → (n : ℕ)
-      → Cut (limits l r) (u .settings) ps (run-replies (stepped u) (conversation (limits l r) (order (u .settings) ps)) t f) n f
-      (walked (stepped u) n (conversation (limits l r) (order (u .settings) ps)) t f .flash)
-  cut-stepped ps t f named hm ef n =
-      let s = u .settings in
-      let fits = all-at s ps (named .fits) in
-      let R = full-reach u l r fit B whole some few ps t f in
-      let mono = reach-mono u l r fit B whole some few ps t f hm fits ef in
-      let rises = reach-rises u l r fit B whole some few ps t f hm fits ef in
-      let to = over-to u l r fit B whole some few ps t f hm fits ef in
-      let from = over-from u l r fit B whole some few ps t f hm fits ef in
-      let x = order-stands u l r fit B whole some few ps t f hm fits ef n in
-      cut-by s ps named f _ R n ef mono rises (limits l r) (run-replies (stepped u) (conversation (limits l r) (order s ps)) t f) x
-      (λ i h. from (n - 1) i h) (λ i h. to (n - 1) i h) (λ i h. from n i h) (λ i h. to n i (omega arith))

@@ -11,8 +11,8 @@ use lib.Seq.{take-at, drop-at, take-append-le, drop-append-le, drop-append-add, 
 use Rattle.laws.proofs.Tests.{by-test}
 use Rattle.settings.specs.declared.Settings.{Settings}
 use Rattle.c2_order.specs.Order.{Page}
-use Rattle.c2_play.specs.Pages.{page-of, with-page, with-pages, At, Fits}
-use Rattle.c2_play.proofs.Laws.Run.{All-fit, with-page-length}
+use Rattle.c2_play.specs.Pages.{page-of, with-page, with-pages, At}
+use Rattle.c2_play.proofs.Laws.Named.{All-fit, page-inside, put-length}
 use Rattle.c2_play.proofs.Laws.Rise.{nothing-at}
 
 -- a page that lies in the first part of the flash (`page-left`), or past it
@@ -64,19 +64,11 @@ module _ (s : Settings) where
   abbrev size : ℕ
   size = s .size
 
-  pub inside : (p : Page) (f : List ℕ) → Fits s p → length f ≡ size * s .count → p .number * size + size ≤ length f
-  inside p f fits ef =
-      let le : suc (p .number) * size ≤ s .count * size = mul-le-mul-right size (fits .number) in
-      omega arith
-
-  put-length : (p : Page) (f : List ℕ) → Fits s p → length f ≡ size * s .count → length (with-page size (p .number) (p .bytes) f) ≡ size * s .count
-  put-length p f fits ef = with-page-length size (p .number) (p .bytes) f (inside p f fits ef) (fits .whole) ∙ ef
-
   pub pages-length : (ps : List Page) (j : ℕ) (f : List ℕ) → All-fit s ps → length f ≡ size * s .count → length (with-pages size (take j ps) f) ≡ size * s .count
   unfolding with-pages All-fit
   pages-length ps zero f fits ef = ef
   pages-length [] (suc j) f fits ef = ef
-  pages-length (p ∷ ps) (suc j) f fits ef = pages-length ps j (with-page size (p .number) (p .bytes) f) (fits .1) (put-length p f (fits .0) ef)
+  pages-length (p ∷ ps) (suc j) f fits ef = pages-length ps j (with-page size (p .number) (p .bytes) f) (fits .1) (put-length s p f (fits .0) ef)
 
   pub pages-other : (ps : List Page) (j q : ℕ) (f : List ℕ) → All-fit s ps → length f ≡ size * s .count
       → ((i : ℕ) (p : Page) → i < j → At ps i p → p .number ≡ q → ⊥) → page-of size q (with-pages size (take j ps) f) ≡ page-of size q f
@@ -84,9 +76,9 @@ module _ (s : Settings) where
   pages-other ps zero q f fits ef h = refl
   pages-other [] (suc j) q f fits ef h = refl
   pages-other (p ∷ ps) (suc j) q f fits ef h =
-      pages-other ps j q (with-page size (p .number) (p .bytes) f) (fits .1) (put-length p f (fits .0) ef)
+      pages-other ps j q (with-page size (p .number) (p .bytes) f) (fits .1) (put-length s p f (fits .0) ef)
       (λ i r hi a. h (suc i) r (omega arith) (record { later = a .later; is = a .is }))
-      ∙ page-other size (p .number) q (p .bytes) f (inside p f (fits .0) ef) (fits .0 .whole) (h 0 p (omega arith) (record { later = ps; is = refl }))
+      ∙ page-other size (p .number) q (p .bytes) f (page-inside s p f (fits .0) ef) (fits .0 .whole) (h 0 p (omega arith) (record { later = ps; is = refl }))
 
   pub pages-held : (ps : List Page) (i j : ℕ) (p : Page) (f : List ℕ) → All-fit s ps → length f ≡ size * s .count → i < j → At ps i p
       → ((k : ℕ) (q : Page) → i < k → At ps k q → q .number ≡ p .number → ⊥) → page-of size (p .number) (with-pages size (take j ps) f) ≡ p .bytes
@@ -95,10 +87,10 @@ module _ (s : Settings) where
   pages-held [] i (suc j) p f fits ef hi a h = absurd (nothing-at i p a)
   pages-held (r ∷ ps) zero (suc j) p f fits ef hi a h =
       let same : r ≡ p = cc (a .is) in
-      pages-other ps j (p .number) (with-page size (r .number) (r .bytes) f) (fits .1) (put-length r f (fits .0) ef)
+      pages-other ps j (p .number) (with-page size (r .number) (r .bytes) f) (fits .1) (put-length s r f (fits .0) ef)
       (λ k q hk b. h (suc k) q (omega arith) (record { later = b .later; is = b .is }))
       ∙ subst (λ (x : Page). page-of size (x .number) (with-page size (r .number) (r .bytes) f) ≡ x .bytes) same
-      (page-same size (r .number) (r .bytes) f (inside r f (fits .0) ef) (fits .0 .whole))
+      (page-same size (r .number) (r .bytes) f (page-inside s r f (fits .0) ef) (fits .0 .whole))
   pages-held (r ∷ ps) (suc i) (suc j) p f fits ef hi a h =
-      pages-held ps i j p (with-page size (r .number) (r .bytes) f) (fits .1) (put-length r f (fits .0) ef) (omega arith) (record { later = a .later; is = a .is })
+      pages-held ps i j p (with-page size (r .number) (r .bytes) f) (fits .1) (put-length s r f (fits .0) ef) (omega arith) (record { later = a .later; is = a .is })
       (λ k q hk b. h (suc k) q (omega arith) (record { later = b .later; is = b .is }))

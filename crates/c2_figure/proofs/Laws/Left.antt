@@ -15,7 +15,7 @@ use Rattle.c2_wire.specs.Frames.{sends, ins-code, frame}
 use Rattle.c2_wire.specs.Place.{place, longest, longest-rest, strobes-left}
 use Rattle.c2_wire.specs.declared.Frame.the-variants.{AddressWrite, AddressRead, DataWrite, DataRead}
 use Rattle.c2_wire.proofs.Laws.Frames.{longest-address-read}
-use Rattle.c2_order.specs.Conversation.{limits}
+use Rattle.c2_order.specs.Conversation.{limits, limits-of}
 use Rattle.c2_order.specs.Point.{strobes-of}
 use Rattle.c2_order.specs.Figure.{reads-left, figure}
 use Rattle.c2_order.proofs.Laws.Figure.Start.{costs-append}
@@ -76,7 +76,7 @@ module _ (w c v : ℕ) where
 
   -- the most steps left of an act at a strobe
   act-counts : (r : ℕ) (t : Task) (b id o q : ℕ) → q < length (strobes-in t)
-      → strobes-left w (strobes-of (task-act t b id o)) (place q c v) + reads-left (limits w r) (task-act t b id o) c ≡ act-left w r t q c
+      → strobes-left w (strobes-of (task-act t b id o)) (place q c v) + reads-left (limits w r) (task-act t b id o) c ≡ act-left (limits w r) t q c
   unfolding strobes-of reads-left strobes-left longest-rest longest frame sends ins-code bits
   act-counts r Reset b id o q h = let z : q ≡ 0 = omega arith in rw z
   act-counts r Pause b id o q h = let z : q ≡ 0 = omega arith in rw z
@@ -88,28 +88,29 @@ module _ (w c v : ℕ) where
   act-counts r Status b id o q h = omega (arith, read-left q h)
   act-counts r Compare b id o q h = omega (arith, read-left q h)
 
-strobe-there : (w r : ℕ) (t : Task) (n q c v : ℕ) → place-in-range w n (strobes-in t) q c v ≡ true → q < length (strobes-in t)
+strobe-there : (w : ℕ) (t : Task) (n q c v : ℕ) → place-in-range w n (strobes-in t) q c v ≡ true → q < length (strobes-in t)
 unfolding place-in-range
-strobe-there w r t n q c v e = ltb-true _ _ (both _ _ (both _ _ e .0) .0)
+strobe-there w t n q c v e = ltb-true _ _ (both _ _ (both _ _ e .0) .0)
 
 -- the figure by arithmetic is the order's, for a session in range that is lent its image
-pub counts : (w r : ℕ) (s : Session) (image : List ℕ) → in-range w r s ≡ true → length image ≡ s .settings .size * s .pages
-    → figure (limits w r) (position s image) ≡ steps-left w r s
+pub counts : (s : Session) (image : List ℕ) → in-range s ≡ true → length image ≡ s .settings .size * s .pages
+    → figure (limits-of (s .settings)) (position s image) ≡ steps-left s
 unfolding steps-left point-position figure
-counts w r s image e l = go (s .point) (point-of w r s e)
+counts s image e l = go (s .point) (point-of s e)
   where
-    go : (y : SessionPoint) → point-in-range w r (s .settings .size) (s .pages) y ≡ true
-        → figure (limits w r) (point-position s image y) ≡ point-left w r y s
+    go : (y : SessionPoint) → point-in-range (limits-of (s .settings)) (s .settings .size) (s .settings .pairs .count) (s .pages) y ≡ true
+        → figure (limits-of (s .settings)) (point-position s image y) ≡ point-left (limits-of (s .settings)) y s
     go (Running g i j k q c v) f =
-        let n = bounded w r (s .settings .size) (s .pages) g i j k q c v f in
-        let h = fits-of w r s image e l in
+        let lim = limits-of (s .settings) in
+        let n = bounded (lim .wait) (lim .reads) (s .settings .size) (s .settings .pairs .count) (s .pages) g i j k q c v f in
+        let h = fits-of s image e l in
         rw (acts-here s image h g i j k (n .page) (n .block) (n .act))
         (omega (
           arith,
-          act-counts w c v r (task-of g k) (act-byte s image h g (act-at g i j k)) (s .settings .id) (compared-offset s (act-at g i j k)) q
-              (strobe-there w r (task-of g k) _ q c v (n .place)),
-          costs-append (limits w r) (drop (suc k) (stage-acts g s image i j)) (after-stage g s image i j),
-          stage-costs w r s image h g i j k (n .page) (n .block) (n .act),
-          after-costs w r s image h g i j (n .page) (n .block),
+          act-counts (lim .wait) c v (lim .reads) (task-of g k) (act-byte s image h g (act-at g i j k)) (s .settings .id) (compared-offset s (act-at g i j k)) q
+              (strobe-there (lim .wait) (task-of g k) _ q c v (n .place)),
+          costs-append lim (drop (suc k) (stage-acts g s image i j)) (after-stage g s image i j),
+          stage-costs lim s image h g i j k (n .page) (n .block) (n .act),
+          after-costs lim s image h g i j (n .page) (n .block),
         ))
     go (Ended n o) f = refl

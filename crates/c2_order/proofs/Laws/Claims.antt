@@ -2,7 +2,7 @@
 use mathlib.Core.Path.{_≡_, refl, sym, ap, _∙_}
 use mathlib.Core.Bool.{Bool, true, false, not, cond, _||_}
 use mathlib.Core.List.{List, [], _∷_}
-use Prim.Native.Nat.{ℕ, zero, suc, _-_, _/_, _≤_}
+use Prim.Native.Nat.{ℕ, _+_, _*_, zero, suc, _-_, _/_, _≤_}
 use native.Mathlib.Omega.{arith}
 use lib.Dec.{eqb}
 use lib.ListN.{length, drop}
@@ -18,15 +18,15 @@ use Rattle.c2_wire.proofs.Laws.Frames.{masters, masters-frame, own-strobes}
 use Rattle.settings.specs.declared.Settings.{Settings}
 use Rattle.c2_order.specs.Acts.{Act, send, poll, expect}
 use Rattle.c2_order.specs.Order.{session-order}
-use Rattle.c2_order.specs.Conversation.{Limits, Positive, session-limits, polling, conversation}
+use Rattle.c2_order.specs.Conversation.{Limits, Positive, limits, limits-of, polling, conversation}
 use Rattle.c2_order.specs.Point.{Point, running, ended, strobes-of, Exists-in, begin, next, follow-up, left-to-say, reached}
-use Rattle.c2_order.specs.Figure.{figure}
-use Rattle.c2_order.specs.Claims.{Opening, point-after, exchange-of, Points-follow, Points-exist, Parts-in-a-row, Driven-by-master, Driven-on, Zero-when-ended, Figure-zero, Figure-falls, Figure-bounds, Figure-starts, Figure-reached}
+use Rattle.c2_order.specs.Figure.{figure, pair-cost, page-cost}
+use Rattle.c2_order.specs.Claims.{Opening, point-after, exchange-of, Points-follow, Points-exist, Parts-in-a-row, Driven-by-master, Driven-on, Zero-when-ended, Figure-zero, Figure-falls, Figure-bounds, Figure-starts, Figure-starts-paper, Figure-reached}
 use Rattle.c2_order.proofs.Laws.Valid.{Sound, Every, none, more, masters-of, Valid, begin-valid}
 use Rattle.c2_order.proofs.Laws.Point.{begin-says, next-says, next-valid}
 use Rattle.c2_order.proofs.Laws.Stands.{exists-valid, begin-ends, reached-ends, ends-exist}
 use Rattle.c2_order.proofs.Laws.Figure.{begin-figure, figure-ended, figure-running, row-falls}
-use Rattle.c2_order.proofs.Laws.Figure.Start.{starting-figure}
+use Rattle.c2_order.proofs.Laws.Figure.Start.{costs-session}
 use Rattle.c2_order.proofs.Laws.Order.{every-session, sound}
 use Rattle.c2_order.proofs.Laws.Figure.Reached.{passable, way-acts}
 use Rattle.settings.proofs.Laws.Opening.{Opened, opened}
@@ -46,7 +46,7 @@ reached-says l h x v (r ∷ rs) =
 
 module _ (l : Limits) (h : Positive l) (s : Settings) (first : ℕ) (image : List ℕ) (o : Opening s first image) where
   start-valid : Valid l (begin (session-order s first image))
-  start-valid = begin-valid l h (session-order s first image) (every-session Sound sound s (o .id) first image (o .bytes))
+  start-valid = begin-valid l h (session-order s first image) (every-session Sound sound s (o .settings .id) first image (o .bytes))
 
   valid-after : (rs : List ℕ) → Valid l (point-after l s first image rs)
   valid-after rs = reached-valid l h (begin (session-order s first image)) start-valid rs
@@ -63,7 +63,7 @@ points-exist l s first image h o rs =
 
 -- a point that exists in a session's order is valid
 valid-there : (l : Limits) (s : Settings) (first : ℕ) (image : List ℕ) → Opening s first image → (x : Point) → Exists-in l (session-order s first image) x → Valid l x
-valid-there l s first image o x e = exists-valid l (session-order s first image) (every-session Sound sound s (o .id) first image (o .bytes)) x e
+valid-there l s first image o x e = exists-valid l (session-order s first image) (every-session Sound sound s (o .settings .id) first image (o .bytes)) x e
 
 pub parts-in-a-row : Parts-in-a-row
 parts-in-a-row e rs qs = record { steps-joined = steps-append e rs qs; taken-summed = taken-append e rs qs; left = fed-append e rs qs }
@@ -132,7 +132,7 @@ driven-on l s first image o x e rs = own-fed (own-point l x (valid-there l s fir
 
 pub driven-by-master : Driven-by-master
 driven-by-master l s first image o rs =
-    own-fed (own-conversation l (session-order s first image) (every-session Sound sound s (o .id) first image (o .bytes))) rs
+    own-fed (own-conversation l (session-order s first image) (every-session Sound sound s (o .settings .id) first image (o .bytes))) rs
 
 -- what holds of the figure
 zero-when-ended : (l : Limits) → Positive l → (x : Point) → Valid l x → Zero-when-ended l x
@@ -163,14 +163,24 @@ start-bounds l s first image h o rs =
     rw (begin-says l h acts) at (bounds l h (begin acts) (start-valid l h s first image o) rs)
 
 pub figure-starts : Figure-starts
-figure-starts s first image o =
+figure-starts l s first image h o =
     let q : Opened s first (length image) = opened s first (length image) (o .accepted) in
     let B : ℕ = q .settings .blocks in
     let e : s .size / 256 ≡ B = omega (arith, q .settings .size) in
-    rw e (begin-figure session-limits (record { wait = omega arith; reads = omega arith }) (session-order s first image)
-    ∙ starting-figure s B first (length image / s .size) image (q .settings .size) (omega (arith, q .settings .some)) (q .whole))
+    rw e (begin-figure l h (session-order s first image)
+    ∙ costs-session l s B (q .settings .size) first (length image / s .size) image (omega (arith, q .settings .some)) (q .whole))
+
+pub figure-starts-paper : Figure-starts-paper
+figure-starts-paper s first image e n o =
+    let k : ℕ = length image / s .size in
+    let B : ℕ = s .size / 256 in
+    let p : Positive (limits-of s) = record { wait = omega arith; reads = omega arith } in
+    let page : page-cost (limits 20 256) B ≡ 18648 + 2 * B * 813784 = omega arith in
+    figure-starts (limits-of s) s first image p o
+    ∙ ap (λ (n : ℕ). 16 + 4 * (14 + s .wait) + n * pair-cost (limits-of s) + k * page-cost (limits-of s) B) n
+    ∙ ap (λ (w : ℕ). 16 + 4 * (14 + w) + 0 * pair-cost (limits w 256) + k * page-cost (limits w 256) B) e ∙ ap (λ (m : ℕ). 152 + k * m) page
 
 pub figure-reached : Figure-reached
 figure-reached l s first image h o =
-    let w = way-replies (way-acts l h (session-order s first image) (every-session _ passable s (o .id) first image (o .bytes))) in
+    let w = way-replies (way-acts l h (session-order s first image) (every-session _ passable s (o .settings .id) first image (o .bytes))) in
     record { replies = w .0; count = w .2 ∙ sym (begin-figure l h (session-order s first image)); ends = w .3 }

@@ -1,5 +1,5 @@
 -- The numbers that end a session: every act of its order that expects a byte ends it with one of them.
-use mathlib.Core.Path.{_≡_, refl}
+use mathlib.Core.Path.{refl}
 use mathlib.Core.Bool.{Bool, true, false, cond}
 use mathlib.Core.List.{List, [], _∷_}
 use mathlib.Core.Logic.{inl, inr}
@@ -7,12 +7,11 @@ use Prim.Native.Nat.{ℕ, zero, suc, _+_}
 use native.Mathlib.Omega.{arith}
 use lib.Dec.{ltb, eqb}
 use Rattle.numbers.specs.Numbers.{poll-limit-reached}
-use Rattle.c2_wire.specs.Exchange.{Outcome, outcome}
+use Rattle.c2_wire.specs.Exchange.{outcome}
 use Rattle.c2_wire.specs.Place.{place, followed}
 use Rattle.c2_wire.specs.declared.Moved.{Moved}
 use Rattle.c2_wire.specs.declared.Moved.the-variants.{Within, Stopped, WaitLimit}
 use Rattle.c2_order.specs.Acts.{Act, send, poll, expect}
-use Rattle.c2_order.specs.Order.{session-order}
 use Rattle.c2_order.specs.Conversation.{Limits}
 use Rattle.c2_order.specs.Point.{Point, running, ended, strobes-of, begin, again, judged, settled, next, reached}
 use Rattle.c2_order.specs.Claims.{Last-number, Ends-so}
@@ -72,7 +71,7 @@ reached-well l x h (r ∷ rs) = reached-well l (next l x r) (next-well l x h r) 
 
 pub ends-so : Ends-so
 ends-so l s first image o x h rs end ending =
-    let every = every-session Ends-well well s (o .id) first image (o .bytes) in
+    let every = every-session Ends-well well s (o .settings .id) first image (o .bytes) in
     let b = first-and-later {P = Ends-well} (h .act) (h .later) (every-end (h .before) (h .act ∷ h .later) (rw (h .whole) every)) in
     let there : Well x = rw (h .here) (b .0, b .1) in
     rw ending at (reached-well l x there rs)

@@ -12,7 +12,7 @@ use borrow.Author.Tests.{lt-ltb, le-ltb}
 use lib.Dec.{ltb, eqb}
 use Rattle.numbers.specs.Numbers.{poll-limit-reached}
 use Rattle.c2_wire.specs.Bits.{bits}
-use Rattle.c2_wire.specs.Exchange.{after, steps, taken, Outcome, outcome}
+use Rattle.c2_wire.specs.Exchange.{steps, taken, Outcome, outcome}
 use Rattle.c2_wire.specs.Frames.{sends, ins-code, frame}
 use Rattle.c2_wire.specs.Place.{place, followed, longest, longest-rest, strobes-left}
 use Rattle.c2_wire.specs.declared.Frame.the-variants.{AddressRead, DataRead}

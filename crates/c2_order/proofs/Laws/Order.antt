@@ -1,8 +1,8 @@
 -- What holds of the acts that an order is made of holds of every act of it.
-use mathlib.Core.Path.{refl}
+use mathlib.Core.Path.{_≡_, refl}
 use mathlib.Core.List.{List, [], _∷_, map}
 use mathlib.Core.Logic.{inr}
-use Prim.Native.Nat.{ℕ, zero, suc, _+_, _*_, _/_, _<_}
+use Prim.Native.Nat.{ℕ, zero, suc, _+_, _*_, _/_, _<_, _≤_}
 use native.Mathlib.Omega.{arith}
 use lib.ListN.{length, take, drop}
 use Rattle.numbers.specs.Numbers.{bad-status, compare-differs, other-device}
@@ -18,8 +18,11 @@ use Rattle.c2_wire.proofs.Laws.Bits.{bytes-take, bytes-drop}
 use Rattle.c2_wire.proofs.Laws.Place.{Whole}
 use Rattle.c2_wire.proofs.Laws.Frames.{masters, masters-frame, whole-address-write, whole-data-write, whole-step}
 use Rattle.settings.specs.declared.Settings.{Settings}
+use Rattle.settings.specs.Accepted.{tidied}
+use Rattle.settings.specs.Registers.{Pair, pairs-of}
+use Rattle.settings.proofs.Laws.Registers.{tidy-pairs}
 use Rattle.c2_order.specs.Acts.{Act, poll, expect, reset-pulse, pause-20-ms, address-write, data-write, input-taken, output-ready, put, get, status, puts, compares, Block, erase, block-command, block-write, block-read}
-use Rattle.c2_order.specs.Order.{Page, pages, blocks, joined, lead, page-acts, order, session-order}
+use Rattle.c2_order.specs.Order.{Page, pages, blocks, joined, lead, pair-acts, preparation, page-acts, order, session-order}
 use Rattle.c2_order.specs.Claims.{Last-number}
 use Rattle.c2_order.proofs.Laws.Valid.{Framed, Sound, Every, none, more, _then_}
 
@@ -100,9 +103,23 @@ module _ (P : Act → Type 0) (g : Ground P) where
       more (g .resets) (more (g .expects (s .id) (outcome other-device) h (inr (omega arith, omega arith))) (more (g .resets) (more (g .addresses 2)
       (more (g .writes 2) (more (g .writes 4) (more (g .writes 1) (more (g .pauses) none)))))))
 
+  pub every-pairs : (ps : List Pair) → Every P (joined (map pair-acts ps))
+  unfolding joined pair-acts
+  every-pairs [] = none
+  every-pairs (p ∷ ps) = more (g .addresses (p .register)) (more (g .writes (p .value)) (every-pairs ps))
+
+  every-preparation : (s : Settings) → s .id < 256 → Every P (preparation s)
+  unfolding preparation
+  every-preparation s h = every-lead s h then every-pairs (pairs-of (s .pairs))
+
   pub every-session : (s : Settings) → s .id < 256 → (first : ℕ) (image : List ℕ) → Bytes image → Every P (session-order s first image)
   unfolding session-order order
-  every-session s i first image h = every-lead s i then every-pages s 0 _ image h then more (g .resets) none
+  every-session s i first image h = every-preparation s i then every-pages s 0 _ image h then more (g .resets) none
+
+-- what a session keeps of settings has their order
+pub tidied-order : (t : Settings) (first : ℕ) (image : List ℕ) → t .pairs .count ≤ 4 → session-order (tidied t) first image ≡ session-order t first image
+unfolding session-order order preparation lead page-acts
+tidied-order t first image h = rw (tidy-pairs (t .pairs) h)
 
 -- the acts that orders are made of are sound
 pub sound : Ground Sound

@@ -10,28 +10,34 @@ use Rattle.c2_wire.specs.Step.{code}
 use Rattle.c2_wire.specs.Exchange.{after, fed, asks, steps, outcome-of}
 use Rattle.c2_wire.specs.Frames.{sends, ins-code, frame, waiting, strobes}
 use Rattle.settings.specs.Accepted.{is-fpdat, is-page-size, is-page-count, settings-refusal}
-use Rattle.settings.specs.declared.Settings.{Settings}
 use Rattle.c2_order.specs.Acts.{input-taken, output-ready, length-code, coded-length}
 use Rattle.settings.specs.Opening.{is-image, are-pages, opening-refusal}
-use Rattle.c2_order.specs.Conversation.{polling, conversation}
-use Rattle.c2_order.specs.Claims.{Opening}
-use Rattle.c2_order.specs.Paper.{steps-of, number-after, times, figure-of, table, Paper-agrees}
-use Rattle.c2_order.proofs.Laws.Claims.{figure-starts}
-
-abbrev device : Settings
-device = record { id = 0x04; fpdat = 0xb4; size = 512; count = 128 }
+use Rattle.settings.specs.Registers.{pairs-from, are-registers, are-pairs}
+use Rattle.settings.proofs.Laws.Accepted.{in-bytes}
+use Rattle.c2_order.specs.Conversation.{limits-of, polling, conversation}
+use Rattle.c2_order.specs.Claims.{Opening, slow-device, Figure-slow}
+use Rattle.c2_order.specs.Paper.{paper-device, steps-of, number-after, times, figure-of, table, Paper-agrees}
+use Rattle.c2_order.proofs.Laws.Claims.{figure-starts, figure-starts-paper}
 
 -- an image of whole pages that fits is accepted
-opens : (image : List ℕ) → Bytes image → opening-refusal device 0 (length image) ≡ 0 → Opening device 0 image
-opens image b e = record { id = omega arith; fpdat = omega arith; bytes = b; accepted = e }
+opens : (image : List ℕ) → Bytes image → opening-refusal paper-device 0 (length image) ≡ 0 → Opening paper-device 0 image
+opens image b e = record { settings = in-bytes _ (omega arith) (omega arith) (omega arith) refl; bytes = b; accepted = e }
+
+-- a device with a slow WAIT
+slow-opens : (image : List ℕ) → Bytes image → opening-refusal slow-device 0 (length image) ≡ 0 → Opening slow-device 0 image
+slow-opens image b e = record { settings = in-bytes _ (omega arith) (omega arith) (omega arith) refl; bytes = b; accepted = e }
+
+pub figure-slow : Figure-slow
+unfolding opening-refusal is-image are-pages settings-refusal is-fpdat is-page-size is-page-count are-pairs are-registers pairs-from
+figure-slow image b e = figure-starts (limits-of slow-device) slow-device 0 image (record { wait = omega arith; reads = omega arith }) (slow-opens image b (rw e)) ∙ rw e
 
 figure-512 : (image : List ℕ) → length image ≡ 512 → Bytes image → figure-of image ≡ 3273936
-unfolding figure-of opening-refusal is-image are-pages settings-refusal is-fpdat is-page-size is-page-count
-figure-512 image e b = figure-starts device 0 image (opens image b (rw e)) ∙ rw e
+unfolding figure-of opening-refusal is-image are-pages settings-refusal is-fpdat is-page-size is-page-count are-pairs are-registers pairs-from
+figure-512 image e b = figure-starts-paper paper-device 0 image refl refl (opens image b (rw e)) ∙ rw e
 
 figure-65536 : (image : List ℕ) → length image ≡ 65536 → Bytes image → figure-of image ≡ 419044504
-unfolding figure-of opening-refusal is-image are-pages settings-refusal is-fpdat is-page-size is-page-count
-figure-65536 image e b = figure-starts device 0 image (opens image b (rw e)) ∙ rw e
+unfolding figure-of opening-refusal is-image are-pages settings-refusal is-fpdat is-page-size is-page-count are-pairs are-registers pairs-from
+figure-65536 image e b = figure-starts-paper paper-device 0 image refl refl (opens image b (rw e)) ∙ rw e
 
 pub paper-agrees : Paper-agrees
 unfolding table steps-of number-after times conversation polling asks steps fed after outcome-of code strobes waiting frame sends ins-code bits odd bit input-taken output-ready length-code coded-length

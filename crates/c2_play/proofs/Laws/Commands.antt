@@ -13,17 +13,19 @@ use lib.ListN.{length, take, drop, replicate, length-append}
 use lib.Seq.{set-at, getD-at, append-snoc}
 use Rattle.numbers.specs.Numbers.{bad-status}
 use Rattle.laws.specs.Bytes.{Bytes}
-use Rattle.c2_wire.specs.Exchange.{outcome}
+use Rattle.c2_wire.specs.Exchange.{Outcome, outcome}
 use Rattle.c2_order.specs.Acts.{Act, put, get, status, puts, compares, length-code, coded-length, Block, erase, block-command, block-write, block-read}
 use Rattle.c2_target.specs.declared.Command.{Command}
 use Rattle.c2_target.specs.declared.Command.the-variants.{Ready, Byte}
 use Rattle.c2_target.specs.declared.Output.{Output}
 use Rattle.c2_target.specs.declared.Output.the-variants.{Empty, Status, StatusBlock}
+use Rattle.c2_target.specs.declared.Met.{Met}
 use Rattle.c2_target.specs.declared.Target.{Target}
 use Rattle.c2_target.specs.Delays.{Setup}
 use Rattle.c2_target.specs.Commands.{erased, stored, in-flash, opens, takes-put, some-output, first-byte, other-bytes}
+use Rattle.c2_target.specs.Interface.{prepared}
 use Rattle.c2_play.proofs.Laws.Interface.{Fit, Kept, Good, good-now, put-good, get-good, status-good, address-good}
-use Rattle.c2_play.specs.Covers.{Covers}
+use Rattle.c2_play.proofs.Laws.Covers.{Covers}
 use Rattle.c2_target.specs.declared.Output.the-variants as outputs
 
 -- a byte that needs no bit raised is the byte written
@@ -62,22 +64,24 @@ code-byte : (n : ℕ) → length-code n < 256
 unfolding length-code
 code-byte n = omega arith
 
-module _ (u : Setup) (l r : ℕ) (fit : Fit u l r) (J : List ℕ → Type 0) (Z : Target → List ℕ → Type 0) (kept : Kept J Z) where
+module _ (u : Setup) (l r : ℕ) (fit : Fit u l r) (m : Met) (end : Outcome) (J : List ℕ → Type 0) (Z : Target → List ℕ → Type 0) (kept : Kept J Z)
+    (ready : prepared (u .wanted) m ≡ true) where
   abbrev good : List Act → Command → Output → List ℕ → Type 0
-  good acts c o f = Good u l r fit J Z kept acts c o f
+  good acts c o f = Good u l r fit m end J Z kept acts c o f
 
   pub erase-good : (page : ℕ) (acts : List Act) (f : List ℕ) → page < 256 → page < u .settings .count → J f
       → good acts Ready Empty (erased (u .settings .size) page f) → good (erase (u .settings .fpdat) page ++ acts) Ready Empty f
   unfolding erase put status get takes-put opens
   erase-good page acts f h hc j g =
-      address-good u l r fit J Z kept _ _ _ _
-      (put-good u l r fit J Z kept 0x08 _ _ _ _ (omega arith) j
-      (status-good u l r fit J Z kept _ _ _
-      (put-good u l r fit J Z kept page _ _ _ _ h j
+      address-good u l r fit m end J Z kept _ _ _ _
+      (put-good u l r fit m end J Z kept 0x08 _ _ _ _ (omega arith) j
+      (rw ready
+      (status-good u l r fit m end J Z kept _ _ _
+      (put-good u l r fit m end J Z kept page _ _ _ _ h j
       (rw (lt-ltb page (u .settings .count) hc)
-      (status-good u l r fit J Z kept _ _ _
-      (put-good u l r fit J Z kept 0x00 _ _ _ _ (omega arith) j
-      (status-good u l r fit J Z kept _ _ _ g)))))))
+      (status-good u l r fit m end J Z kept _ _ _
+      (put-good u l r fit m end J Z kept 0x00 _ _ _ _ (omega arith) j
+      (status-good u l r fit m end J Z kept _ _ _ g))))))))
 
   -- the bytes of a block write: after k of them the first k are new and the others old
   puts-good : (A : List ℕ) (b : ℕ) (bs : List ℕ) (o : ℕ) (os W : List ℕ) (a : ℕ) (acts : List Act) → length A ≡ a → b < 256 → Bytes bs
@@ -85,12 +89,12 @@ module _ (u : Setup) (l r : ℕ) (fit : Fit u l r) (J : List ℕ → Type 0) (Z 
       → good acts Ready (Status true) (A ++ (b ∷ bs ++ W))
       → good (puts (b ∷ bs) ++ acts) (Byte a (suc (length bs))) Empty (A ++ (o ∷ os ++ W))
   unfolding puts put takes-put Covers
-  puts-good A b [] o [] W a acts ea hb h hc cs j g = put-good u l r fit J Z kept b _ _ _ _ hb (j 0) (rw (stored-covers A W o b a ea hc) g)
+  puts-good A b [] o [] W a acts ea hb h hc cs j g = put-good u l r fit m end J Z kept b _ _ _ _ hb (j 0) (rw (stored-covers A W o b a ea hc) g)
   puts-good A b [] o (y ∷ os) W a acts ea hb h hc cs j g = absurd cs
   puts-good A b (x ∷ bs) o [] W a acts ea hb h hc cs j g = absurd cs
   puts-good A b (x ∷ bs) o (y ∷ os) W a acts ea hb h hc cs j g =
       let one : suc (suc (length bs)) - 1 ≡ suc (length bs) = omega arith in
-      put-good u l r fit J Z kept b _ _ _ _ hb (j 0)
+      put-good u l r fit m end J Z kept b _ _ _ _ hb (j 0)
       (rw (
         lt-ltb 1 (suc (suc (length bs))) (omega arith),
         one,
@@ -106,10 +110,10 @@ module _ (u : Setup) (l r : ℕ) (fit : Fit u l r) (J : List ℕ → Type 0) (Z 
       → good acts c Empty (A ++ (b ∷ bs ++ W))
       → good (compares o (b ∷ bs) ++ acts) c (outputs.Block a (suc (length bs))) (A ++ (b ∷ bs ++ W))
   unfolding compares get some-output first-byte other-bytes
-  compares-good A b [] W a o acts c ea hb h g = get-good u l r fit J Z kept b _ _ c (outputs.Block a 1) _ hb refl (getD-at A b W 0 a ea) g
+  compares-good A b [] W a o acts c ea hb h g = get-good u l r fit m end J Z kept b _ _ c (outputs.Block a 1) _ hb refl (getD-at A b W 0 a ea) g
   compares-good A b (x ∷ bs) W a o acts c ea hb h g =
       let one : suc (suc (length bs)) - 1 ≡ suc (length bs) = omega arith in
-      get-good u l r fit J Z kept b _ _ c (outputs.Block a (suc (suc (length bs)))) _ hb refl (getD-at A b (x ∷ bs ++ W) 0 a ea)
+      get-good u l r fit m end J Z kept b _ _ c (outputs.Block a (suc (suc (length bs)))) _ hb refl (getD-at A b (x ∷ bs ++ W) 0 a ea)
       (rw (lt-ltb 1 (suc (suc (length bs))) (omega arith), one, ← append-snoc A b (x ∷ bs ++ W))
       (compares-good (A ++ b ∷ []) x bs W (a + 1) (suc o) acts c (rw length-append (omega arith)) (h .0) (h .1) (rw (append-snoc A b (x ∷ bs ++ W)) g)))
 
@@ -125,15 +129,16 @@ module _ (u : Setup) (l r : ℕ) (fit : Fit u l r) (J : List ℕ → Type 0) (Z 
       let ad : (a / 256) * 256 + a % 256 ≡ a = omega arith in
       let same : length os ≡ length bs = covers-length os bs (cs .1) in
       let fits : a + suc (length bs) ≤ length f = simp length-append (omega arith) in
-      address-good u l r fit J Z kept _ _ _ _
-      (put-good u l r fit J Z kept 0x07 _ _ _ _ (omega arith) (j 0)
-      (status-good u l r fit J Z kept _ _ _
-      (put-good u l r fit J Z kept (a / 256) _ _ _ _ (omega arith) (j 0)
-      (put-good u l r fit J Z kept (a % 256) _ _ _ _ (omega arith) (j 0)
-      (put-good u l r fit J Z kept (length-code (suc (length bs))) _ _ _ _ (code-byte (suc (length bs))) (j 0)
+      address-good u l r fit m end J Z kept _ _ _ _
+      (put-good u l r fit m end J Z kept 0x07 _ _ _ _ (omega arith) (j 0)
+      (rw ready
+      (status-good u l r fit m end J Z kept _ _ _
+      (put-good u l r fit m end J Z kept (a / 256) _ _ _ _ (omega arith) (j 0)
+      (put-good u l r fit m end J Z kept (a % 256) _ _ _ _ (omega arith) (j 0)
+      (put-good u l r fit m end J Z kept (length-code (suc (length bs))) _ _ _ _ (code-byte (suc (length bs))) (j 0)
       (rw (ad, coded (suc (length bs)) h1 hn, le-leb (a + suc (length bs)) (length f) fits, append-assoc (puts (b ∷ bs)) status acts)
       (puts-good A b bs y os W a _ ea (h .0) (h .1) (cs .0) (cs .1) j
-      (status-good u l r fit J Z kept _ _ _ g))))))))
+      (status-good u l r fit m end J Z kept _ _ _ g)))))))))
 
   pub block-read-good : (A bs W : List ℕ) (a o : ℕ) (acts : List Act) → length A ≡ a → a < 65536 → 1 ≤ length bs → length bs ≤ 256 → Bytes bs
       → good acts Ready Empty (A ++ (bs ++ W))
@@ -142,15 +147,15 @@ module _ (u : Setup) (l r : ℕ) (fit : Fit u l r) (J : List ℕ → Type 0) (Z 
   block-read-good A [] W a o acts ea ha h1 hn h g = absurd (omega arith)
   block-read-good A (b ∷ bs) W a o acts ea ha h1 hn h g =
       let f : List ℕ = A ++ (b ∷ bs ++ W) in
-      let j : J f = good-now u l r fit J Z kept _ _ _ _ g in
+      let j : J f = good-now u l r fit m end J Z kept _ _ _ _ g in
       let ad : (a / 256) * 256 + a % 256 ≡ a = omega arith in
       let fits : a + suc (length bs) ≤ length f = simp length-append (omega arith) in
-      address-good u l r fit J Z kept _ _ _ _
-      (put-good u l r fit J Z kept 0x06 _ _ _ _ (omega arith) j
-      (status-good u l r fit J Z kept _ _ _
-      (put-good u l r fit J Z kept (a / 256) _ _ _ _ (omega arith) j
-      (put-good u l r fit J Z kept (a % 256) _ _ _ _ (omega arith) j
-      (put-good u l r fit J Z kept (length-code (suc (length bs))) _ _ _ _ (code-byte (suc (length bs))) j
+      address-good u l r fit m end J Z kept _ _ _ _
+      (put-good u l r fit m end J Z kept 0x06 _ _ _ _ (omega arith) j
+      (status-good u l r fit m end J Z kept _ _ _
+      (put-good u l r fit m end J Z kept (a / 256) _ _ _ _ (omega arith) j
+      (put-good u l r fit m end J Z kept (a % 256) _ _ _ _ (omega arith) j
+      (put-good u l r fit m end J Z kept (length-code (suc (length bs))) _ _ _ _ (code-byte (suc (length bs))) j
       (rw (ad, coded (suc (length bs)) h1 hn, le-leb (a + suc (length bs)) (length f) fits)
-      (get-good u l r fit J Z kept 0x0d (outcome bad-status) _ _ (StatusBlock a (suc (length bs))) _ (omega arith) refl refl
+      (get-good u l r fit m end J Z kept 0x0d (outcome bad-status) _ _ (StatusBlock a (suc (length bs))) _ (omega arith) refl refl
       (compares-good A b bs W a o _ _ ea (h .0) (h .1) g))))))))

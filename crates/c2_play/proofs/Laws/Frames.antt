@@ -10,7 +10,7 @@ use lib.Dec.{eqb, eqb·suc-zero}
 use lib.ListN.{replicate}
 use Rattle.c2_wire.specs.Bits.{bits, bit, odd, number}
 use Rattle.c2_wire.specs.Step.{released, drives}
-use Rattle.c2_wire.specs.Exchange.{Exchange, strobe}
+use Rattle.c2_wire.specs.Exchange.{Exchange, strobe, Outcome}
 use Rattle.c2_wire.specs.Frames.{sends, ins-code, frame, waiting, strobes, framed, stop, sampled}
 use Rattle.c2_wire.specs.Field.{STOP, read-DATA}
 use Rattle.c2_wire.specs.declared.Frame.the-variants.{AddressWrite, AddressRead, DataWrite, DataRead}
@@ -43,9 +43,9 @@ heard-byte a h = omega (arith, sum)
     sum : bit (odd a) + 2 * (bit (odd (a / 2)) + 2 * (bit (odd (a / 2 / 2)) + 2 * (bit (odd (a / 2 / 2 / 2)) + 2 * (bit (odd (a / 2 / 2 / 2 / 2)) + 2 * (bit (odd (a / 2 / 2 / 2 / 2 / 2)) + 2 * (bit (odd (a / 2 / 2 / 2 / 2 / 2 / 2)) + 2 * (bit (odd (a / 2 / 2 / 2 / 2 / 2 / 2 / 2)) + 2 * 0))))))) ≡ a
     sum = unfold bits number in number-bits 8 a h
 
-module _ (u : Setup) (J : List ℕ → Type 0) (Z : Target → List ℕ → Type 0) where
+module _ (u : Setup) (end : Outcome) (J : List ℕ → Type 0) (Z : Target → List ℕ → Type 0) where
   abbrev pub leads : Exchange → Target → List ℕ → Type 0
-  leads e t f = Leads (stepped u) J Z e t f
+  leads e t f = Leads (stepped u) end J Z e t f
 
   -- an exchange runs well from what a frame has left at its STOP
   abbrev pub leads-after : Exchange → (collision : Bool) → Acted → Type 0

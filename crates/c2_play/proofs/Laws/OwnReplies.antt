@@ -1,24 +1,35 @@
--- Replies that are the target's own, each to the step before. The exchange that they lead to, played on from
--- the target as they left it, comes to the same end; so an exchange that they end has ended as it is played.
+-- Replies that are the target's own, each to the step before: they are those of the run, and lead target,
+-- flash and exchange where it does.
 use mathlib.Core.Path.{_≡_, refl, sym, ap, _∙_}
 use mathlib.Core.Bool.{Bool}
 use mathlib.Core.List.{List, [], _∷_, _++_}
 use Prim.Native.Nat.{ℕ, zero, suc, _≤_}
 use native.Mathlib.Omega.{arith}
+use native.Mathlib.Decide.{decLe}
 use lib.Dec.{eqb}
-use lib.ListN.{length}
+use lib.ListN.{length, take}
+use lib.Seq.{take-all, take-nil}
 use Rattle.laws.proofs.Tests.{by-test}
 use Rattle.c2_wire.specs.Bits.{bit}
 use Rattle.c2_wire.specs.Step.{Step, code}
 use Rattle.c2_wire.specs.Field.{Field}
-use Rattle.c2_wire.specs.Exchange.{Exchange, ended, strobe, ask, at, Outcome, after, fed, asks, steps, taken, outcome-of}
+use Rattle.c2_wire.specs.Exchange.{Exchange, ended, strobe, ask, at, Outcome, after, fed, asks, steps, taken}
 use Rattle.c2_wire.proofs.Laws.Bits.{bit-small}
 use Rattle.c2_wire.proofs.Laws.Exchange.{fed-ended, taken-append, after-bit}
 use Rattle.c2_target.specs.declared.Target.{Target}
 use Rattle.c2_target.specs.Delays.{Setup}
 use Rattle.c2_target.specs.Target.{stepped, step-coded, step-refusal, answer, flash-after}
-use Rattle.c2_play.specs.Playing.{against, run-replies, whole-step, play, answered-steps, Own-replies, played-after}
-use Rattle.c2_target.specs.Steps.{own-replies, left-by}
+use Rattle.c2_target.specs.Steps.{State, own-replies, left-by}
+use Rattle.c2_play.specs.Playing.{Played, then-played, played, whole-step, play}
+use Rattle.c2_play.proofs.Laws.Playing.{duration, played-out, played-enough, ended-duration, out-count}
+
+-- the steps that the target gets: the first, and each that was written
+abbrev pub sent : Exchange → (replies : List ℕ) → List ℕ
+sent e rs = asks e ∷ steps e rs
+
+-- each reply taken is the target's own to the step before
+abbrev pub Own-replies : Setup → Target → List ℕ → Exchange → (replies : List ℕ) → Type 0
+Own-replies u t f e rs = take (taken e rs) rs ≡ own-replies u t f (take (taken e rs) (sent e rs))
 
 -- a reply is 0 or 1, also that of a refused step
 pub reply-small : (u : Setup) (t : Target) (f : List ℕ) (x : ℕ) → answer u t f x .reply ≤ 1
@@ -32,33 +43,103 @@ after-small g s k zero h = refl
 after-small g s k (suc zero) h = refl
 after-small g s k (suc (suc n)) h = absurd (omega arith)
 
+reply-again : (n : ℕ) → n ≤ 1 → bit (eqb n 1) ≡ n
+unfolding bit
+reply-again zero h = refl
+reply-again (suc zero) h = refl
+reply-again (suc (suc n)) h = absurd (omega arith)
+
 head-is : (x y : ℕ) (xs ys : List ℕ) → x ∷ xs ≡ y ∷ ys → x ≡ y
 head-is x y xs ys p = cc
 
 tail-is : (x y : ℕ) (xs ys : List ℕ) → x ∷ xs ≡ y ∷ ys → xs ≡ ys
 tail-is x y xs ys p = cc
 
-pub own-play : (u : Setup) (e : Exchange) (t : Target) (f : List ℕ) (rs : List ℕ) → Own-replies u t f e rs
-    → play u (fed e rs) (left-by u t f (answered-steps e rs) .target) (left-by u t f (answered-steps e rs) .flash) ≡ play u e t f
-unfolding fed steps taken answered-steps own-replies left-by against whole-step asks after
-own-play u e t f [] h = refl
-own-play u (ended o) t f (r ∷ rs) h = rw (fed-ended o rs)
-own-play u (ask (at g s) k) t f (r ∷ rs) h =
-    let x = answer u t f (code s) in
-    let e = after (strobe g s k) r in
-    let same : r ≡ x .reply = head-is r (x .reply) _ _ h in
-    let next : e ≡ k (eqb (x .reply) 1) = ap (after (strobe g s k)) same ∙ after-small g s k (x .reply) (reply-small u t f (code s)) in
-    own-play u e (x .target) (flash-after u t f (code s)) rs (tail-is r (x .reply) _ _ h)
-    ∙ ap (λ (y : Exchange). play u y (x .target) (flash-after u t f (code s))) next
+-- the exchange after the target's own reply to its step
+own-after : (u : Setup) (t : Target) (f : List ℕ) (g : Field) (s : Step) (k : Bool → Exchange) (r : ℕ) → r ≡ answer u t f (code s) .reply
+    → after (strobe g s k) r ≡ k (eqb (answer u t f (code s) .reply) 1)
+own-after u t f g s k r same = ap (after (strobe g s k)) same ∙ after-small g s k (answer u t f (code s) .reply) (reply-small u t f (code s))
 
--- an exchange that the target's own replies end has ended as it is played
-pub own-ends : (u : Setup) (e : Exchange) (t : Target) (f : List ℕ) (rs : List ℕ) (o : Outcome) → Own-replies u t f e rs → fed e rs ≡ ended o
-    → play u e t f ≡ played-after u e t f rs
-unfolding against outcome-of
-own-ends u e t f rs o h q =
-    sym (own-play u e t f rs h)
-    ∙ ap (λ (y : Exchange). play u y (left-by u t f (answered-steps e rs) .target) (left-by u t f (answered-steps e rs) .flash)) q
-    ∙ ap (λ (y : Exchange). record { outcome = outcome-of y; target = left-by u t f (answered-steps e rs) .target; flash = left-by u t f (answered-steps e rs) .flash }) (sym q)
+-- an exchange that has not ended is played on by the target's reply to its step
+pub play-on : (u : Setup) (n : ℕ) (g : Field) (s : Step) (k : Bool → Exchange) (t : Target) (f : List ℕ)
+    → play u (suc n) (strobe g s k) t f
+    ≡ then-played (answer u t f (code s) .reply)
+    (play u n (after (strobe g s k) (answer u t f (code s) .reply)) (answer u t f (code s) .target) (flash-after u t f (code s)))
+unfolding played whole-step
+play-on u n g s k t f = rw (own-after u t f g s k _ refl, reply-again (answer u t f (code s) .reply) (reply-small u t f (code s)))
+
+off-keeps : (u : Setup) (t : Target) (f : List ℕ) → left-by u t f (6 ∷ []) ≡ record { target = t; flash = f }
+unfolding left-by answer flash-after stepped step-coded
+off-keeps u t f = by-test (eqb (step-refusal u t f 6) 0) (λ e. rw e) (λ e. rw e)
+
+none-brought : (o : Outcome) (rs : List ℕ) → steps (ended o) rs ≡ []
+unfolding steps
+none-brought o [] = refl
+none-brought o (r ∷ rs) = refl
+
+-- the target and the flash of a run
+abbrev pub there : Played → State
+there x = record { target = x .target; flash = x .flash }
+
+-- the steps that the replies bring lead the target as the run does (`own-given`), the last one too
+pub own-given : (u : Setup) (n : ℕ) (e : Exchange) (t : Target) (f rs : List ℕ) → Own-replies u t f e rs → n ≤ suc (taken e rs)
+    → left-by u t f (take n (sent e rs)) ≡ there (play u n e t f)
+unfolding played left-by taken steps asks own-replies whole-step after code
+own-given u zero e t f rs h hn = refl
+own-given u (suc n) (ended o) t f rs h hn =
+    ap (λ (xs : List ℕ). left-by u t f (6 ∷ take n xs)) (none-brought o rs) ∙ ap (λ (xs : List ℕ). left-by u t f (6 ∷ xs)) (take-nil n) ∙ off-keeps u t f
+own-given u (suc zero) (ask (at g s) k) t f [] h hn = refl
+own-given u (suc (suc n)) (ask (at g s) k) t f [] h hn = absurd (omega arith)
+own-given u (suc n) (ask (at g s) k) t f (r ∷ rs) h hn =
+    let x = answer u t f (code s) in
+    own-given u n (after (strobe g s k) r) (x .target) (flash-after u t f (code s)) rs (tail-is r (x .reply) _ _ h) (omega arith)
+    ∙ ap (λ (y : Exchange). there (play u n y (x .target) (flash-after u t f (code s)))) (own-after u t f g s k r (head-is r (x .reply) _ _ h))
+
+-- any number of these steps leads it where some number of the run's does, past the replies taken if it is
+pub own-along : (u : Setup) (n : ℕ) (e : Exchange) (t : Target) (f rs : List ℕ) → Own-replies u t f e rs
+    → (m : ℕ) × (left-by u t f (take n (sent e rs)) ≡ there (play u m e t f)) × (taken e rs ≤ n → taken e rs ≤ m)
+unfolding taken
+own-along u n e t f rs h = go (decLe n (suc (taken e rs)))
+  where
+    go : Dec (n ≤ suc (taken e rs)) → (m : ℕ) × (left-by u t f (take n (sent e rs)) ≡ there (play u m e t f)) × (taken e rs ≤ n → taken e rs ≤ m)
+    go (yes p) = (n, own-given u n e t f rs h p, λ q. q)
+    go (no p) =
+        let m : ℕ = suc (taken e rs) in
+        let all : take n (sent e rs) ≡ take m (sent e rs) = take-all n (sent e rs) (omega arith) ∙ sym (take-all m (sent e rs) (omega arith)) in
+        (m, ap (left-by u t f) all ∙ own-given u m e t f rs h (omega arith), λ q. omega arith)
+
+-- they leave of the exchange what the run does
+pub own-left : (u : Setup) (e : Exchange) (t : Target) (f rs : List ℕ) → Own-replies u t f e rs → fed e rs ≡ play u (taken e rs) e t f .left
+unfolding played fed taken steps asks own-replies whole-step after
+own-left u e t f [] h = refl
+own-left u (ended o) t f (r ∷ rs) h = fed-ended o rs
+own-left u (ask (at g s) k) t f (r ∷ rs) h =
+    let x = answer u t f (code s) in
+    own-left u (after (strobe g s k) r) (x .target) (flash-after u t f (code s)) rs (tail-is r (x .reply) _ _ h)
+    ∙ ap (λ (y : Exchange). play u (taken (after (strobe g s k) r) rs) y (x .target) (flash-after u t f (code s)) .left) (own-after u t f g s k r (head-is r (x .reply) _ _ h))
+
+-- they are the replies of the run
+pub own-taken : (u : Setup) (m : ℕ) (e : Exchange) (t : Target) (f rs : List ℕ) → Own-replies u t f e rs → m ≤ taken e rs
+    → take m rs ≡ play u m e t f .replies
+unfolding played taken steps asks own-replies whole-step after
+own-taken u zero e t f rs h hm = refl
+own-taken u (suc m) (ended o) t f [] h hm = absurd (omega arith)
+own-taken u (suc m) (ended o) t f (r ∷ rs) h hm = absurd (omega arith)
+own-taken u (suc m) (ask (at g s) k) t f [] h hm = absurd (omega arith)
+own-taken u (suc m) (ask (at g s) k) t f (r ∷ rs) h hm =
+    let x = answer u t f (code s) in
+    let same : r ≡ x .reply = head-is r (x .reply) _ _ h in
+    ap (λ (y : ℕ). y ∷ take m rs) (same ∙ sym (reply-again (x .reply) (reply-small u t f (code s))))
+    ∙ ap (λ (ys : List ℕ). bit (eqb (x .reply) 1) ∷ ys)
+    (own-taken u m (after (strobe g s k) r) (x .target) (flash-after u t f (code s)) rs (tail-is r (x .reply) _ _ h) (omega arith)
+    ∙ ap (λ (y : Exchange). play u m y (x .target) (flash-after u t f (code s)) .replies) (own-after u t f g s k r same))
+
+-- where they end the exchange, any number of steps that is no lower than the replies taken plays it to its end
+pub own-ends : (u : Setup) (n : ℕ) (e : Exchange) (t : Target) (f rs : List ℕ) (o : Outcome) → Own-replies u t f e rs → fed e rs ≡ ended o
+    → taken e rs ≤ n → play u n e t f ≡ played-out (whole-step u) e t f
+own-ends u n e t f rs o h q hn =
+    let d = ended-duration (whole-step u) (taken e rs) e t f o (sym (own-left u e t f rs h) ∙ q) in
+    played-enough (whole-step u) n e t f (omega (arith, d))
 
 -- While an exchange has not ended, all replies are taken; so replies as many as any can be taken end it.
 running-takes : (e : Exchange) (rs : List ℕ) (g : Field) (s : Step) (k : Bool → Exchange) → fed e rs ≡ strobe g s k → taken e rs ≡ length rs
@@ -77,62 +158,35 @@ enough-end e n rs h m = go (fed e rs) refl
         let one : taken (fed e rs) (0 ∷ []) ≡ 1 = ap (λ (x : Exchange). taken x (0 ∷ [])) q in
         absurd (omega (arith, h (rs ++ 0 ∷ []), taken-append e rs (0 ∷ []), running-takes e rs g s k q))
 
--- The replies that an exchange is given as it is played are all taken, are the target's own, and end it; so
--- there are such replies.
+-- The replies of an exchange that is played to its end are all taken, and are the target's own; so there are
+-- such replies.
 pub record Given (u : Setup) (e : Exchange) (t : Target) (f : List ℕ) (rs : List ℕ) : Type 0 where
   pub all-taken : taken e rs ≡ length rs
   pub own : Own-replies u t f e rs
-  pub ends : fed e rs ≡ ended (play u e t f .outcome)
 
 given-after : (u : Setup) (g : Field) (s : Step) (k : Bool → Exchange) (t : Target) (f : List ℕ)
     → after (strobe g s k) (bit (whole-step u t f s .reply)) ≡ k (whole-step u t f s .reply)
 given-after u g s k t f = after-bit g s k (whole-step u t f s .reply)
-
-reply-again : (n : ℕ) → n ≤ 1 → bit (eqb n 1) ≡ n
-unfolding bit
-reply-again zero h = refl
-reply-again (suc zero) h = refl
-reply-again (suc (suc n)) h = absurd (omega arith)
 
 own-head : (u : Setup) (t : Target) (f : List ℕ) (s : Step) (xs ys : List ℕ) → xs ≡ own-replies u (whole-step u t f s .target) (whole-step u t f s .flash) ys
     → bit (whole-step u t f s .reply) ∷ xs ≡ own-replies u t f (code s ∷ ys)
 unfolding whole-step own-replies
 own-head u t f s xs ys h = rw (reply-again (answer u t f (code s) .reply) (reply-small u t f (code s)), h)
 
-pub played-replies : (u : Setup) (e : Exchange) (t : Target) (f : List ℕ) → Given u e t f (run-replies (whole-step u) e t f)
-unfolding run-replies taken steps answered-steps own-replies fed against asks
-played-replies u (ended o) t f = record { all-taken = refl; own = refl; ends = refl }
-played-replies u (ask (at g s) k) t f =
+pub out-given : (u : Setup) (e : Exchange) (t : Target) (f : List ℕ) → Given u e t f (played-out (whole-step u) e t f .replies)
+unfolding played duration taken steps own-replies asks
+out-given u (ended o) t f = record { all-taken = refl; own = refl }
+out-given u (ask (at g s) k) t f =
     let w = whole-step u t f s in
-    let x = played-replies u (k (w .reply)) (w .target) (w .flash) in
+    let x = out-given u (k (w .reply)) (w .target) (w .flash) in
+    let rs = played-out (whole-step u) (k (w .reply)) (w .target) (w .flash) .replies in
     record {
       all-taken = rw (given-after u g s k t f) (ap suc (x .all-taken));
-      own = rw (given-after u g s k t f) (own-head u t f s _ (answered-steps (k (w .reply)) (run-replies (whole-step u) (k (w .reply)) (w .target) (w .flash))) (x .own));
-      ends = ap (λ (y : Exchange). fed y (run-replies (whole-step u) (k (w .reply)) (w .target) (w .flash))) (given-after u g s k t f) ∙ x .ends;
+      own = rw (given-after u g s k t f) (own-head u t f s _ (take (taken (k (w .reply)) rs) (sent (k (w .reply)) rs)) (x .own));
     }
 
--- The target gets the first step and every step written. The last is 6 where the exchange has ended, and
--- changes nothing.
-pub all-steps : (e : Exchange) (rs : List ℕ) → asks e ∷ steps e rs ≡ answered-steps e rs ++ asks (fed e rs) ∷ []
-unfolding answered-steps taken steps fed after
-all-steps e [] = refl
-all-steps (ended o) (r ∷ rs) = rw (fed-ended o rs)
-all-steps (ask (at g s) k) (r ∷ rs) = ap (λ (xs : List ℕ). asks (strobe g s k) ∷ xs) (all-steps (after (strobe g s k) r) rs)
-
-off-keeps : (u : Setup) (t : Target) (f : List ℕ) → left-by u t f (6 ∷ []) ≡ record { target = t; flash = f }
-unfolding left-by answer flash-after stepped step-coded
-off-keeps u t f = by-test (eqb (step-refusal u t f 6) 0) (λ e. rw e) (λ e. rw e)
-
-pub left-append : (u : Setup) (xs ys : List ℕ) (t : Target) (f : List ℕ)
-    → left-by u t f (xs ++ ys) ≡ left-by u (left-by u t f xs .target) (left-by u t f xs .flash) ys
-unfolding left-by
-left-append u [] ys t f = refl
-left-append u (x ∷ xs) ys t f = left-append u xs ys (answer u t f x .target) (flash-after u t f x)
-
-pub left-by-all : (u : Setup) (e : Exchange) (t : Target) (f rs : List ℕ) (o : Outcome) → fed e rs ≡ ended o
-    → left-by u t f (asks e ∷ steps e rs) ≡ left-by u t f (answered-steps e rs)
-unfolding asks code
-left-by-all u e t f rs o q =
-    ap (left-by u t f) (all-steps e rs ∙ ap (λ (y : Exchange). answered-steps e rs ++ asks y ∷ []) q)
-    ∙ left-append u (answered-steps e rs) (6 ∷ []) t f
-    ∙ off-keeps u (left-by u t f (answered-steps e rs) .target) (left-by u t f (answered-steps e rs) .flash)
+-- a run is over after as many steps as any replies can take
+pub duration-bounded : (u : Setup) (n : ℕ) (e : Exchange) (t : Target) (f : List ℕ) → ((qs : List ℕ) → taken e qs ≤ n) → duration (whole-step u) e t f ≤ n
+duration-bounded u n e t f h =
+    let rs = played-out (whole-step u) e t f .replies in
+    omega (arith, h rs, out-given u e t f .all-taken, out-count (whole-step u) e t f)

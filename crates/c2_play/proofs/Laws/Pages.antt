@@ -1,6 +1,7 @@
 -- A page against the target: it is erased, written block by block and read back. On the way it is the old
 -- page, or, from the erase on, the first k bytes of the new one and 0xFF after them; every other byte stays.
 use mathlib.Core.Path.{_≡_, sym, ap, _∙_}
+use mathlib.Core.Bool.{true}
 use mathlib.Core.List.{List, [], _∷_, _++_, map, append-assoc}
 use Prim.Native.Nat.{ℕ, zero, suc, _+_, _*_, _/_, _<_, _≤_}
 use native.Mathlib.Omega.{arith}
@@ -11,15 +12,18 @@ use borrow.Author.Tests.{leb-true, leb-false}
 use Rattle.laws.proofs.Tests.{by-test}
 use Rattle.laws.specs.Bytes.{Bytes}
 use Rattle.c2_wire.proofs.Laws.Bits.{bytes-take, bytes-drop}
+use Rattle.c2_wire.specs.Exchange.{Outcome}
 use Rattle.c2_order.specs.Acts.{Act, erase, block-write, block-read}
 use Rattle.c2_order.specs.Order.{Page, blocks, joined, page-blocks, page-acts}
 use Rattle.c2_target.specs.declared.Command.the-variants.{Ready}
 use Rattle.c2_target.specs.declared.Output.the-variants.{Empty}
+use Rattle.c2_target.specs.declared.Met.{Met}
 use Rattle.c2_target.specs.declared.Target.{Target}
 use Rattle.c2_target.specs.Delays.{Setup}
 use Rattle.c2_target.specs.Commands.{erased}
+use Rattle.c2_target.specs.Interface.{prepared}
 use Rattle.c2_play.proofs.Laws.Interface.{Fit, Kept, Good}
-use Rattle.c2_play.specs.Covers.{Covers}
+use Rattle.c2_play.proofs.Laws.Covers.{Covers}
 use Rattle.c2_play.proofs.Laws.Commands.{erase-good, block-write-good, block-read-good, erased-covers, covers-length}
 
 pub covers-take : (n : ℕ) (os bs : List ℕ) → Covers os bs → Covers (take n os) (take n bs)
@@ -75,9 +79,10 @@ unfolding erased
 erased-at A old W size page e h =
     rw (take-at A (old ++ W) (page * size) e, ← drop-drop size (page * size) (A ++ (old ++ W)), drop-at A (old ++ W) (page * size) e, drop-at old W size h)
 
-module _ (u : Setup) (l r : ℕ) (fit : Fit u l r) (J : List ℕ → Type 0) (Z : Target → List ℕ → Type 0) (kept : Kept J Z) where
+module _ (u : Setup) (l r : ℕ) (fit : Fit u l r) (m : Met) (end : Outcome) (J : List ℕ → Type 0) (Z : Target → List ℕ → Type 0) (kept : Kept J Z)
+    (ready : prepared (u .wanted) m ≡ true) where
   abbrev good : List Act → List ℕ → Type 0
-  good acts f = Good u l r fit J Z kept acts Ready Empty f
+  good acts f = Good u l r fit m end J Z kept acts Ready Empty f
 
   pub writes-good : (n a o : ℕ) (A bs os W : List ℕ) (acts : List Act) → length A ≡ a → a + 256 * n ≤ 65536 → length bs ≡ 256 * n → Bytes bs
       → Covers os bs → ((k : ℕ) → J (A ++ (take k bs ++ (drop k os ++ W))))
@@ -97,7 +102,7 @@ module _ (u : Setup) (l r : ℕ) (fit : Fit u l r) (J : List ℕ → Type 0) (Z 
       let back : A ++ (bs ++ W) ≡ (A ++ take 256 bs) ++ (drop 256 bs ++ W) =
       ap (λ (x : List ℕ). A ++ x) (cut 256 bs W) ∙ sym (append-assoc A (take 256 bs) (drop 256 bs ++ W)) in
       rw (split, append-assoc (block-write (u .settings .fpdat) (record { address = a; offset = o; bytes = take 256 bs })) rest acts)
-      (block-write-good u l r fit J Z kept A (take 256 bs) (take 256 os) (drop 256 os ++ W) a o (rest ++ acts) ea (omega arith) (omega arith) (omega arith)
+      (block-write-good u l r fit m end J Z kept ready A (take 256 bs) (take 256 os) (drop 256 os ++ W) a o (rest ++ acts) ea (omega arith) (omega arith) (omega arith)
       (bytes-take 256 bs h) (covers-take 256 os bs cs) (mixed-first J A bs os W 256 (omega arith) (omega arith) j)
       (rw (← append-assoc A (take 256 bs) (drop 256 os ++ W))
       (writes-good n (a + 256) (o + 256) (A ++ take 256 bs) (drop 256 bs) (drop 256 os) W acts (rw (length-append, w) (omega arith)) (omega arith)
@@ -115,7 +120,7 @@ module _ (u : Setup) (l r : ℕ) (fit : Fit u l r) (J : List ℕ → Type 0) (Z 
       let split : A ++ (bs ++ W) ≡ A ++ (take 256 bs ++ (drop 256 bs ++ W)) = ap (λ (x : List ℕ). A ++ x) (cut 256 bs W) in
       let back : A ++ (bs ++ W) ≡ (A ++ take 256 bs) ++ (drop 256 bs ++ W) = split ∙ sym (append-assoc A (take 256 bs) (drop 256 bs ++ W)) in
       rw (split, append-assoc (block-read (u .settings .fpdat) (record { address = a; offset = o; bytes = take 256 bs })) rest acts)
-      (block-read-good u l r fit J Z kept A (take 256 bs) (drop 256 bs ++ W) a o (rest ++ acts) ea (omega arith) (omega arith) (omega arith)
+      (block-read-good u l r fit m end J Z kept ready A (take 256 bs) (drop 256 bs ++ W) a o (rest ++ acts) ea (omega arith) (omega arith) (omega arith)
       (bytes-take 256 bs h)
       (rw (← append-assoc A (take 256 bs) (drop 256 bs ++ W))
       (reads-good n (a + 256) (o + 256) (A ++ take 256 bs) (drop 256 bs) W acts (rw (length-append, w) (omega arith)) (omega arith)
@@ -136,7 +141,7 @@ module _ (u : Setup) (l r : ℕ) (fit : Fit u l r) (J : List ℕ → Type 0) (Z 
       let er : List Act = erase (u .settings .fpdat) (p .number) in
       let cs : Covers (replicate size 0xff) (p .bytes) = rw (← hb) (erased-covers (p .bytes) h) in
       rw (append-assoc (er ++ wr) rd acts, append-assoc er wr (rd ++ acts))
-      (erase-good u l r fit J Z kept (p .number) (wr ++ (rd ++ acts)) (A ++ (old ++ W)) (omega arith) hp j0
+      (erase-good u l r fit m end J Z kept ready (p .number) (wr ++ (rd ++ acts)) (A ++ (old ++ W)) (omega arith) hp j0
       (rw (erased-at A old W size (p .number) ea eo)
       (writes-good (size / 256) (p .number * size) (p .offset) A (p .bytes) (replicate size 0xff) W (rd ++ acts) ea (omega arith) (omega arith) h cs j
       (reads-good (size / 256) (p .number * size) (p .offset) A (p .bytes) W acts ea (omega arith) (omega arith) h g))))

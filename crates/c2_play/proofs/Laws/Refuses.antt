@@ -3,8 +3,10 @@ use mathlib.Core.Path.{refl}
 use mathlib.Core.List.{List, [], _∷_, _++_, map}
 use Prim.Native.Nat.{ℕ, suc}
 use Rattle.settings.specs.declared.Settings.{Settings}
+use Rattle.settings.specs.Registers.{Pair, pairs-of}
 use Rattle.c2_order.specs.Acts.{Act, send, poll, expect, put, get, status, puts, compares, Block, erase, block-command, block-write, block-read}
-use Rattle.c2_order.specs.Order.{Page, joined, page-blocks, lead, page-acts}
+use Rattle.c2_order.specs.Order.{Page, joined, page-blocks, lead, pair-acts, preparation, page-acts}
+use Rattle.c2_play.specs.Pages.{up-to}
 use Rattle.c2_play.proofs.Laws.Onto.{Refuses}
 
 pub refuses-append : (xs ys : List Act) → Refuses xs → Refuses ys → Refuses (xs ++ ys)
@@ -57,3 +59,15 @@ refuses-pages s (p ∷ ps) = refuses-append (page-acts s p) (joined (map (page-a
 pub refuses-lead : (s : Settings) → Refuses (lead s)
 unfolding Refuses lead
 refuses-lead s = (refl, tt)
+
+refuses-pairs : (ps : List Pair) → Refuses (joined (map pair-acts ps))
+unfolding Refuses joined pair-acts
+refuses-pairs [] = tt
+refuses-pairs (p ∷ ps) = refuses-pairs ps
+
+pub refuses-preparation : (s : Settings) → Refuses (preparation s)
+unfolding preparation
+refuses-preparation s = refuses-append (lead s) (joined (map pair-acts (pairs-of (s .pairs)))) (refuses-lead s) (refuses-pairs (pairs-of (s .pairs)))
+
+pub refuses-up-to : (s : Settings) (ps : List Page) → Refuses (up-to s ps)
+refuses-up-to s ps = refuses-append (preparation s) (joined (map (page-acts s) ps)) (refuses-preparation s) (refuses-pages s ps)

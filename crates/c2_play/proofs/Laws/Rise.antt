@@ -1,20 +1,16 @@
--- Pages whose numbers rise, and those from a first one on: they fit, no number stands twice, and laid one by
--- one they are the image laid over.
-use mathlib.Core.Path.{_≡_, refl, sym, ap, _∙_, subst}
-use mathlib.Core.List.{List, [], _∷_, _++_, append-assoc}
-use Prim.Native.Nat.{ℕ, zero, suc, _+_, _*_, _/_, _≤_}
-use native.Mathlib.Nat.{mul-le-mul-right}
+-- Pages whose numbers rise, and those from a first one on: they fit, and no number stands twice.
+use mathlib.Core.Path.{_≡_, refl, ap, subst}
+use mathlib.Core.List.{List, [], _∷_}
+use Prim.Native.Nat.{ℕ, zero, suc, _+_, _*_, _<_, _≤_}
 use native.Mathlib.Omega.{arith}
-use lib.ListN.{length, take, drop, length-append, length-drop, take-append-drop}
-use lib.Seq.{take-all, drop-drop, length-take-le, take-add, take-at, drop-at}
+use lib.ListN.{length, take, drop, length-drop}
+use lib.Seq.{length-take-le}
 use Rattle.laws.specs.Bytes.{Bytes}
 use Rattle.c2_wire.proofs.Laws.Bits.{bytes-take, bytes-drop}
 use Rattle.settings.specs.declared.Settings.{Settings}
 use Rattle.c2_order.specs.Order.{Page, pages, rising}
-use Rattle.settings.proofs.Laws.Opening.{Opened}
-use Rattle.c2_play.specs.Programmed.{laid-over}
-use Rattle.c2_play.proofs.Laws.Run.{All-fit}
-use Rattle.c2_play.specs.Pages.{with-page, with-pages, At, Fits, Named, Rise}
+use Rattle.c2_play.specs.Pages.{At}
+use Rattle.c2_play.proofs.Laws.Named.{Fits, Named, All-fit}
 
 pub nothing-at : (i : ℕ) (p : Page) → At [] i p → ⊥
 nothing-at zero p a = none (a .is)
@@ -31,6 +27,17 @@ pub all-at : (s : Settings) (ps : List Page) → ((i : ℕ) (p : Page) → At ps
 unfolding All-fit
 all-at s [] h = tt
 all-at s (p ∷ ps) h = (h 0 p (record { later = ps; is = refl }), all-at s ps (λ i q a. h (suc i) q (record { later = a .later; is = a .is })))
+
+-- Numbers rise from a bound on, each below another (request g: runs that neither fall nor overlap, none past
+-- the end; a run is document 02's own term).
+unfoldable pub Rise : (from below : ℕ) → List ℕ → Type 0
+Rise b c [] = Unit {0}
+Rise b c (n ∷ ns) = (b ≤ n) × (n < c) × Rise (suc n) c ns
+
+pub rising-length : (n first : ℕ) → length (rising first n) ≡ n
+unfolding rising
+rising-length zero first = refl
+rising-length (suc n) first = ap suc (rising-length n (suc first))
 
 -- Pages whose numbers rise: each is at least the bound, fits, and no number stands twice.
 module _ (s : Settings) where
@@ -80,37 +87,7 @@ module _ (s : Settings) where
   rising-rise zero first b h g = tt
   rising-rise (suc n) first b h g = (h, omega arith, rising-rise n (suc first) (suc first) (omega arith) (omega arith))
 
-  rising-length : (n first : ℕ) → length (rising first n) ≡ n
-  unfolding rising
-  rising-length zero first = refl
-  rising-length (suc n) first = ap suc (rising-length n (suc first))
-
   pub rising-named : (n first o : ℕ) (bs : List ℕ) → n * s .size ≤ length bs → Bytes bs → first + n ≤ s .count
       → Named s (pages (s .size) o (rising first n) bs)
   rising-named n first o bs hl hb hc =
       rise-named (rising first n) 0 o bs (rising-rise n first 0 (omega arith) hc) (rw (rising-length n first) hl) hb
-
--- pages one by one are the image laid over
-lay : (size n first o : ℕ) (A bs Z : List ℕ) → length A ≡ first * size → n * size ≤ length bs
-    → with-pages size (pages size o (rising first n) bs) (A ++ Z) ≡ A ++ (take (n * size) bs ++ drop (n * size) Z)
-unfolding pages rising with-pages with-page
-lay size zero first o A bs Z ea h = let z : 0 * size ≡ 0 = omega arith in rw z
-lay size (suc n) first o A bs Z ea h =
-    let w : length (take size bs) ≡ size = length-take-le size bs (omega arith) in
-    let x : suc n * size ≡ size + n * size = omega arith in
-    let here : take (first * size) (A ++ Z) ++ (take size bs ++ drop (first * size + size) (A ++ Z)) ≡ (A ++ take size bs) ++ drop size Z =
-    rw (take-at A Z (first * size) ea, ← drop-drop size (first * size) (A ++ Z), drop-at A Z (first * size) ea, append-assoc A (take size bs)) in
-    ap (λ (f : List ℕ). with-pages size (pages size (o + size) (rising (suc first) n) (drop size bs)) f) here
-    ∙ lay size n (suc first) (o + size) (A ++ take size bs) (drop size bs) (drop size Z) (rw (length-append, w) (omega arith)) (rw length-drop (omega arith))
-    ∙ rw (x, drop-drop, take-add, append-assoc A (take size bs), append-assoc (take size bs))
-
-pub laid-is : (s : Settings) (first : ℕ) (image f : List ℕ) → Opened s first (length image) → length f ≡ s .size * s .count
-    → with-pages (s .size) (pages (s .size) 0 (rising first (length image / s .size)) image) f ≡ laid-over (first * s .size) image f
-unfolding laid-over
-laid-is s first image f o e =
-    let n : ℕ = length image / s .size in
-    let fits : (first + n) * s .size ≤ s .count * s .size = mul-le-mul-right (s .size) (o .inside) in
-    let short : first * s .size ≤ length f = omega (arith, e, fits) in
-    let whole : n * s .size ≡ length image = sym (o .whole) in
-    let l = lay (s .size) n first 0 (take (first * s .size) f) image (drop (first * s .size) f) (length-take-le (first * s .size) f short) (omega arith) in
-    rw (take-append-drop (first * s .size) f, drop-drop (n * s .size) (first * s .size) f, whole, take-all (length image) image (omega arith)) at l

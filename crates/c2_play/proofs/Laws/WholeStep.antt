@@ -1,44 +1,37 @@
 -- The target's whole step: from a state that exists it is never refused for a step of the session, so a
 -- session is played as against the steps that are not refused.
-use mathlib.Core.Path.{_≡_, refl, ap, subst, subst⁻¹}
+use mathlib.Core.Path.{_≡_, refl, ap, _∙_, subst⁻¹}
 use mathlib.Core.Bool.{Bool, true, false}
 use mathlib.Core.List.{List, _∷_}
-use Prim.Native.Nat.{ℕ, _*_, _/_}
+use Prim.Native.Nat.{ℕ, zero, suc}
 use native.Mathlib.Omega.{arith}
-use borrow.Author.Tests.{eq-eqb}
 use lib.Dec.{eqb}
-use lib.ListN.{length}
+use Rattle.numbers.specs.Numbers.{bad-status}
 use Rattle.laws.specs.Bytes.{Bytes}
 use Rattle.c2_wire.specs.Bits.{bit}
 use Rattle.c2_wire.specs.Step.{Step, released, driven, reset, pause, off, code}
-use Rattle.c2_wire.specs.Exchange.{Exchange, ended, strobe, ask, at}
-use Rattle.settings.specs.Accepted.{settings-refusal}
-use Rattle.c2_order.specs.Order.{Page, pages, rising, order, session-order}
-use Rattle.c2_order.specs.Conversation.{conversation}
-use Rattle.settings.proofs.Laws.Opening.{Opened, opened, settings-pass}
+use Rattle.c2_wire.specs.Exchange.{Exchange, ended, ask, at, outcome, outcome-of}
+use Rattle.settings.specs.Registers.{pairs-of, leave-all}
+use Rattle.c2_order.specs.Order.{Page, order}
+use Rattle.c2_order.specs.Conversation.{Limits, conversation}
 use Rattle.c2_target.specs.declared.Target.{Target}
 use Rattle.c2_target.specs.Delays.{Setup}
-use Rattle.c2_target.specs.Known.{known, known-point, known-command, known-output, known-link, is-byte}
-use Rattle.c2_target.specs.Target.{stepped, is-step, step-coded, step-refusal, answer, flash-after, fresh, cleared}
-use Rattle.c2_play.specs.Playing.{against, run-replies, whole-step, play}
-use Rattle.c2_play.specs.Programmed.{Programmed, Programs}
+use Rattle.c2_target.specs.Known.{known}
+use Rattle.c2_target.specs.Target.{stepped, step-coded, setup-refusal, answer, flash-after}
+use Rattle.c2_play.specs.Playing.{Played, then-played, played, whole-step, play}
+use Rattle.c2_play.specs.Pages.{with-pages}
+use Rattle.c2_play.proofs.Laws.Playing.{duration, played-out}
+use Rattle.c2_play.proofs.Laws.Programmed.{Meets, Prepares, exchange-over, Programmed, Turned-away}
+use Rattle.c2_play.proofs.Laws.Leads.{leads-outcome, leads-end, leads-along}
+use Rattle.c2_play.proofs.Laws.Unprepared.{Turned, order-turned-away}
 use Rattle.c2_play.proofs.Laws.Interface.{Fit}
-use Rattle.c2_play.specs.Pages.{with-pages, Programs-pages}
 use Rattle.c2_play.proofs.Laws.Run.{order-programs}
-use Rattle.c2_play.proofs.Laws.Rise.{all-at, rising-named, laid-is}
+use Rattle.c2_play.proofs.Laws.Rise.{all-at}
 use Rattle.settings.proofs.Laws.Accepted.{Facts, facts}
 use Rattle.c2_target.proofs.Laws.Known.{Lent, Exists, known-says, known-is, stepped-known}
+use Rattle.c2_target.proofs.Laws.Steps.{is-step-code, setup-accepted, not-refused}
 
--- the byte of a step is a step's (`is-step-code`), and that step's (`step-of-code`)
-is-step-code : (s : Step) → is-step (code s) ≡ true
-unfolding is-step code
-is-step-code released = refl
-is-step-code (driven false) = refl
-is-step-code (driven true) = refl
-is-step-code reset = refl
-is-step-code pause = refl
-is-step-code off = refl
-
+-- the step of a step's byte
 step-of-code : (s : Step) → step-coded (code s) ≡ s
 unfolding step-coded code
 step-of-code released = refl
@@ -53,69 +46,91 @@ unfolding bit
 bit-again true = refl
 bit-again false = refl
 
-not-refused : (u : Setup) (t : Target) (f : List ℕ) (s : Step) → settings-refusal (u .settings) ≡ 0 → known u t f ≡ true → step-refusal u t f (code s) ≡ 0
-unfolding step-refusal
-not-refused u t f s a k = rw (a, k, is-step-code s)
-
-pub whole-is-stepped : (u : Setup) (t : Target) (f : List ℕ) (s : Step) → settings-refusal (u .settings) ≡ 0 → known u t f ≡ true
+pub whole-is-stepped : (u : Setup) (t : Target) (f : List ℕ) (s : Step) → setup-refusal u ≡ 0 → known u t f ≡ true
     → whole-step u t f s ≡ stepped u t f s
 unfolding whole-step answer flash-after
-whole-is-stepped u t f s a k = rw (not-refused u t f s a k, step-of-code s, bit-again (stepped u t f s .reply))
+whole-is-stepped u t f s a k = rw (not-refused u t f (code s) a k (is-step-code s), step-of-code s, bit-again (stepped u t f s .reply))
 
--- every exchange is played as against the steps that are not refused
-pub play-is-playing : (u : Setup) → Lent u → settings-refusal (u .settings) ≡ 0 → (e : Exchange) (t : Target) (f : List ℕ) → Bytes f → Exists u t f
-    → play u e t f ≡ against (stepped u) e t f
-unfolding against
-play-is-playing u lent a (ended o) t f hf k = refl
-play-is-playing u lent a (ask (at g s) k) t f hf x =
+-- every exchange is played as against the steps that are not refused (`played-stepped`), and takes as many
+pub played-stepped : (u : Setup) → Lent u → setup-refusal u ≡ 0 → (n : ℕ) (e : Exchange) (t : Target) (f : List ℕ) → Bytes f → Exists u t f
+    → play u n e t f ≡ played (stepped u) n e t f
+unfolding played
+played-stepped u lent a zero e t f hf x = refl
+played-stepped u lent a (suc n) (ended o) t f hf x = refl
+played-stepped u lent a (suc n) (ask (at g s) k) t f hf x =
     let y = stepped-known u lent t f s hf x in
     rw (whole-is-stepped u t f s a (known-is u t f x))
-    (play-is-playing u lent a (k (stepped u t f s .reply)) (stepped u t f s .target) (stepped u t f s .flash) (y .bytes) (y .exists))
+    (ap (then-played (bit (stepped u t f s .reply)))
+    (played-stepped u lent a n (k (stepped u t f s .reply)) (stepped u t f s .target) (stepped u t f s .flash) (y .bytes) (y .exists)))
 
--- every exchange is given the replies of the steps that are not refused
-pub replies-stepped : (u : Setup) → Lent u → settings-refusal (u .settings) ≡ 0 → (e : Exchange) (t : Target) (f : List ℕ) → Bytes f → Exists u t f
-    → run-replies (whole-step u) e t f ≡ run-replies (stepped u) e t f
-unfolding run-replies
-replies-stepped u lent a (ended o) t f hf k = refl
-replies-stepped u lent a (ask (at g s) k) t f hf x =
+duration-stepped : (u : Setup) → Lent u → setup-refusal u ≡ 0 → (e : Exchange) (t : Target) (f : List ℕ) → Bytes f → Exists u t f
+    → duration (whole-step u) e t f ≡ duration (stepped u) e t f
+unfolding duration
+duration-stepped u lent a (ended o) t f hf x = refl
+duration-stepped u lent a (ask (at g s) k) t f hf x =
     let y = stepped-known u lent t f s hf x in
     rw (whole-is-stepped u t f s a (known-is u t f x))
-    (ap (λ (rs : List ℕ). bit (stepped u t f s .reply) ∷ rs)
-    (replies-stepped u lent a (k (stepped u t f s .reply)) (stepped u t f s .target) (stepped u t f s .flash) (y .bytes) (y .exists)))
+    (ap suc (duration-stepped u lent a (k (stepped u t f s .reply)) (stepped u t f s .target) (stepped u t f s .flash) (y .bytes) (y .exists)))
 
--- demand 3 over any pages
-pub programs-pages : Programs-pages
-programs-pages l u ps t f h =
-    let a = h .accepted in
-    let met = h .met in
-    let x : Facts (u .settings) = facts (u .settings) a in
-    let lent : Lent u = record { id = h .id; delays = met .delays; wait = met .some } in
-    let fit : Fit u (l .wait) (l .reads) =
-    record { low = x .fpdat; high = h .fpdat; id = h .id; delays = met .delays; some = met .some; wait = met .wait; reads = met .reads } in
-    let k : Exists u t f = known-says u t f (met .state) in
-    subst⁻¹ (Programmed (with-pages (u .settings .size) ps f)) (play-is-playing u lent a (conversation l (order (u .settings) ps)) t f (met .flash) k)
-    (order-programs u (l .wait) (l .reads) fit (x .blocks) (x .size) (omega (arith, x .some)) (x .bytes) ps t f (met .unmarked)
+pub out-stepped : (u : Setup) → Lent u → setup-refusal u ≡ 0 → (e : Exchange) (t : Target) (f : List ℕ) → Bytes f → Exists u t f
+    → played-out (whole-step u) e t f ≡ played-out (stepped u) e t f
+out-stepped u lent a e t f hf x =
+    ap (λ (n : ℕ). play u n e t f) (duration-stepped u lent a e t f hf x) ∙ played-stepped u lent a (duration (stepped u) e t f) e t f hf x
+
+-- what a session is lent and meets, taken apart
+module _ (l : Limits) (u : Setup) (ps : List Page) (t : Target) (f : List ℕ) (h : Meets l u ps t f) where
+  pub lent-by : Lent u
+  lent-by = record { id = h .bytes .id; delays = h .suits .delays; wait = h .suits .some }
+
+  pub fit-by : Fit u (l .wait) (l .reads)
+  fit-by =
+      let x : Facts (u .settings) = facts (u .settings) (h .accepted) in
+      record {
+        low = x .fpdat;
+        high = h .bytes .fpdat;
+        id = h .bytes .id;
+        registers = x .registers;
+        register-bytes = h .bytes .registers;
+        value-bytes = h .bytes .values;
+        wanted = h .suits .wanted;
+        delays = h .suits .delays;
+        some = h .suits .some;
+        wait = h .suits .wait;
+        reads = h .suits .reads;
+      }
+
+  pub exists-by : Exists u t f
+  exists-by = known-says u t f (h .suits .state)
+
+  pub not-refused-by : setup-refusal u ≡ 0
+  not-refused-by = setup-accepted u (h .accepted) (h .suits .wanted)
+
+-- A session over any pages whose pairs leave the wanted values, played to its end against the target,
+-- programs them.
+pub pages-programmed : (l : Limits) (u : Setup) (ps : List Page) (t : Target) (f : List ℕ) → Prepares u → Meets l u ps t f
+    → Programmed (with-pages (u .settings .size) ps f) (played-out (whole-step u) (exchange-over l (u .settings) ps) t f)
+pages-programmed l u ps t f leaves h =
+    let x : Facts (u .settings) = facts (u .settings) (h .accepted) in
+    let k = exists-by l u ps t f h in
+    subst⁻¹ (Programmed (with-pages (u .settings .size) ps f))
+    (out-stepped u (lent-by l u ps t f h) (not-refused-by l u ps t f h) (conversation l (order (u .settings) ps)) t f (h .suits .flash) k)
+    (order-programs u (l .wait) (l .reads) (fit-by l u ps t f h) leaves (x .blocks) (x .size) (omega (arith, x .some)) (x .bytes) ps t f (h .suits .unmarked)
     (all-at (u .settings) ps (h .named .fits)) (k .flash))
 
--- demand 3 over an image from a first page on
-pub programmed : Programs
-unfolding session-order
-programmed l u first image t f o m =
-    let s = u .settings in
-    let x : Opened s first (length image) = opened s first (length image) (o .accepted) in
-    let n : ℕ = length image / s .size in
-    let ps : List Page = pages (s .size) 0 (rising first n) image in
-    subst (λ (F : List ℕ). Programmed F (play u (conversation l (order s ps)) t f)) (laid-is s first image f x (known-says u t f (m .state) .flash))
-    (programs-pages l u ps t f
-    (record {
-      accepted = settings-pass s first (length image) (o .accepted);
-      id = o .id;
-      fpdat = o .fpdat;
-      named = rising-named s n first 0 image (omega (arith, x .whole)) (o .bytes) (x .inside);
-      met = m;
-    }))
-
--- a fresh target is in a state that exists, with no mark
-pub fresh-known : (u : Setup) (f : List ℕ) → length f ≡ u .settings .size * u .settings .count → known u fresh f ≡ true
-unfolding known fresh cleared known-point known-command known-output known-link is-byte
-fresh-known u f e = rw (eq-eqb (length f) (u .settings .size * u .settings .count) e)
+-- One whose pairs do not is turned away at its first page.
+pub pages-turned-away : (l : Limits) (u : Setup) (p : Page) (ps : List Page) (t : Target) (f : List ℕ)
+    → leave-all (pairs-of (u .settings .pairs)) (pairs-of (u .wanted)) ≡ false → Meets l u (p ∷ ps) t f
+    → Turned-away u (exchange-over l (u .settings) (p ∷ ps)) t f
+pages-turned-away l u p ps t f differs h =
+    let k = exists-by l u (p ∷ ps) t f h in
+    let lent = lent-by l u (p ∷ ps) t f h in
+    let a = not-refused-by l u (p ∷ ps) t f h in
+    let e = exchange-over l (u .settings) (p ∷ ps) in
+    let way = order-turned-away u (l .wait) (l .reads) (fit-by l u (p ∷ ps) t f h) differs p ps t f (h .suits .unmarked) in
+    let out = out-stepped u lent a e t f (h .suits .flash) k in
+    record {
+      ended = ap (λ (x : Played). outcome-of (x .left)) out ∙ leads-outcome (stepped u) (outcome bad-status) (λ F. F ≡ f) (Turned f) e t f way;
+      clean = ap (λ (x : Played). x .target .collision) out ∙ leads-end (stepped u) (outcome bad-status) (λ F. F ≡ f) (Turned f) e t f way .clean;
+      same = λ n. ap (λ (x : Played). x .flash) (played-stepped u lent a n e t f (h .suits .flash) k)
+          ∙ leads-along (stepped u) (outcome bad-status) (λ F. F ≡ f) (Turned f) (λ t f h. h .same) n e t f way;
+    }

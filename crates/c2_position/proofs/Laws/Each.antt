@@ -71,7 +71,7 @@ exists-task w r Compare b id o p e = e
 
 module _ (w r : ℕ) (hw : 0 < w) (hr : 0 < r) (s : Session) (image : List ℕ) (h : Fits s image) where
   abbrev In : SessionPoint → Type 0
-  In y = point-in-range w r (s .settings .size) (s .pages) y ≡ true
+  In y = point-in-range (limits w r) (s .settings .size) (s .settings .pairs .count) (s .pages) y ≡ true
 
   -- An act of a stage, in range, with these acts from it on (`Found`); where acts follow it, the next is
   -- found (`one-on`).
@@ -80,7 +80,7 @@ module _ (w r : ℕ) (hw : 0 < w) (hr : 0 < r) (s : Session) (image : List ℕ) 
     page : ℕ
     block : ℕ
     act : ℕ
-    page-in : page < pages-in stage (s .pages)
+    page-in : page < pages-in stage (s .settings .pairs .count) (s .pages)
     block-in : block < blocks-in stage (s .settings .size)
     act-in : act < acts-in stage
     from : acts-from stage s image page block act ≡ acts
@@ -109,7 +109,7 @@ module _ (w r : ℕ) (hw : 0 < w) (hr : 0 < r) (s : Session) (image : List ℕ) 
 
       go : (y : SessionPoint) → next-act s (act-at g i j k) ≡ y → Found (before ++ a ∷ acts)
       go (Running g₁ i₁ j₁ k₁ q c v) e =
-          let n = bounded w r (s .settings .size) (s .pages) g₁ i₁ j₁ k₁ q c v (rw e at (onward-in w r hw hr s image h g i j k (f .page-in) (f .block-in) (f .act-in))) in
+          let n = bounded w r (s .settings .size) (s .settings .pairs .count) (s .pages) g₁ i₁ j₁ k₁ q c v (rw e at (onward-in w r hw hr s image h g i j k (f .page-in) (f .block-in) (f .act-in))) in
           record {
             stage = g₁;
             page = i₁;

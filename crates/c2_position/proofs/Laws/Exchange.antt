@@ -14,14 +14,16 @@ use Rattle.c2_wire.proofs.Laws.Place.{Exists}
 use Rattle.c2_wire.proofs.Laws.Script.{exists-any-byte}
 use Rattle.settings.specs.declared.Settings.{Settings}
 use Rattle.c2_order.specs.Acts.{Act, Block, block-write, block-read}
-use Rattle.c2_order.specs.Order.{Page, pages, rising, blocks, joined, page-acts}
-use Rattle.c2_order.specs.Conversation.{limits}
+use Rattle.settings.specs.Registers.{pairs-of}
+use Rattle.c2_order.specs.Order.{Page, pages, rising, blocks, joined, pair-acts, page-acts}
+use Rattle.c2_order.specs.Conversation.{limits, limits-of}
+use Rattle.c2_order.proofs.Laws.Conversation.{limits-positive}
 use Rattle.c2_order.specs.Point.{left-to-say, strobes-of, reads-of}
 use Rattle.c2_order.proofs.Laws.Valid.{Sound, Every, none, more, _then_, Valid}
-use Rattle.c2_order.proofs.Laws.Order.{sound, every-erase, every-block-write, every-block-read, every-blocks, every-pages, every-lead}
+use Rattle.c2_order.proofs.Laws.Order.{sound, every-erase, every-block-write, every-block-read, every-blocks, every-pages, every-lead, every-pairs}
 use Rattle.c2_order.proofs.Laws.Point.{next-says}
 use Rattle.c2_acts.specs.declared.Stage.{Stage}
-use Rattle.c2_acts.specs.declared.Stage.the-variants.{Lead, Erase, Write, Read, Close}
+use Rattle.c2_acts.specs.declared.Stage.the-variants.{Lead, Erase, Write, Read, Close, Register}
 use Rattle.c2_acts.specs.declared.Task.{Task}
 use Rattle.c2_acts.specs.declared.Task.the-variants.{Reset, Pause, Address, Send, Input, Output, Ident, Status, Compare}
 use Rattle.c2_session.specs.declared.Point.the-variants.{Running, Ended}
@@ -31,7 +33,7 @@ use Rattle.c2_session.specs.Code.Next.{act-at}
 use Rattle.c2_session.specs.Code.Advance.{advanced}
 use Rattle.c2_range.specs.Range.{in-range, point-in-range}
 use Rattle.c2_range.specs.Code.Bounds.{strobes-in, reads-in}
-use Rattle.c2_position.specs.Position.{page-list, page-at, block-at, stage-acts, pages-from, writes-from, reads-from, after-stage, acts-from, point-position, position}
+use Rattle.c2_position.specs.Position.{page-list, page-at, block-at, stage-acts, pages-from, writes-from, reads-from, registers-from, after-stage, acts-from, point-position, position}
 use Rattle.c2_range.proofs.Laws.Acts.{task-act}
 use Rattle.c2_position.proofs.Laws.Position.{Fits, act-byte}
 use Rattle.c2_position.proofs.Laws.Onward.{acts-here}
@@ -81,6 +83,7 @@ module _ (s : Session) (image : List ℕ) (id : s .settings .id < 256) (b : Byte
   pages-sound i = pages-drop (s .settings) i 0 (rising (s .first) (s .pages)) image b then more (sound .resets) none
 
   stage-sound : (g : Stage) (i j : ℕ) → Every Sound (stage-acts g s image i j)
+  unfolding pair-acts
   stage-sound Lead i j = every-lead Sound sound (s .settings) id
   stage-sound Erase i j = every-erase Sound sound (s .settings .fpdat) (page-at s image i .number)
   stage-sound Write i j = every-block-write Sound sound (s .settings .fpdat) (block-at s image i j)
@@ -88,6 +91,7 @@ module _ (s : Session) (image : List ℕ) (id : s .settings .id < 256) (b : Byte
       every-block-read Sound sound (s .settings .fpdat) (block-at s image i j)
       (block-bytes (s .settings .size / 256) _ _ j (page-at s image i .bytes) _ tt (page-at-bytes i))
   stage-sound Close i j = more (sound .resets) none
+  stage-sound Register i j = more (sound .addresses _) (more (sound .writes _) none)
 
   writes-sound : (i j : ℕ) → Every Sound (writes-from s image i j)
   unfolding writes-from
@@ -101,12 +105,17 @@ module _ (s : Session) (image : List ℕ) (id : s .settings .id < 256) (b : Byte
       blocks-drop (block-read (s .settings .fpdat)) (every-block-read Sound sound (s .settings .fpdat)) j (s .settings .size / 256)
       (page-at s image i .number * s .settings .size) (page-at s image i .offset) (page-at s image i .bytes) (page-at-bytes i)
 
+  registers-sound : (i : ℕ) → Every Sound (registers-from s image i)
+  unfolding registers-from
+  registers-sound i = every-pairs Sound sound (drop i (pairs-of (s .settings .pairs))) then pages-sound 0
+
   later-sound : (g : Stage) (i j : ℕ) → Every Sound (after-stage g s image i j)
-  later-sound Lead i j = pages-sound 0
+  later-sound Lead i j = registers-sound 0
   later-sound Erase i j = writes-sound i 0 then (reads-sound i 0 then pages-sound (suc i))
   later-sound Write i j = writes-sound i (suc j) then (reads-sound i 0 then pages-sound (suc i))
   later-sound Read i j = reads-sound i (suc j) then pages-sound (suc i)
   later-sound Close i j = none
+  later-sound Register i j = registers-sound (suc i)
 
   acts-sound : (g : Stage) (i j k : ℕ) → Every Sound (acts-from g s image i j k)
   acts-sound g i j k = every-drop k (stage-acts g s image i j) (stage-sound g i j) then later-sound g i j
@@ -130,17 +139,23 @@ task-exists w r Status b id o p e = e
 task-exists w r Compare b id o p e = e
 
 -- the point of a session in range exists in its order
-pub position-valid : (w r : ℕ) (s : Session) (image : List ℕ) → s .settings .id < 256 → Bytes image → in-range w r s ≡ true → length image ≡ s .settings .size * s .pages
-    → Valid (limits w r) (position s image)
+pub position-valid : (s : Session) (image : List ℕ) → s .settings .id < 256 → Bytes image → in-range s ≡ true → length image ≡ s .settings .size * s .pages
+    → Valid (limits-of (s .settings)) (position s image)
 unfolding point-position
-position-valid w r s image id b e l = go (s .point) (point-of w r s e)
+position-valid s image id b e l = go (s .point) (point-of s e)
   where
-    h : Fits s image
-    h = fits-of w r s image e l
+    w : ℕ
+    w = limits-of (s .settings) .wait
 
-    go : (y : SessionPoint) → point-in-range w r (s .settings .size) (s .pages) y ≡ true → Valid (limits w r) (point-position s image y)
+    r : ℕ
+    r = limits-of (s .settings) .reads
+
+    h : Fits s image
+    h = fits-of s image e l
+
+    go : (y : SessionPoint) → point-in-range (limits-of (s .settings)) (s .settings .size) (s .settings .pairs .count) (s .pages) y ≡ true → Valid (limits-of (s .settings)) (point-position s image y)
     go (Running g i j k q c v) f =
-        let n = bounded w r (s .settings .size) (s .pages) g i j k q c v f in
+        let n = bounded w r (s .settings .size) (s .settings .pairs .count) (s .pages) g i j k q c v f in
         let x = place-exists w (reads-in r (task-of g k)) (strobes-in (task-of g k)) (place q c v) (n .place) in
         let a = acts-here s image h g i j k (n .page) (n .block) (n .act) in
         let both = first-sound (rw a at (acts-sound s image id b g i j k)) in
@@ -148,9 +163,9 @@ position-valid w r s image id b e l = go (s .point) (point-of w r s e)
     go (Ended n o) f = tt
 
 -- what a session leaves to say after a reply is what the reply leaves of the exchange
-pub exchange-advances : (w r : ℕ) → 0 < w → 0 < r → (s : Session) (image : List ℕ) → s .settings .id < 256 → Bytes image → in-range w r s ≡ true
+pub exchange-advances : (s : Session) (image : List ℕ) → s .settings .id < 256 → Bytes image → in-range s ≡ true
     → length image ≡ s .settings .size * s .pages → (x : ℕ)
-    → left-to-say (limits w r) (position (advanced w r s x image) image) ≡ after (left-to-say (limits w r) (position s image)) x
-exchange-advances w r hw hr s image id b e l x =
-    ap (left-to-say (limits w r)) (advances w r s image e l x)
-    ∙ next-says (limits w r) (record { wait = hw; reads = hr }) (position s image) (position-valid w r s image id b e l) x
+    → left-to-say (limits-of (s .settings)) (position (advanced s x image) image) ≡ after (left-to-say (limits-of (s .settings)) (position s image)) x
+exchange-advances s image id b e l x =
+    ap (left-to-say (limits-of (s .settings))) (advances s image e l x)
+    ∙ next-says (limits-of (s .settings)) (limits-positive (s .settings) (fits-of s image e l .settings)) (position s image) (position-valid s image id b e l) x

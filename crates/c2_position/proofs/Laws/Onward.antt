@@ -10,15 +10,17 @@ use lib.ListN.{length, drop, drop-of-length-le, length-append}
 use lib.Seq.{drop-cons}
 use Rattle.c2_wire.specs.Place.{place}
 use Rattle.c2_order.specs.Acts.{Act, reset-pulse, Block, put, get, status, erase, block-write, block-read}
-use Rattle.c2_order.specs.Order.{joined, lead, page-acts}
+use Rattle.settings.specs.Registers.{pairs-of}
+use Rattle.settings.proofs.Laws.Registers.{length-pairs, pairs-at}
+use Rattle.c2_order.specs.Order.{joined, lead, pair-acts, page-acts}
 use Rattle.c2_order.specs.Point.{begin}
 use Rattle.c2_acts.specs.declared.Stage.{Stage}
-use Rattle.c2_acts.specs.declared.Stage.the-variants.{Lead, Erase, Write, Read, Close}
+use Rattle.c2_acts.specs.declared.Stage.the-variants.{Lead, Erase, Write, Read, Close, Register}
 use Rattle.c2_session.specs.declared.Session.{Session}
 use Rattle.c2_acts.specs.Code.Acts.{acts-in}
-use Rattle.c2_session.specs.Code.Next.{act-at, next-write, next-page, next-read, next-stage, next-act}
+use Rattle.c2_session.specs.Code.Next.{act-at, next-write, next-page, next-read, next-register, next-stage, next-act}
 use Rattle.c2_range.specs.Range.{pages-in, blocks-in}
-use Rattle.c2_position.specs.Position.{page-list, page-at, blocks-at, block-at, stage-acts, pages-from, writes-from, reads-from, after-stage, acts-from, at-act, point-position}
+use Rattle.c2_position.specs.Position.{page-list, page-at, blocks-at, block-at, stage-acts, pages-from, writes-from, reads-from, registers-from, after-stage, acts-from, at-act, point-position}
 use Rattle.c2_position.proofs.Laws.Pages.{length-pages, length-blocks}
 use Rattle.c2_range.proofs.Laws.Acts.{length-command, length-puts, length-compares, length-status}
 use Rattle.c2_position.proofs.Laws.Position.{Fits, block-is, block-length, act-here, stands}
@@ -67,9 +69,27 @@ module _ (s : Session) (image : List ℕ) (h : Fits s image) where
   unfolding reads-from joined
   reads-over i j g = rw (drop-of-length-le (blocks-at s image i) {i = j} (rw (block-count i) g))
 
+  pair-count : length (pairs-of (s .settings .pairs)) ≡ s .settings .pairs .count
+  pair-count = length-pairs (s .settings .pairs) 0 (s .settings .pairs .count)
+
+  pub registers-on : (i : ℕ) → i < s .settings .pairs .count → registers-from s image i ≡ acts-from Register s image i 0 0
+  unfolding registers-from joined
+  registers-on i g =
+      let l : i < length (pairs-of (s .settings .pairs)) = rw pair-count g in
+      let z : 0 + i ≡ i = omega arith in
+      rw (
+        drop-cons (pairs-of (s .settings .pairs)) i (record { register = 0; value = 0 }) l,
+        pairs-at (s .settings .pairs) 0 (s .settings .pairs .count) i (record { register = 0; value = 0 }) g,
+        z,
+      ) (simp append-assoc)
+
+  pub registers-over : (i : ℕ) → s .settings .pairs .count ≤ i → registers-from s image i ≡ pages-from s image 0
+  unfolding registers-from joined
+  registers-over i g = rw (drop-of-length-le (pairs-of (s .settings .pairs)) {i = i} (rw pair-count g))
+
   -- how many acts a stage has
-  pub stage-length : (g : Stage) (i j : ℕ) → i < pages-in g (s .pages) → j < blocks-in g (s .settings .size) → length (stage-acts g s image i j) ≡ acts-in g
-  unfolding lead erase put get status block-write block-read
+  pub stage-length : (g : Stage) (i j : ℕ) → i < pages-in g (s .settings .pairs .count) (s .pages) → j < blocks-in g (s .settings .size) → length (stage-acts g s image i j) ≡ acts-in g
+  unfolding lead erase put get status block-write block-read pair-acts
   stage-length Lead i j gi gj = refl
   stage-length Erase i j gi gj = refl
   stage-length Write i j gi gj =
@@ -79,6 +99,7 @@ module _ (s : Session) (image : List ℕ) (h : Fits s image) where
       let b : length (block-at s image i j .bytes) ≡ 256 = ap (λ (x : Block). length (x .bytes)) (block-is s image h i j gi gj) ∙ block-length s image h i j gi gj in
       simp (length-append, length-command, length-compares, length-status, b)
   stage-length Close i j gi gj = refl
+  stage-length Register i j gi gj = refl
 
   -- the acts after the last act of a stage
   blocks-some : 0 < s .settings .size / 256
@@ -98,10 +119,20 @@ module _ (s : Session) (image : List ℕ) (h : Fits s image) where
       ap (λ (x : List Act). x ++ pages-from s image (suc i)) (reads-on i j g)
       ∙ append-assoc (stage-acts Read s image i j) (reads-from s image i (suc j)) (pages-from s image (suc i))
 
-  stage-over : (g : Stage) (i j k : ℕ) → i < pages-in g (s .pages) → j < blocks-in g (s .settings .size)
+  register-over : (i : ℕ) → begin (registers-from s image i) ≡ point-position s image (next-register s i)
+  unfolding point-position next-register
+  register-over i = go (decLt i (s .settings .pairs .count))
+    where
+      go : Dec (i < s .settings .pairs .count) → begin (registers-from s image i) ≡ point-position s image (next-register s i)
+      go (yes y) = rw (lt-ltb i (s .settings .pairs .count) y) (begins-at Register i 0 0 (registers-from s image i) (registers-on i y))
+      go (no y) =
+          rw (le-ltb i (s .settings .pairs .count) (omega arith), registers-over i (omega arith))
+          (begins-at Erase 0 0 0 (pages-from s image 0) (pages-on 0 (h .some)))
+
+  stage-over : (g : Stage) (i j k : ℕ) → i < pages-in g (s .settings .pairs .count) (s .pages) → j < blocks-in g (s .settings .size)
       → begin (after-stage g s image i j) ≡ point-position s image (next-stage g s (act-at g i j k))
   unfolding point-position next-write next-read next-page
-  stage-over Lead i j k gi gj = begins-at Erase 0 0 0 (pages-from s image 0) (pages-on 0 (h .some))
+  stage-over Lead i j k gi gj = register-over 0
   stage-over Erase i j k gi gj = begins-at Write i 0 0 (after-stage Erase s image i j) (writes-then i 0 blocks-some)
   stage-over Write i j k gi gj = go (decLt (j + 1) (s .settings .size / 256))
     where
@@ -126,19 +157,20 @@ module _ (s : Session) (image : List ℕ) (h : Fits s image) where
           rw (le-ltb (j + 1) (s .settings .size / 256) (omega arith), le-ltb (i + 1) (s .pages) (omega arith), reads-over i (suc j) (omega arith))
           (begins-at Close 0 0 0 (pages-from s image (suc i)) (pages-over (suc i) (omega arith)))
   stage-over Close i j k gi gj = begin-at []
+  stage-over Register i j k gi gj = rw (add-one i) (register-over (suc i))
 
   -- what follows an act of a stage (`rest-from`); the acts from it on are that act and these (`acts-here`)
   abbrev pub rest-from : Stage → (page block act : ℕ) → List Act
   rest-from g i j k = drop (suc k) (stage-acts g s image i j) ++ after-stage g s image i j
 
-  pub acts-here : (g : Stage) (i j k : ℕ) → i < pages-in g (s .pages) → j < blocks-in g (s .settings .size) → k < acts-in g
+  pub acts-here : (g : Stage) (i j k : ℕ) → i < pages-in g (s .settings .pairs .count) (s .pages) → j < blocks-in g (s .settings .size) → k < acts-in g
       → acts-from g s image i j k ≡ act-here s image h g (act-at g i j k) ∷ rest-from g i j k
   acts-here g i j k gi gj gk =
       let l : k < length (stage-acts g s image i j) = rw (stage-length g i j gi gj) gk in
       rw (drop-cons (stage-acts g s image i j) k reset-pulse l, stands s image h g i j k reset-pulse gi gj gk)
 
   -- the next point stands where the order goes on
-  pub goes-on : (g : Stage) (i j k : ℕ) → i < pages-in g (s .pages) → j < blocks-in g (s .settings .size) → k < acts-in g
+  pub goes-on : (g : Stage) (i j k : ℕ) → i < pages-in g (s .settings .pairs .count) (s .pages) → j < blocks-in g (s .settings .size) → k < acts-in g
       → begin (rest-from g i j k) ≡ point-position s image (next-act s (act-at g i j k))
   unfolding next-act point-position
   goes-on g i j k gi gj gk = go (decLt (k + 1) (acts-in g))

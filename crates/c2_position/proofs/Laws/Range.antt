@@ -21,8 +21,9 @@ use Rattle.c2_wire.specs.declared.Moved.the-variants.{Within, Stopped, WaitLimi
 use Rattle.c2_wire.proofs.Laws.Place.{Whole, Exists, exists-after, followed-exists, first-exists}
 use Rattle.c2_wire.proofs.Laws.Frames.{whole-address-write, whole-address-read, whole-data-write, whole-data-read, whole-step}
 use Rattle.settings.specs.Opening.{opening-refusal}
+use Rattle.settings.specs.Registers.{is-tidy}
 use Rattle.c2_acts.specs.declared.Stage.{Stage}
-use Rattle.c2_acts.specs.declared.Stage.the-variants.{Lead, Erase, Write, Read, Close}
+use Rattle.c2_acts.specs.declared.Stage.the-variants.{Lead, Erase, Write, Read, Close, Register}
 use Rattle.c2_acts.specs.declared.Task.{Task}
 use Rattle.c2_acts.specs.declared.Task.the-variants.{Reset, Pause, Address, Send, Input, Output, Ident, Status, Compare}
 use Rattle.c2_session.specs.declared.Point.{Point}
@@ -30,8 +31,10 @@ use Rattle.c2_session.specs.declared.Point.the-variants.{Running, Ended}
 use Rattle.c2_session.specs.declared.Session.{Session}
 use Rattle.c2_acts.specs.Code.Acts.{task-of, acts-in}
 use Rattle.c2_session.specs.Code.Bytes.{compared-offset}
-use Rattle.c2_session.specs.Code.Next.{act-at, strobe-point, first-strobe, next-write, next-page, next-read, next-stage, next-act}
+use Rattle.c2_session.specs.Code.Next.{act-at, strobe-point, first-strobe, next-write, next-page, next-read, next-register, next-stage, next-act}
 use Rattle.c2_session.specs.Code.Judge.{read-again, differs, compared, frame-judged, frame-answered}
+use Rattle.c2_order.specs.Conversation.{Positive, limits, limits-of}
+use Rattle.c2_order.proofs.Laws.Conversation.{limits-positive}
 use Rattle.c2_session.specs.Code.Advance.{task-taken, point-replied, point-advanced, advanced}
 use Rattle.c2_range.specs.Code.Bounds.{strobes-in, reads-in}
 use Rattle.c2_range.proofs.Laws.Bounds.{bounded, bounded-in-range}
@@ -92,19 +95,19 @@ read-exists w r n h = record { inside = omega arith; counted = h; sampled-only =
 
 module _ (w r : ℕ) (hw : 0 < w) (hr : 0 < r) (s : Session) (image : List ℕ) (h : Fits s image) where
   abbrev In : Point → Type 0
-  In y = point-in-range w r (s .settings .size) (s .pages) y ≡ true
+  In y = point-in-range (limits w r) (s .settings .size) (s .settings .pairs .count) (s .pages) y ≡ true
 
   cond-in : (t : Bool) (x y : Point) → In x → In y → In (cond t x y)
   cond-in true x y p q = p
   cond-in false x y p q = q
 
-  pub running-in : (g : Stage) (i j k : ℕ) (p : Place) → i < pages-in g (s .pages) → j < blocks-in g (s .settings .size) → k < acts-in g
+  pub running-in : (g : Stage) (i j k : ℕ) (p : Place) → i < pages-in g (s .settings .pairs .count) (s .pages) → j < blocks-in g (s .settings .size) → k < acts-in g
       → Exists w (reads-in r (task-of g k)) (strobes-in (task-of g k)) p → In (strobe-point (act-at g i j k) p)
   running-in g i j k p gi gj gk e =
-      bounded-in-range w r (s .settings .size) (s .pages) g i j k (p .strobe) (p .count) (p .bits)
+      bounded-in-range w r (s .settings .size) (s .settings .pairs .count) (s .pages) g i j k (p .strobe) (p .count) (p .bits)
       (record { page = gi; block = gj; act = gk; place = exists-place w (reads-in r (task-of g k)) (strobes-in (task-of g k)) p e })
 
-  begins-in : (g : Stage) (i j k : ℕ) → i < pages-in g (s .pages) → j < blocks-in g (s .settings .size) → k < acts-in g → In (first-strobe g i j k)
+  begins-in : (g : Stage) (i j k : ℕ) → i < pages-in g (s .settings .pairs .count) (s .pages) → j < blocks-in g (s .settings .size) → k < acts-in g → In (first-strobe g i j k)
   begins-in g i j k gi gj gk =
       let t : Task = task-of g k in
       running-in g i j k (place 0 0 0) gi gj gk (first-exists w (reads-in r t) (strobes-in t) (whole-in r t) hw (reads-some r hr t) (some-in t))
@@ -118,10 +121,19 @@ module _ (w r : ℕ) (hw : 0 < w) (hr : 0 < r) (s : Session) (image : List ℕ) 
   acts-some Write = omega arith
   acts-some Read = omega arith
   acts-some Close = omega arith
+  acts-some Register = omega arith
 
-  stage-in : (g : Stage) (i j k : ℕ) → i < pages-in g (s .pages) → j < blocks-in g (s .settings .size) → In (next-stage g s (act-at g i j k))
+  register-in : (i : ℕ) → In (next-register s i)
+  unfolding next-register
+  register-in i = go (decLt i (s .settings .pairs .count))
+    where
+      go : Dec (i < s .settings .pairs .count) → In (next-register s i)
+      go (yes y) = rw (lt-ltb i (s .settings .pairs .count) y) (begins-in Register i 0 0 y (omega arith) (omega arith))
+      go (no y) = rw (le-ltb i (s .settings .pairs .count) (omega arith)) (begins-in Erase 0 0 0 (h .some) (omega arith) (omega arith))
+
+  stage-in : (g : Stage) (i j k : ℕ) → i < pages-in g (s .settings .pairs .count) (s .pages) → j < blocks-in g (s .settings .size) → In (next-stage g s (act-at g i j k))
   unfolding next-write next-read next-page ended-in-range ends-session offsets-of
-  stage-in Lead i j k gi gj = begins-in Erase 0 0 0 (h .some) (omega arith) (omega arith)
+  stage-in Lead i j k gi gj = register-in 0
   stage-in Erase i j k gi gj = begins-in Write i 0 0 gi blocks-some (omega arith)
   stage-in Write i j k gi gj = go (decLt (j + 1) (s .settings .size / 256))
     where
@@ -137,8 +149,9 @@ module _ (w r : ℕ) (hw : 0 < w) (hr : 0 < r) (s : Session) (image : List ℕ) 
       go (no y) (no z) =
           rw (le-ltb (j + 1) (s .settings .size / 256) (omega arith), le-ltb (i + 1) (s .pages) (omega arith)) (begins-in Close 0 0 0 (omega arith) (omega arith) (omega arith))
   stage-in Close i j k gi gj = refl
+  stage-in Register i j k gi gj = register-in (i + 1)
 
-  pub onward-in : (g : Stage) (i j k : ℕ) → i < pages-in g (s .pages) → j < blocks-in g (s .settings .size) → k < acts-in g → In (next-act s (act-at g i j k))
+  pub onward-in : (g : Stage) (i j k : ℕ) → i < pages-in g (s .settings .pairs .count) (s .pages) → j < blocks-in g (s .settings .size) → k < acts-in g → In (next-act s (act-at g i j k))
   unfolding next-act
   onward-in g i j k gi gj gk = go (decLt (k + 1) (acts-in g))
     where
@@ -146,7 +159,7 @@ module _ (w r : ℕ) (hw : 0 < w) (hr : 0 < r) (s : Session) (image : List ℕ) 
       go (yes y) = rw (lt-ltb _ _ y) (begins-in g i j (k + 1) gi gj y)
       go (no y) = rw (le-ltb (k + 1) (acts-in g) (omega arith)) (stage-in g i j k gi gj)
 
-  module _ (g : Stage) (i j k : ℕ) (gi : i < pages-in g (s .pages)) (gj : j < blocks-in g (s .settings .size)) (gk : k < acts-in g) where
+  module _ (g : Stage) (i j k : ℕ) (gi : i < pages-in g (s .settings .pairs .count) (s .pages)) (gj : j < blocks-in g (s .settings .size)) (gk : k < acts-in g) where
     -- a poll's next read is in range
     again-in : (t : Task) → task-of g k ≡ t → reads-in r t ≡ r → strobes-in t ≡ frame AddressRead 0 → (n : ℕ) → In (read-again r (act-at g i j k) n)
     unfolding read-again ended-in-range ends-session offsets-of
@@ -184,7 +197,7 @@ module _ (w r : ℕ) (hw : 0 < w) (hr : 0 < r) (s : Session) (image : List ℕ) 
         settled-in t q (p .count) (followed w (strobes-in t) p b)
         (followed-exists w (reads-in r t) (strobes-in t) (whole-in r t) hw (reads-some r hr t) p b e)
 
-    taken-in : (t : Task) → task-of g k ≡ t → (p : Place) (b : Bool) → Exists w (reads-in r t) (strobes-in t) p → In (task-taken w r t s (act-at g i j k) p b image)
+    taken-in : (t : Task) → task-of g k ≡ t → (p : Place) (b : Bool) → Exists w (reads-in r t) (strobes-in t) p → In (task-taken (limits w r) t s (act-at g i j k) p b image)
     taken-in Reset q p b e = onward-in g i j k gi gj gk
     taken-in Pause q p b e = onward-in g i j k gi gj gk
     taken-in Address q p b e = framed-in Address q p b e
@@ -195,25 +208,35 @@ module _ (w r : ℕ) (hw : 0 < w) (hr : 0 < r) (s : Session) (image : List ℕ) 
     taken-in Status q p b e = framed-in Status q p b e
     taken-in Compare q p b e = framed-in Compare q p b e
 
-    replied-in : (p : Place) (x : ℕ) → Exists w (reads-in r (task-of g k)) (strobes-in (task-of g k)) p → In (point-replied w r s (act-at g i j k) p x image)
+    replied-in : (p : Place) (x : ℕ) → Exists w (reads-in r (task-of g k)) (strobes-in (task-of g k)) p → In (point-replied (limits w r) s (act-at g i j k) p x image)
     unfolding point-replied ended-in-range ends-session offsets-of
     replied-in p x e =
-        cond-in (ltb 1 x) (Ended bad-reply 0) (task-taken w r (task-of g k) s (act-at g i j k) p (eqb x 1) image) refl (taken-in (task-of g k) refl p (eqb x 1) e)
+        cond-in (ltb 1 x) (Ended bad-reply 0) (task-taken (limits w r) (task-of g k) s (act-at g i j k) p (eqb x 1) image) refl (taken-in (task-of g k) refl p (eqb x 1) e)
 
 -- every session that a reply makes of one in range is in range
-pub advanced-in-range : (w r : ℕ) → 0 < w → 0 < r → (s : Session) (image : List ℕ) → in-range w r s ≡ true → length image ≡ s .settings .size * s .pages → (x : ℕ)
-    → in-range w r (advanced w r s x image) ≡ true
+pub advanced-in-range : (s : Session) (image : List ℕ) → in-range s ≡ true → length image ≡ s .settings .size * s .pages → (x : ℕ)
+    → in-range (advanced s x image) ≡ true
 unfolding in-range advanced
-advanced-in-range w r hw hr s image e l x =
-    let o = both (eqb (opening-refusal (s .settings) (s .first) (s .settings .size * s .pages)) 0) (point-in-range w r (s .settings .size) (s .pages) (s .point)) e in
-    rw (o .0) (go (s .point) (point-of w r s e))
+advanced-in-range s image e l x =
+    let o = both (eqb (opening-refusal (s .settings) (s .first) (s .settings .size * s .pages)) 0 && is-tidy (s .settings .pairs)) (point-in-range (limits-of (s .settings)) (s .settings .size) (s .settings .pairs .count) (s .pages) (s .point)) e in
+    rw (o .0) (go (s .point) (point-of s e))
   where
-    h : Fits s image
-    h = fits-of w r s image e l
+    w : ℕ
+    w = limits-of (s .settings) .wait
 
-    go : (y : Point) → point-in-range w r (s .settings .size) (s .pages) y ≡ true → point-in-range w r (s .settings .size) (s .pages) (point-advanced w r y s x image) ≡ true
+    r : ℕ
+    r = limits-of (s .settings) .reads
+
+    h : Fits s image
+    h = fits-of s image e l
+
+    p : Positive (limits-of (s .settings))
+    p = limits-positive (s .settings) (h .settings)
+
+    go : (y : Point) → point-in-range (limits-of (s .settings)) (s .settings .size) (s .settings .pairs .count) (s .pages) y ≡ true
+        → point-in-range (limits-of (s .settings)) (s .settings .size) (s .settings .pairs .count) (s .pages) (point-advanced (limits-of (s .settings)) y s x image) ≡ true
     go (Running g i j k q c v) f =
-        let n = bounded w r (s .settings .size) (s .pages) g i j k q c v f in
-        replied-in w r hw hr s image h g i j k (n .page) (n .block) (n .act) (place q c v) x
+        let n = bounded w r (s .settings .size) (s .settings .pairs .count) (s .pages) g i j k q c v f in
+        replied-in w r (p .wait) (p .reads) s image h g i j k (n .page) (n .block) (n .act) (place q c v) x
         (place-exists w (reads-in r (task-of g k)) (strobes-in (task-of g k)) (place q c v) (n .place))
     go (Ended n o) f = f

@@ -18,10 +18,10 @@ use Rattle.c2_wire.specs.declared.Place.{Place}
 use Rattle.c2_wire.proofs.Laws.Place.{Exists, remaining-asks}
 use Rattle.c2_wire.proofs.Laws.Script.{exists-any-byte}
 use Rattle.c2_order.specs.Acts.{Act}
-use Rattle.c2_order.specs.Conversation.{limits}
+use Rattle.c2_order.specs.Conversation.{limits, limits-of}
 use Rattle.c2_order.specs.Point.{strobes-of, follow-up, left-to-say}
 use Rattle.c2_acts.specs.declared.Stage.{Stage}
-use Rattle.c2_acts.specs.declared.Stage.the-variants.{Lead, Erase, Write, Read, Close}
+use Rattle.c2_acts.specs.declared.Stage.the-variants.{Lead, Erase, Write, Read, Close, Register}
 use Rattle.c2_acts.specs.declared.Task.{Task}
 use Rattle.c2_acts.specs.declared.Task.the-variants.{Reset, Pause, Address, Send, Input, Output, Ident, Status, Compare}
 use Rattle.c2_session.specs.declared.Point.the-variants.{Running, Ended}
@@ -63,6 +63,7 @@ sent-byte s image h Read i j k e = go (decLt k 11)
     go (yes y) = rw (lt-ltb k 11 y)
     go (no y) = absurd (let z : false ≡ true = sym (late-unsent k (omega arith)) ∙ e in let n : _≡_ {A = ℕ} 0 1 = cc in omega arith)
 sent-byte s image h Close i j k e = refl
+sent-byte s image h Register i j k e = refl
 
 -- at a place that exists the exchange asks for the step of that strobe
 asks-place : (w r : ℕ) (a : Act) (acts : List Act) (p : Place) → (n : ℕ) → Exists w n (strobes-of a) p
@@ -108,17 +109,23 @@ module _ (s : Session) (image : List ℕ) (h : Fits s image) (w r : ℕ) (g : St
   asks-task Compare q e = asks-place w r (act-of Compare) acts p 1 e
 
 -- the step that a session in range waits at, lent its image, is the one that its exchange asks for
-pub asks-step : (w r : ℕ) (s : Session) (image : List ℕ) → in-range w r s ≡ true → length image ≡ s .settings .size * s .pages
-    → session-step s image ≡ asks (left-to-say (limits w r) (position s image))
+pub asks-step : (s : Session) (image : List ℕ) → in-range s ≡ true → length image ≡ s .settings .size * s .pages
+    → session-step s image ≡ asks (left-to-say (limits-of (s .settings)) (position s image))
 unfolding session-step point-position asks left-to-say code
-asks-step w r s image e l = go (s .point) (point-of w r s e)
+asks-step s image e l = go (s .point) (point-of s e)
   where
-    h : Fits s image
-    h = fits-of w r s image e l
+    w : ℕ
+    w = limits-of (s .settings) .wait
 
-    go : (y : SessionPoint) → point-in-range w r (s .settings .size) (s .pages) y ≡ true → point-step y s image ≡ asks (left-to-say (limits w r) (point-position s image y))
+    r : ℕ
+    r = limits-of (s .settings) .reads
+
+    h : Fits s image
+    h = fits-of s image e l
+
+    go : (y : SessionPoint) → point-in-range (limits-of (s .settings)) (s .settings .size) (s .settings .pairs .count) (s .pages) y ≡ true → point-step y s image ≡ asks (left-to-say (limits-of (s .settings)) (point-position s image y))
     go (Running g i j k q c v) f =
-        let n = bounded w r (s .settings .size) (s .pages) g i j k q c v f in
+        let n = bounded w r (s .settings .size) (s .settings .pairs .count) (s .pages) g i j k q c v f in
         let x = place-exists w (reads-in r (task-of g k)) (strobes-in (task-of g k)) (place q c v) (n .place) in
         rw (acts-here s image h g i j k (n .page) (n .block) (n .act))
         (sym (asks-task s image h w r g i j k (rest-from s image h g i j k) (place q c v) (task-of g k) refl x))

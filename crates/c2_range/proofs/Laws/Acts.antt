@@ -16,8 +16,9 @@ use Rattle.numbers.specs.Numbers.{bad-status, compare-differs, other-device}
 use Rattle.c2_wire.specs.Exchange.{outcome}
 use Rattle.settings.specs.declared.Settings.{Settings}
 use Rattle.c2_order.specs.Acts.{Act, poll, expect, reset-pulse, pause-20-ms, address-write, data-write, input-taken, output-ready, put, get, status, puts, compares, length-code, Block, erase, block-command, block-write, block-read}
-use Rattle.c2_order.specs.Order.{lead}
-use Rattle.c2_acts.specs.declared.Stage.the-variants.{Lead, Erase, Write, Read}
+use Rattle.settings.specs.Registers.{Pair}
+use Rattle.c2_order.specs.Order.{lead, pair-acts}
+use Rattle.c2_acts.specs.declared.Stage.the-variants.{Lead, Erase, Write, Read, Register}
 use Rattle.c2_acts.specs.declared.Task.{Task}
 use Rattle.c2_acts.specs.declared.Task.the-variants.{Reset, Pause, Address, Send, Input, Output, Ident, Status, Compare}
 use Rattle.c2_acts.specs.Code.Acts.{task-of}
@@ -227,3 +228,11 @@ read-at f b k d id e h = go (decLt k 11) (decLt k 13)
         third-part C status S d 2 (length-command f 6 b) two k (omega arith)
         ∙ rw (le-ltb k 11 (omega arith), ne-eqb k 0 (λ q. omega arith), ne-eqb k 3 (λ q. omega arith), ne-eqb k 4 (λ q. omega arith))
         (last (omega arith) (eqb (k % 2) 1) refl)
+
+-- the acts of a pair
+pub pair-acts-at : (p : Pair) (k : ℕ) (d : Act) (id o : ℕ) → k < 2
+    → getD (pair-acts p) k d ≡ task-act (task-of Register k) (cond (eqb k 0) (p .register) (p .value)) id o
+unfolding pair-acts
+pair-acts-at p zero d id o h = refl
+pair-acts-at p (suc zero) d id o h = refl
+pair-acts-at p (suc (suc k)) d id o h = absurd (omega arith)

@@ -15,17 +15,17 @@ use Rattle.c2_wire.specs.Frames.{Strobe, sends, ins-code, frame}
 use Rattle.c2_wire.specs.Place.{strobe-at, samples, count-limit}
 use Rattle.c2_wire.specs.declared.Frame.the-variants.{AddressWrite, DataWrite}
 use Rattle.c2_order.specs.Acts.{Act, reset-pulse, put, get, status, puts, compares, erase, block-command, block-write, block-read}
-use Rattle.c2_order.specs.Order.{lead}
+use Rattle.c2_order.specs.Order.{lead, pair-acts}
 use Rattle.c2_order.specs.Conversation.{limits}
 use Rattle.c2_order.specs.Point.{strobes-of, reads-of}
 use Rattle.c2_acts.specs.Code.Acts.{task-of, acts-in}
 use Rattle.c2_acts.specs.declared.Stage.{Stage}
-use Rattle.c2_acts.specs.declared.Stage.the-variants.{Lead, Erase, Write, Read, Close}
+use Rattle.c2_acts.specs.declared.Stage.the-variants.{Lead, Erase, Write, Read, Close, Register}
 use Rattle.c2_acts.specs.declared.Task.{Task}
 use Rattle.c2_acts.specs.declared.Task.the-variants.{Reset, Pause, Address, Send, Input, Output, Ident, Status, Compare}
 use Rattle.c2_range.specs.Range.{pages-in, blocks-in, any-block, stage-order, place-in-range, first-in-range, running-in-range}
 use Rattle.c2_range.specs.Code.Bounds.{strobes-in, reads-in, strobes-by, limit-by, sampled-by, below-bounds, inside, running-by}
-use Rattle.c2_range.proofs.Laws.Acts.{task-act, lead-at, erase-at, write-at, read-at}
+use Rattle.c2_range.proofs.Laws.Acts.{task-act, lead-at, erase-at, write-at, read-at, pair-acts-at}
 
 strobes-are : (t : Task) → length (strobes-in t) ≡ strobes-by t
 unfolding frame sends ins-code bits
@@ -147,12 +147,13 @@ module _ (w r : ℕ) (l : List Act) (n k : ℕ) (t : Task) (q c v : ℕ) (e : le
   no-act h = rw (drop-past l k (omega arith), le-ltb k n h)
 
 stage-acts-number : (g : Stage) → length (stage-order g) ≡ acts-in g
-unfolding stage-order lead erase block-write block-read block-command put get status puts compares
+unfolding stage-order lead erase block-write block-read block-command put get status puts compares pair-acts
 stage-acts-number Lead = refl
 stage-acts-number Erase = refl
 stage-acts-number Write = refl
 stage-acts-number Read = refl
 stage-acts-number Close = refl
+stage-acts-number Register = refl
 
 module _ (w r : ℕ) (g : Stage) (k q c v : ℕ) where
   abbrev By-number : Type 0
@@ -168,6 +169,7 @@ act-at w r Erase k q c v h = by-act w r Erase k q c v h _ 0 0 (erase-at 0 0 k re
 act-at w r Write k q c v h = by-act w r Write k q c v h _ 0 0 (write-at 0 any-block k reset-pulse 0 0 refl h)
 act-at w r Read k q c v h = by-act w r Read k q c v h _ 0 _ (read-at 0 any-block k reset-pulse 0 refl h)
 act-at w r Close k q c v h = by-act w r Close k q c v h 0 0 0 (let e : k ≡ 0 = omega arith in rw e)
+act-at w r Register k q c v h = by-act w r Register k q c v h _ 0 0 (pair-acts-at _ k reset-pulse 0 0 h)
 
 by-number : (w r : ℕ) (g : Stage) (k q c v : ℕ) → By-number w r g k q c v
 by-number w r g k q c v = go (decLt k (acts-in g))
@@ -181,32 +183,32 @@ both-assoc true y z = refl
 both-assoc false y z = refl
 
 -- a running point is in range exactly if the tests by its act's number pass
-pub running-is : (w r size pages : ℕ) (g : Stage) (i j k q c v : ℕ)
-    → running-in-range w r size pages g i j k q c v ≡ running-by w r size pages g i j k q c v
+pub running-is : (w r size pairs pages : ℕ) (g : Stage) (i j k q c v : ℕ)
+    → running-in-range w r size pairs pages g i j k q c v ≡ running-by w r size pairs pages g i j k q c v
 unfolding running-in-range running-by
-running-is w r size pages g i j k q c v =
-    let x : Bool = ltb i (pages-in g pages) && ltb j (blocks-in g size) in
-    ap (λ (b : Bool). ltb i (pages-in g pages) && ltb j (blocks-in g size) && b) (by-number w r g k q c v)
+running-is w r size pairs pages g i j k q c v =
+    let x : Bool = ltb i (pages-in g pairs pages) && ltb j (blocks-in g size) in
+    ap (λ (b : Bool). ltb i (pages-in g pairs pages) && ltb j (blocks-in g size) && b) (by-number w r g k q c v)
     ∙ both-assoc x (ltb k (acts-in g)) (place-in-range w (reads-in r (task-of g k)) (strobes-in (task-of g k)) q c v)
 
 -- what the tests of a running point say, by its act's number
-pub record Bounded (w r size pages : ℕ) (g : Stage) (i j k q c v : ℕ) : Type 0 where
-  pub page : i < pages-in g pages
+pub record Bounded (w r size pairs pages : ℕ) (g : Stage) (i j k q c v : ℕ) : Type 0 where
+  pub page : i < pages-in g pairs pages
   pub block : j < blocks-in g size
   pub act : k < acts-in g
   pub place : place-in-range w (reads-in r (task-of g k)) (strobes-in (task-of g k)) q c v ≡ true
 
-pub bounded : (w r size pages : ℕ) (g : Stage) (i j k q c v : ℕ) → running-in-range w r size pages g i j k q c v ≡ true
-    → Bounded w r size pages g i j k q c v
+pub bounded : (w r size pairs pages : ℕ) (g : Stage) (i j k q c v : ℕ) → running-in-range w r size pairs pages g i j k q c v ≡ true
+    → Bounded w r size pairs pages g i j k q c v
 unfolding running-by
-bounded w r size pages g i j k q c v e =
-    let a = both (inside (pages-in g pages) (blocks-in g size) (acts-in g) i j k) _ (sym (running-is w r size pages g i j k q c v) ∙ e) in
-    let b = both (ltb i (pages-in g pages) && ltb j (blocks-in g size)) (ltb k (acts-in g)) (a .0) in
-    let d = both (ltb i (pages-in g pages)) (ltb j (blocks-in g size)) (b .0) in
+bounded w r size pairs pages g i j k q c v e =
+    let a = both (inside (pages-in g pairs pages) (blocks-in g size) (acts-in g) i j k) _ (sym (running-is w r size pairs pages g i j k q c v) ∙ e) in
+    let b = both (ltb i (pages-in g pairs pages) && ltb j (blocks-in g size)) (ltb k (acts-in g)) (a .0) in
+    let d = both (ltb i (pages-in g pairs pages)) (ltb j (blocks-in g size)) (b .0) in
     record { page = ltb-true _ _ (d .0); block = ltb-true _ _ (d .1); act = ltb-true _ _ (b .1); place = a .1 }
 
-pub bounded-in-range : (w r size pages : ℕ) (g : Stage) (i j k q c v : ℕ) → Bounded w r size pages g i j k q c v
-    → running-in-range w r size pages g i j k q c v ≡ true
+pub bounded-in-range : (w r size pairs pages : ℕ) (g : Stage) (i j k q c v : ℕ) → Bounded w r size pairs pages g i j k q c v
+    → running-in-range w r size pairs pages g i j k q c v ≡ true
 unfolding running-by
-bounded-in-range w r size pages g i j k q c v b =
-    running-is w r size pages g i j k q c v ∙ rw (lt-ltb _ _ (b .page), lt-ltb _ _ (b .block), lt-ltb _ _ (b .act)) (b .place)
+bounded-in-range w r size pairs pages g i j k q c v b =
+    running-is w r size pairs pages g i j k q c v ∙ rw (lt-ltb _ _ (b .page), lt-ltb _ _ (b .block), lt-ltb _ _ (b .act)) (b .place)

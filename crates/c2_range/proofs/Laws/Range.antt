@@ -14,8 +14,9 @@ use Rattle.c2_wire.specs.Place.{strobe-at, samples, count-limit}
 use Rattle.settings.specs.Accepted.{is-fpdat, is-page-size, is-page-count, settings-refusal}
 use Rattle.settings.specs.declared.Settings.{Settings}
 use Rattle.settings.specs.Opening.{is-image, are-pages, opening-refusal}
+use Rattle.settings.specs.Registers.{are-pairs, is-tidy}
 use Rattle.c2_order.specs.Acts.{Act}
-use Rattle.c2_order.specs.Conversation.{limits}
+use Rattle.c2_order.specs.Conversation.{Limits, limits-of}
 use Rattle.c2_order.specs.Claims.{Last-number}
 use Rattle.c2_order.specs.Point.{strobes-of, reads-of}
 use Rattle.c2_acts.specs.declared.Stage.{Stage}
@@ -61,7 +62,9 @@ opening-passes t first pages e =
     let a = passed (settings-refusal t) _ e in
     let f = passes (leb 3 (t .fpdat)) _ 1 (omega arith) (a .0) in
     let s = passes (is-page-size (t .size)) _ 2 (omega arith) (f .1) in
-    let n = passes (leb 1 (t .count) && leb (t .size * t .count) 65536) 0 3 (omega arith) (s .1) in
+    let n = passes (leb 1 (t .count) && leb (t .size * t .count) 65536) _ 3 (omega arith) (s .1) in
+    let w = passes (leb 1 (t .wait)) _ 18 (omega arith) (n .1) in
+    let r = passes (are-pairs (t .fpdat) (t .pairs)) 0 19 (omega arith) (w .1) in
     let m = both (leb 1 (t .count)) (leb (t .size * t .count) 65536) (n .0) in
     let size = sized (t .size) (s .0) in
     let i = passes (leb 1 (t .size * pages) && eqb (t .size * pages % t .size) 0) _ 4 (omega arith) (a .1) in
@@ -72,6 +75,8 @@ opening-passes t first pages e =
       size = size;
       count = leb-true 1 (t .count) (m .0);
       flash = leb-true (t .size * t .count) 65536 (m .1);
+      wait = leb-true 1 (t .wait) (w .0);
+      pairs = r .0;
       image = some-pages pages (leb-true 1 (t .size * pages) (j .0));
       inside = omega (arith, leb-true (first + t .size * pages / t .size) (t .count) (p .0), mul-div-right pages {m = t .size} (some-size (t .size) size));
     }
@@ -90,6 +95,8 @@ opening-would-pass t first pages o =
       is-sized (t .size) (o .size),
       le-leb 1 (t .count) (o .count),
       le-leb (t .size * t .count) 65536 (o .flash),
+      le-leb 1 (t .wait) (o .wait),
+      o .pairs,
       le-leb 1 (t .size * pages) b,
       mul-mod-right (t .size) pages,
       mul-div-right pages {m = t .size} z,
@@ -97,24 +104,24 @@ opening-would-pass t first pages o =
     )
 
 -- what the tests of a point say
-module _ (w l size pages : ℕ) where
-  point-exists : (g : Stage) (i j k q c v : ℕ) → running-in-range w l size pages g i j k q c v ≡ true → Point-exists w l size pages g i j k q c v
+module _ (l : Limits) (size pairs pages : ℕ) where
+  point-exists : (g : Stage) (i j k q c v : ℕ) → running-in-range (l .wait) (l .reads) size pairs pages g i j k q c v ≡ true → Point-exists l size pairs pages g i j k q c v
   unfolding running-in-range first-in-range place-in-range
   point-exists g i j k q c v e = go (drop k (stage-order g)) refl (a .1)
     where
-      a : (ltb i (pages-in g pages) && ltb j (blocks-in g size) ≡ true) × (first-in-range w l (drop k (stage-order g)) q c v ≡ true)
-      a = both (ltb i (pages-in g pages) && ltb j (blocks-in g size)) (first-in-range w l (drop k (stage-order g)) q c v) e
+      a : (ltb i (pages-in g pairs pages) && ltb j (blocks-in g size) ≡ true) × (first-in-range (l .wait) (l .reads) (drop k (stage-order g)) q c v ≡ true)
+      a = both (ltb i (pages-in g pairs pages) && ltb j (blocks-in g size)) (first-in-range (l .wait) (l .reads) (drop k (stage-order g)) q c v) e
 
-      go : (acts : List Act) → drop k (stage-order g) ≡ acts → first-in-range w l acts q c v ≡ true → Point-exists w l size pages g i j k q c v
+      go : (acts : List Act) → drop k (stage-order g) ≡ acts → first-in-range (l .wait) (l .reads) acts q c v ≡ true → Point-exists l size pairs pages g i j k q c v
       go [] h f = absurd (let z : _≡_ {A = ℕ} 0 1 = cc in omega arith)
       go (x ∷ later) h f =
-          let d = both (ltb i (pages-in g pages)) (ltb j (blocks-in g size)) (a .0) in
-          let m : ℕ = count-limit w (reads-of (limits w l) x) (strobe-at (strobes-of x) q) in
+          let d = both (ltb i (pages-in g pairs pages)) (ltb j (blocks-in g size)) (a .0) in
+          let m : ℕ = count-limit (l .wait) (reads-of l x) (strobe-at (strobes-of x) q) in
           let n : ℕ = 2 ^ samples (take q (strobes-of x)) in
           let y = both (ltb q (length (strobes-of x)) && ltb c m) (ltb v n) f in
           let z = both (ltb q (length (strobes-of x))) (ltb c m) (y .0) in
           record {
-            page = ltb-true i (pages-in g pages) (d .0);
+            page = ltb-true i (pages-in g pairs pages) (d .0);
             block = ltb-true j (blocks-in g size) (d .1);
             act = x;
             later = later;
@@ -124,15 +131,15 @@ module _ (w l size pages : ℕ) where
             bits = ltb-true v n (y .1);
           }
 
-  pub point-is-in-range : (g : Stage) (i j k q c v : ℕ) → Point-exists w l size pages g i j k q c v → running-in-range w l size pages g i j k q c v ≡ true
+  pub point-is-in-range : (g : Stage) (i j k q c v : ℕ) → Point-exists l size pairs pages g i j k q c v → running-in-range (l .wait) (l .reads) size pairs pages g i j k q c v ≡ true
   unfolding running-in-range first-in-range place-in-range
   point-is-in-range g i j k q c v p =
       rw (
-        lt-ltb i (pages-in g pages) (p .page),
+        lt-ltb i (pages-in g pairs pages) (p .page),
         lt-ltb j (blocks-in g size) (p .block),
         p .here,
         lt-ltb q (length (strobes-of (p .act))) (p .strobe),
-        lt-ltb c (count-limit w (reads-of (limits w l) (p .act)) (strobe-at (strobes-of (p .act)) q)) (p .count),
+        lt-ltb c (count-limit (l .wait) (reads-of l (p .act)) (strobe-at (strobes-of (p .act)) q)) (p .count),
         lt-ltb v (2 ^ samples (take q (strobes-of (p .act)))) (p .bits),
       )
 
@@ -167,30 +174,32 @@ outcome-is-in-range bytes n o x =
     (λ p. rw (is-end n (x .number), p, lt-ltb o bytes (x .inside (eqb-true n 14 p))))
     (λ p. rw (is-end n (x .number), p, x .otherwise (λ h. absurd (let y : true ≡ false = sym (eq-eqb n 14 h) ∙ p in let z : _≡_ {A = ℕ} 0 1 = cc in omega arith))))
 
-module _ (w l size pages : ℕ) where
-  point-stands : (p : Point) → point-in-range w l size pages p ≡ true → Point-stands w l size pages p
-  point-stands (Running g i j k q c v) e = point-exists w l size pages g i j k q c v e
+module _ (l : Limits) (size pairs pages : ℕ) where
+  point-stands : (p : Point) → point-in-range l size pairs pages p ≡ true → Point-stands l size pairs pages p
+  point-stands (Running g i j k q c v) e = point-exists l size pairs pages g i j k q c v e
   point-stands (Ended n o) e = outcome-stands (size * pages) n o e
 
-  standing-point : (p : Point) → Point-stands w l size pages p → point-in-range w l size pages p ≡ true
-  standing-point (Running g i j k q c v) e = point-is-in-range w l size pages g i j k q c v e
+  standing-point : (p : Point) → Point-stands l size pairs pages p → point-in-range l size pairs pages p ≡ true
+  standing-point (Running g i j k q c v) e = point-is-in-range l size pairs pages g i j k q c v e
   standing-point (Ended n o) e = outcome-is-in-range (size * pages) n o e
 
 -- what the tests of a session say
-pub within-ranges : (w l : ℕ) (s : Session) → in-range w l s ≡ true → Within-ranges w l s
+pub within-ranges : (s : Session) → in-range s ≡ true → Within-ranges s
 unfolding in-range
-within-ranges w l s e =
+within-ranges s e =
     let n : ℕ = opening-refusal (s .settings) (s .first) (s .settings .size * s .pages) in
-    let a = both (eqb n 0) (point-in-range w l (s .settings .size) (s .pages) (s .point)) e in
+    let p = both (eqb n 0 && is-tidy (s .settings .pairs)) (point-in-range (limits-of (s .settings)) (s .settings .size) (s .settings .pairs .count) (s .pages) (s .point)) e in
+    let a = both (eqb n 0) (is-tidy (s .settings .pairs)) (p .0) in
     record {
       opening = opening-passes (s .settings) (s .first) (s .pages) (eqb-true n 0 (a .0));
-      point = point-stands w l (s .settings .size) (s .pages) (s .point) (a .1);
+      unnamed = a .1;
+      point = point-stands (limits-of (s .settings)) (s .settings .size) (s .settings .pairs .count) (s .pages) (s .point) (p .1);
     }
 
-pub ranges-within : (w l : ℕ) (s : Session) → Within-ranges w l s → in-range w l s ≡ true
+pub ranges-within : (s : Session) → Within-ranges s → in-range s ≡ true
 unfolding in-range
-ranges-within w l s x =
-    rw (opening-would-pass (s .settings) (s .first) (s .pages) (x .opening)) (standing-point w l (s .settings .size) (s .pages) (s .point) (x .point))
+ranges-within s x =
+    rw (opening-would-pass (s .settings) (s .first) (s .pages) (x .opening), x .unnamed) (standing-point (limits-of (s .settings)) (s .settings .size) (s .settings .pairs .count) (s .pages) (s .point) (x .point))
 
 pub ranges-are : Ranges-are
-ranges-are w l s = (within-ranges w l s, ranges-within w l s)
+ranges-are s = (within-ranges s, ranges-within s)

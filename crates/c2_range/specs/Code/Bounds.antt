@@ -92,7 +92,7 @@ abbrev pub inside : (pages blocks acts : ℕ) → (page block act : ℕ) → Boo
 inside n m a i j k = ltb i n && ltb j m && ltb k a
 
 -- whether a running point is in range, by its act's number
-unfoldable pub running-by : (wait-limit poll-limit size pages : ℕ) → Stage → (page block act strobe count bits : ℕ) → Bool
-running-by w r size pages g i j k q c v =
-    inside (pages-in g pages) (blocks-in g size) (acts-in g) i j k
+unfoldable pub running-by : (wait-limit poll-limit size pairs pages : ℕ) → Stage → (page block act strobe count bits : ℕ) → Bool
+running-by w r size pairs pages g i j k q c v =
+    inside (pages-in g pairs pages) (blocks-in g size) (acts-in g) i j k
     && place-in-range w (reads-in r (task-of g k)) (strobes-in (task-of g k)) q c v

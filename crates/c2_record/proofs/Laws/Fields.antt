@@ -1,16 +1,22 @@
 -- The numbers of a session in range fit their fields of the record, and are read back.
 use mathlib.Core.Path.{_≡_, refl, sym, _∙_}
 use mathlib.Core.Bool.{Bool, true, false, cond, _&&_}
+use mathlib.Core.List.{List, [], _∷_}
 use mathlib.Core.Logic.{_⊎_, inl, inr, ⊎-elim}
 use Prim.Native.Nat.{ℕ, _+_, _-_, _*_, _/_, _%_, _^_, _<_, _≤_}
 use native.Mathlib.Nat.{mul-le-mul-left, pow-le-pow-right}
 use native.Mathlib.Omega.{arith}
 use borrow.Author.Tests.{ltb-true, eqb-true, eqb-false, ne-eqb}
 use lib.Dec.{eqb, ltb}
+use lib.ListN.{length, getD}
+use Rattle.laws.specs.Bytes.{Bytes}
 use Rattle.laws.proofs.Tests.{both, by-test}
 use Rattle.settings.specs.declared.Settings.{Settings}
+use Rattle.settings.specs.Accepted.{In-bytes}
+use Rattle.settings.proofs.Laws.Registers.{pairs-facts}
+use Rattle.c2_order.specs.Conversation.{Limits, limits-of}
 use Rattle.c2_acts.specs.declared.Stage.{Stage}
-use Rattle.c2_acts.specs.declared.Stage.the-variants.{Lead, Erase, Write, Read, Close}
+use Rattle.c2_acts.specs.declared.Stage.the-variants.{Lead, Erase, Write, Read, Close, Register}
 use Rattle.c2_acts.specs.declared.Task.{Task}
 use Rattle.c2_acts.specs.declared.Task.the-variants.{Reset, Pause, Address, Send, Input, Output, Ident, Status, Compare}
 use Rattle.c2_session.specs.declared.Point.{Point}
@@ -18,12 +24,10 @@ use Rattle.c2_session.specs.declared.Point.the-variants.{Running, Ended}
 use Rattle.c2_session.specs.declared.Session.{Session}
 use Rattle.c2_acts.specs.Code.Acts.{task-of, acts-in}
 use Rattle.c2_range.specs.Range.{pages-in, blocks-in}
-use Rattle.c2_record.specs.declared.Named.the-variants.{Of}
-use Rattle.c2_record.specs.declared.Reached.the-variants.{At}
 use Rattle.c2_range.specs.Code.Bounds.{strobes-by, limit-by, sampled-from, sampled-by}
-use Rattle.c2_record.specs.Record.{stage-code, fields-of, laid, packed, settings-read, fields-read, stage-named, point-of, session-read}
+use Rattle.c2_record.specs.declared.Reached.the-variants.{At}
+use Rattle.c2_record.specs.Record.{Of, stage-code, fields-of, laid, packed, settings-read, fields-read, stage-named, point-of, session-read}
 use Rattle.c2_range.specs.Claims.{Opening-passes, Point-exists, Outcome-stands, Point-stands}
-use Rattle.c2_record.specs.Claims.{Small}
 use Rattle.c2_range.proofs.Laws.Bounds.{place-by, bounded}
 use Rattle.c2_range.proofs.Laws.Range.{point-is-in-range}
 
@@ -43,16 +47,25 @@ strobes-most Ident = omega arith
 strobes-most Status = omega arith
 strobes-most Compare = omega arith
 
-limit-most : (w l : ℕ) → Small w l → (t : Task) (q : ℕ) → limit-by w l t q ≤ 256
-limit-most w l s Reset q = omega arith
-limit-most w l s Pause q = omega arith
-limit-most w l s Address q = omega arith
-limit-most w l s Send q = at-most (eqb q 13) w 1 256 (s .wait) (omega arith)
-limit-most w l s Input q = s .poll
-limit-most w l s Output q = s .poll
-limit-most w l s Ident q = at-most (eqb q 5) w 1 256 (s .wait) (omega arith)
-limit-most w l s Status q = at-most (eqb q 5) w 1 256 (s .wait) (omega arith)
-limit-most w l s Compare q = at-most (eqb q 5) w 1 256 (s .wait) (omega arith)
+-- limits that leave a count in its byte
+pub record Small (l : Limits) : Type 0 where
+  pub wait : l .wait ≤ 256
+  pub reads : l .reads ≤ 256
+
+-- the limits of a session are small
+pub limits-small : (t : Settings) → t .wait < 256 → Small (limits-of t)
+limits-small t h = record { wait = omega arith; reads = omega arith }
+
+limit-most : (l : Limits) → Small l → (t : Task) (q : ℕ) → limit-by (l .wait) (l .reads) t q ≤ 256
+limit-most l s Reset q = omega arith
+limit-most l s Pause q = omega arith
+limit-most l s Address q = omega arith
+limit-most l s Send q = at-most (eqb q 13) (l .wait) 1 256 (s .wait) (omega arith)
+limit-most l s Input q = s .reads
+limit-most l s Output q = s .reads
+limit-most l s Ident q = at-most (eqb q 5) (l .wait) 1 256 (s .wait) (omega arith)
+limit-most l s Status q = at-most (eqb q 5) (l .wait) 1 256 (s .wait) (omega arith)
+limit-most l s Compare q = at-most (eqb q 5) (l .wait) 1 256 (s .wait) (omega arith)
 
 from-most : (a q : ℕ) → sampled-from a q ≤ 8
 from-most a q =
@@ -71,12 +84,13 @@ sampled-most Status q = from-most 6 q
 sampled-most Compare q = from-most 6 q
 
 -- the numbers of a stage fit their fields
-pages-most : (g : Stage) (n : ℕ) → n ≤ 128 → pages-in g n ≤ 128
-pages-most Lead n h = omega arith
-pages-most Erase n h = h
-pages-most Write n h = h
-pages-most Read n h = h
-pages-most Close n h = omega arith
+pages-most : (g : Stage) (m n : ℕ) → m ≤ 4 → n ≤ 128 → pages-in g m n ≤ 128
+pages-most Lead m n k h = omega arith
+pages-most Erase m n k h = h
+pages-most Write m n k h = h
+pages-most Read m n k h = h
+pages-most Close m n k h = omega arith
+pages-most Register m n k h = omega arith
 
 blocks-most : (g : Stage) (size : ℕ) → size ≤ 1024 → blocks-in g size ≤ 4
 blocks-most Lead size h = omega arith
@@ -84,6 +98,7 @@ blocks-most Erase size h = omega arith
 blocks-most Write size h = omega arith
 blocks-most Read size h = omega arith
 blocks-most Close size h = omega arith
+blocks-most Register size h = omega arith
 
 acts-most : (g : Stage) → acts-in g ≤ 525
 acts-most Lead = omega arith
@@ -91,6 +106,7 @@ acts-most Erase = omega arith
 acts-most Write = omega arith
 acts-most Read = omega arith
 acts-most Close = omega arith
+acts-most Register = omega arith
 
 -- settings and pages of a session in range fit their fields
 pub record Opening-fits (t : Settings) (first pages : ℕ) : Type 0 where
@@ -99,6 +115,7 @@ pub record Opening-fits (t : Settings) (first pages : ℕ) : Type 0 where
   pub first-page : first ≤ 128
   pub pages-too : pages ≤ 128
   pub bytes : t .size * pages ≤ 65536
+  pub few-pairs : t .pairs .count ≤ 4
 
 pub opening-fits : (t : Settings) (first pages : ℕ) → Opening-passes t first pages → Opening-fits t first pages
 opening-fits t first pages o = go (o .size)
@@ -112,6 +129,7 @@ opening-fits t first pages o = go (o .size)
           first-page = omega (arith, o .inside);
           pages-too = omega (arith, o .inside);
           bytes = omega (arith, mul-le-mul-left {m = pages} {n = t .count} (t .size) (omega (arith, o .inside)), o .flash);
+          few-pairs = pairs-facts (t .fpdat) (t .pairs) (o .pairs) .0;
         }
 
     go : (t .size ≡ 512) ⊎ (t .size ≡ 1024) → Opening-fits t first pages
@@ -127,19 +145,19 @@ pub record Point-fits (i j k q c v : ℕ) : Type 0 where
   pub count : c < 256
   pub bits : v < 256
 
-module _ (w l : ℕ) (s : Small w l) (size pages : ℕ) (hs : size ≤ 1024) (hp : pages ≤ 128) where
-  pub point-fits : (g : Stage) (i j k q c v : ℕ) → Point-exists w l size pages g i j k q c v → Point-fits i j k q c v
+module _ (l : Limits) (s : Small l) (size pairs pages : ℕ) (hs : size ≤ 1024) (hq : pairs ≤ 4) (hp : pages ≤ 128) where
+  pub point-fits : (g : Stage) (i j k q c v : ℕ) → Point-exists l size pairs pages g i j k q c v → Point-fits i j k q c v
   point-fits g i j k q c v e =
       let t : Task = task-of g k in
-      let p = bounded w l size pages g i j k q c v (point-is-in-range w l size pages g i j k q c v e) in
-      let a = both (ltb q (strobes-by t) && ltb c (limit-by w l t q)) (ltb v (2 ^ sampled-by t q)) (sym (place-by w l t q c v) ∙ p .place) in
-      let b = both (ltb q (strobes-by t)) (ltb c (limit-by w l t q)) (a .0) in
+      let p = bounded (l .wait) (l .reads) size pairs pages g i j k q c v (point-is-in-range l size pairs pages g i j k q c v e) in
+      let a = both (ltb q (strobes-by t) && ltb c (limit-by (l .wait) (l .reads) t q)) (ltb v (2 ^ sampled-by t q)) (sym (place-by (l .wait) (l .reads) t q c v) ∙ p .place) in
+      let b = both (ltb q (strobes-by t)) (ltb c (limit-by (l .wait) (l .reads) t q)) (a .0) in
       record {
-        page = omega (arith, p .page, pages-most g pages hp);
+        page = omega (arith, p .page, pages-most g pairs pages hq hp);
         block = omega (arith, p .block, blocks-most g size hs);
         act = omega (arith, p .act, acts-most g);
         strobe = omega (arith, ltb-true q (strobes-by t) (b .0), strobes-most t);
-        count = omega (arith, ltb-true c (limit-by w l t q) (b .1), limit-most w l s t q);
+        count = omega (arith, ltb-true c (limit-by (l .wait) (l .reads) t q) (b .1), limit-most l s t q);
         bits = omega (arith, ltb-true v (2 ^ sampled-by t q) (a .1), pow-le-pow-right {n = 2} (omega arith) {i = sampled-by t q} {j = 8} (sampled-most t q));
       }
 
@@ -171,13 +189,14 @@ stage-back Erase = refl
 stage-back Write = refl
 stage-back Read = refl
 stage-back Close = refl
+stage-back Register = refl
 
 -- the point of a record is read back
-module _ (w l : ℕ) (small : Small w l) (t : Settings) (first pages : ℕ) (o : Opening-fits t first pages) where
-  pub point-back : (p : Point) → Point-stands w l (t .size) pages p → point-of (fields-read (laid t first pages (fields-of p))) ≡ At p
+module _ (l : Limits) (small : Small l) (t : Settings) (first pages : ℕ) (o : Opening-fits t first pages) where
+  pub point-back : (p : Point) → Point-stands l (t .size) (t .pairs .count) pages p → point-of (fields-read (laid t first pages (fields-of p))) ≡ At p
   unfolding point-of fields-read laid
   point-back (Running g i j k q c v) x =
-      let f = point-fits w l small (t .size) pages (o .size) (o .pages-too) g i j k q c v x in
+      let f = point-fits l small (t .size) (t .pairs .count) pages (o .size) (o .few-pairs) (o .pages-too) g i j k q c v x in
       simp (
         stage-back g,
         one-back i (f .page),
@@ -193,13 +212,25 @@ module _ (w l : ℕ) (small : Small w l) (t : Settings) (first pages : ℕ) (o :
       simp (one-back n (f .number), z, two-back e (f .offset))
 
 -- settings and pages of a record are read back
-pub session-back : (s : Session) → s .settings .id < 256 → s .settings .fpdat < 256 → Opening-fits (s .settings) (s .first) (s .pages)
-    → session-read (packed s) (s .point) ≡ s
+four-back : (xs : List ℕ) → length xs ≡ 4 → Bytes xs
+    → getD xs 0 0 % 256 ∷ getD xs 1 0 % 256 ∷ getD xs 2 0 % 256 ∷ getD xs 3 0 % 256 ∷ [] ≡ xs
+four-back [] n b = absurd (omega arith)
+four-back (w ∷ []) n b = absurd (omega arith)
+four-back (w ∷ x ∷ []) n b = absurd (omega arith)
+four-back (w ∷ x ∷ y ∷ []) n b = absurd (omega arith)
+four-back (w ∷ x ∷ y ∷ z ∷ []) n b = rw (one-back w (b .0), one-back x (b .1 .0), one-back y (b .1 .1 .0), one-back z (b .1 .1 .1 .0))
+four-back (w ∷ x ∷ y ∷ z ∷ v ∷ vs) n b = absurd (omega arith)
+
+pub session-back : (s : Session) → In-bytes (s .settings) → Opening-fits (s .settings) (s .first) (s .pages) → session-read (packed s) (s .point) ≡ s
 unfolding packed laid settings-read
-session-back s i f o =
+session-back s i o =
     simp (
-      one-back (s .settings .id) i,
-      one-back (s .settings .fpdat) f,
+      one-back (s .settings .id) (i .id),
+      one-back (s .settings .fpdat) (i .fpdat),
+      one-back (s .settings .wait) (i .wait),
+      one-back (s .settings .pairs .count) (omega (arith, o .few-pairs)),
+      four-back (s .settings .pairs .registers) (i .four-registers) (i .registers),
+      four-back (s .settings .pairs .values) (i .four-values) (i .values),
       two-back (s .settings .size) (omega (arith, o .size)),
       one-back (s .settings .count) (omega (arith, o .count)),
       one-back (s .first) (omega (arith, o .first-page)),

@@ -13,9 +13,7 @@ use Rattle.c2_session.specs.declared.Session.{Session}
 use Rattle.c2_range.specs.Range.{in-range}
 use Rattle.c2_record.specs.declared.Reached.{Reached}
 use Rattle.c2_record.specs.declared.Reached.the-variants.{At, Nowhere}
-use Rattle.c2_record.specs.declared.Unpacked.{Unpacked}
-use Rattle.c2_record.specs.declared.Unpacked.the-variants.{Held, Refused}
-use Rattle.c2_record.specs.Record.{laid, packed, fields-read, point-of, session-read, same, checked, taken-apart, unpacked}
+use Rattle.c2_record.specs.Record.{Unpacked, Held, Refused, laid, packed, fields-read, point-of, session-read, same, checked, taken-apart, unpacked}
 
 pub same-true : (xs ys : List ℕ) → same xs ys ≡ true → xs ≡ ys
 unfolding same
@@ -40,28 +38,28 @@ unfolding packed laid
 packed-length s = refl
 
 -- a session is held by its record alone, and only in range
-module _ (w l : ℕ) (s : Session) (r : List ℕ) where
-  pub is-held : in-range w l s ≡ true → packed s ≡ r → Held s ≡ checked w l s r
+module _ (s : Session) (r : List ℕ) where
+  pub is-held : in-range s ≡ true → packed s ≡ r → Held s ≡ checked s r
   unfolding checked
   is-held p q = rw (p, same-is (packed s) r q)
 
-  pub not-its-record : (packed s ≡ r → ⊥) → Refused ≡ checked w l s r
+  pub not-its-record : (packed s ≡ r → ⊥) → Refused ≡ checked s r
   unfolding checked
-  not-its-record n = by-test (in-range w l s) (λ p. rw (p, same-not (packed s) r n)) (λ p. rw p)
+  not-its-record n = by-test (in-range s) (λ p. rw (p, same-not (packed s) r n)) (λ p. rw p)
 
-module _ (w l : ℕ) (r : List ℕ) where
-  pub not-32-bytes : (length r ≡ 32 → ⊥) → Refused ≡ unpacked w l r
+module _ (r : List ℕ) where
+  pub not-32-bytes : (length r ≡ 32 → ⊥) → Refused ≡ unpacked r
   unfolding unpacked
   not-32-bytes n = go (point-of (fields-read r))
     where
-      go : (x : Reached) → Refused ≡ taken-apart w l x r
-      go (At p) = not-its-record w l (session-read r p) r (λ e. n (sym (ap length e) ∙ packed-length (session-read r p)))
+      go : (x : Reached) → Refused ≡ taken-apart x r
+      go (At p) = not-its-record (session-read r p) r (λ e. n (sym (ap length e) ∙ packed-length (session-read r p)))
       go Nowhere = refl
 
-  pub no-point : Nowhere ≡ point-of (fields-read r) → Refused ≡ unpacked w l r
+  pub no-point : Nowhere ≡ point-of (fields-read r) → Refused ≡ unpacked r
   unfolding unpacked
   no-point e = rw (← e)
 
-  pub a-point : (p : Point) (x : Unpacked) → At p ≡ point-of (fields-read r) → x ≡ checked w l (session-read r p) r → x ≡ unpacked w l r
+  pub a-point : (p : Point) (x : Unpacked) → At p ≡ point-of (fields-read r) → x ≡ checked (session-read r p) r → x ≡ unpacked r
   unfolding unpacked
   a-point p x e h = rw (← e) h

@@ -11,18 +11,14 @@ use lib.Seq.{ext-getD}
 use Rattle.laws.proofs.Below.{same-below}
 use Rattle.laws.proofs.Tests.{by-test, not-second}
 use Rattle.c2_acts.specs.declared.Stage.{Stage}
-use Rattle.c2_acts.specs.declared.Stage.the-variants.{Lead, Erase, Write, Read, Close}
+use Rattle.c2_acts.specs.declared.Stage.the-variants.{Lead, Erase, Write, Read, Close, Register}
 use Rattle.c2_session.specs.declared.Point.{Point}
 use Rattle.c2_session.specs.declared.Point.the-variants.{Running, Ended}
 use Rattle.c2_session.specs.declared.Session.{Session}
 use Rattle.c2_range.specs.Range.{in-range}
-use Rattle.c2_record.specs.declared.Named.{Named}
-use Rattle.c2_record.specs.declared.Named.the-variants.{Of, Nothing}
 use Rattle.c2_record.specs.declared.Reached.the-variants.{At}
-use Rattle.c2_record.specs.declared.Unpacked.{Unpacked}
-use Rattle.c2_record.specs.declared.Unpacked.the-variants.{Held, Refused}
-use Rattle.c2_record.specs.Record.{stage-code, fields-of, laid, packed, byte, pair, settings-read, fields-read, stage-named, running-at, point-of, session-read, same, checked, unpacked}
-use Rattle.c2_record.specs.Code.Spare.{four, all-zero, unused, spare, checked-by}
+use Rattle.c2_record.specs.Record.{Named, Of, Nothing, Unpacked, Held, Refused, stage-code, fields-of, laid, packed, byte, two-bytes, settings-read, fields-read, stage-named, running-at, point-of, session-read, same, checked, unpacked}
+use Rattle.c2_record.specs.Code.Spare.{four, all-zero, unused, spare}
 use Rattle.c2_record.proofs.Laws.Record.{same-is, same-not, a-point}
 use Rattle.c2_record.proofs.Laws.Fields.{one-back}
 
@@ -30,7 +26,7 @@ use Rattle.c2_record.proofs.Laws.Fields.{one-back}
 stage-read : (n : ℕ) (g : Stage) → Of g ≡ stage-named n → stage-code g ≡ n
 unfolding stage-named
 stage-read n g e =
-    this 0 Lead _ refl (this 1 Erase _ refl (this 2 Write _ refl (this 3 Read _ refl (this 4 Close _ refl (λ h. absurd (let z : _≡_ {A = ℕ} 0 1 = cc in omega arith)))))) e
+    this 0 Lead _ refl (this 1 Erase _ refl (this 2 Write _ refl (this 3 Read _ refl (this 4 Close _ refl (this 5 Register _ refl (λ h. absurd (let z : _≡_ {A = ℕ} 0 1 = cc in omega arith))))))) e
   where
     this : (k : ℕ) (h : Stage) (x : Named) → stage-code h ≡ k → (Of g ≡ x → stage-code g ≡ n) → Of g ≡ cond (eqb n k) (Of h) x → stage-code g ≡ n
     this k h x s next e =
@@ -68,12 +64,12 @@ zeros-pass r i z = rw (z .0, z .1, z .2, z .3, z .4, z .5, z .6, z .7)
 
 -- the point that was read: of a session that runs, or of one that has ended
 abbrev running-read : List ℕ → Stage → Point
-running-read r g = Running g (byte r 11) (byte r 12) (pair r 13) (byte r 15) (byte r 16) (byte r 17)
+running-read r g = Running g (byte r 11) (byte r 12) (two-bytes r 13) (byte r 15) (byte r 16) (byte r 17)
 
-abbrev ended-read : List ℕ → Point
-ended-read r = Ended (byte r 7) (pair r 8)
+abbrev pub ended-read : List ℕ → Point
+ended-read r = Ended (byte r 7) (two-bytes r 8)
 
-by-point : (r : List ℕ) (C : Point → Type 0)
+pub by-point : (r : List ℕ) (C : Point → Type 0)
     → ((g : Stage) → byte r 7 ≡ 0 → stage-code g ≡ byte r 10 → C (running-read r g)) → ((byte r 7 ≡ 0 → ⊥) → C (ended-read r))
     → (p : Point) → At p ≡ point-of (fields-read r) → C p
 unfolding point-of fields-read
@@ -90,9 +86,7 @@ by-point r C runs ended p e =
 fills : (r : List ℕ) → length r ≡ 32 → ((i : ℕ) → byte r i < 256) → spare r ≡ true → laid (settings-read r) (byte r 5) (byte r 6) (fields-read r) ≡ r
 unfolding spare laid settings-read fields-read
 fills r n b e =
-    let t = not-second (all-zero r 18) (all-zero r 24) e in
-    let x = zeros-are r 18 (t .0) in
-    let y = zeros-are r 24 (t .1) in
+    let x = four-zero (byte r 28) (byte r 29) (byte r 30) (byte r 31) (eqb-true _ 0 e) in
     ext-getD 0 _ r (sym n)
     (same-below (λ i. getD (laid (settings-read r) (byte r 5) (byte r 6) (fields-read r)) i 0) (byte r) 32
     (rw (
@@ -114,30 +108,34 @@ fills r n b e =
       one 15,
       one 16,
       one 17,
+      one 18,
+      one 19,
+      one 20,
+      one 21,
+      one 22,
+      one 23,
+      one 24,
+      one 25,
+      one 26,
+      one 27,
       x .0,
       x .1,
       x .2,
       x .3,
-      x .4,
-      x .5,
-      x .6,
-      x .7,
-      y .2,
-      y .3,
-      y .4,
-      y .5,
-      y .6,
-      y .7,
     )))
   where
     one : (i : ℕ) → byte r i % 256 ≡ byte r i
     one i = one-back (byte r i) (b i)
 
-    low : (i : ℕ) → pair r i % 256 ≡ byte r i
+    low : (i : ℕ) → two-bytes r i % 256 ≡ byte r i
     low i = low-back (byte r i) (byte r (i + 1)) (b i)
 
-    high : (i : ℕ) → pair r i / 256 % 256 ≡ byte r (i + 1)
+    high : (i : ℕ) → two-bytes r i / 256 % 256 ≡ byte r (i + 1)
     high i = high-back (byte r i) (byte r (i + 1)) (b i) (b (i + 1))
+
+-- the session that was read, if the tests of its bytes pass and it is in range
+unfoldable pub checked-by : Session → List ℕ → Unpacked
+checked-by s r = cond (unused r) (cond (spare r) (cond (in-range s) (Held s) Refused) Refused) Refused
 
 -- the code's tests decide as the definition's do, which come in another order
 reorder : (a b i : Bool) (x y : Unpacked) → cond a (cond b (cond i x y) y) y ≡ cond i (cond (cond a b false) x y) y
@@ -156,10 +154,7 @@ module _ (r : List ℕ) (n : length r ≡ 32) (b : (i : ℕ) → byte r i < 256)
   unfolding packed laid spare
   spare-left p e =
       let at = byte-again (session-read r p) r e in
-      rw (
-        zeros-pass r 18 (at 18, at 19, at 20, at 21, at 22, at 23, at 24, at 25),
-        zeros-pass r 24 (at 24, at 25, at 26, at 27, at 28, at 29, at 30, at 31),
-      )
+      rw (at 28, at 29, at 30, at 31)
 
   -- The session read packs to these bytes exactly where the tests pass: its fields are then those read, and
   -- the record's pass.
@@ -176,7 +171,7 @@ module _ (r : List ℕ) (n : length r ≡ 32) (b : (i : ℕ) → byte r i < 256)
   unfolding unused packed laid fields-read
   runs-decide g z s =
       decides (running-read r g)
-      (λ u. let o : eqb (pair r 8) 0 ≡ true = rw (eq-eqb (byte r 7) 0 z) at u in rw (z, eqb-true (pair r 8) 0 o, s))
+      (λ u. let o : eqb (two-bytes r 8) 0 ≡ true = rw (eq-eqb (byte r 7) 0 z) at u in rw (z, eqb-true (two-bytes r 8) 0 o, s))
       (λ e. let at = byte-again (session-read r (running-read r g)) r e in rw (z, at 8, at 9))
 
   ended-decides : (byte r 7 ≡ 0 → ⊥) → same (packed (session-read r (ended-read r))) r ≡ cond (unused r) (spare r) false
@@ -188,9 +183,9 @@ module _ (r : List ℕ) (n : length r ≡ 32) (b : (i : ℕ) → byte r i < 256)
       (λ e. let at = byte-again (session-read r (ended-read r)) r e in rw (d, zeros-pass r 10 (at 10, at 11, at 12, at 13, at 14, at 15, at 16, at 17)))
 
   -- A session that was read is unpacked where the code's tests pass.
-  pub as-checked : (w l : ℕ) (p : Point) (x : Unpacked) → At p ≡ point-of (fields-read r) → x ≡ checked-by w l (session-read r p) r → x ≡ unpacked w l r
+  pub as-checked : (p : Point) (x : Unpacked) → At p ≡ point-of (fields-read r) → x ≡ checked-by (session-read r p) r → x ≡ unpacked r
   unfolding checked checked-by
-  as-checked w l p x e h =
+  as-checked p x e h =
       let s : Session = session-read r p in
       let d = by-point r (λ q. same (packed (session-read r q)) r ≡ cond (unused r) (spare r) false) runs-decide ended-decides p e in
-      a-point w l r p x e (h ∙ rw d (reorder (unused r) (spare r) (in-range w l s) (Held s) Refused))
+      a-point r p x e (h ∙ rw d (reorder (unused r) (spare r) (in-range s) (Held s) Refused))

@@ -5,11 +5,7 @@ use mathlib.Core.Bool.{Bool, false, cond}
 use mathlib.Core.List.{List}
 use Prim.Native.Nat.{ℕ, _+_, _*_}
 use lib.Dec.{eqb}
-use Rattle.c2_session.specs.declared.Session.{Session}
-use Rattle.c2_range.specs.Range.{in-range}
-use Rattle.c2_record.specs.declared.Unpacked.{Unpacked}
-use Rattle.c2_record.specs.declared.Unpacked.the-variants.{Held, Refused}
-use Rattle.c2_record.specs.Record.{byte, pair}
+use Rattle.c2_record.specs.Record.{byte, two-bytes}
 
 -- four bytes as one number
 abbrev pub four : (a b c d : ℕ) → ℕ
@@ -23,12 +19,8 @@ all-zero r i =
 
 -- whether the fields not in use are 0: the offset of a session that runs, or the point of one that has ended
 unfoldable pub unused : List ℕ → Bool
-unused r = cond (eqb (byte r 7) 0) (eqb (pair r 8) 0) (all-zero r 10)
+unused r = cond (eqb (byte r 7) 0) (eqb (two-bytes r 8) 0) (all-zero r 10)
 
--- whether the spare bytes, 18 to 31, are 0
+-- whether the spare bytes, 28 to 31, are 0
 unfoldable pub spare : List ℕ → Bool
-spare r = cond (all-zero r 18) (all-zero r 24) false
-
--- the session that was read, if the tests of its bytes pass and it is in range
-unfoldable pub checked-by : (wait-limit poll-limit : ℕ) → Session → List ℕ → Unpacked
-checked-by w l s r = cond (unused r) (cond (spare r) (cond (in-range w l s) (Held s) Refused) Refused) Refused
+spare r = eqb (four (byte r 28) (byte r 29) (byte r 30) (byte r 31)) 0

@@ -3,7 +3,7 @@ use mathlib.Core.Path.{_≡_, sym, _∙_}
 use borrow.Author.Needs.{needs}
 use lib.ListN.{length}
 use Rattle.settings.specs.Opening.{opening-refusal}
-use Rattle.c2_opening.proofs.Laws.Follows.{bytes-all}
+use Rattle.laws.proofs.Bytes.{bytes-all}
 use Rattle.c2_report.specs.Report.{program-device}
 use Rattle.c2_report.proofs.Laws.Report.{reports-long, reports-refused, reports-run}
 use Rattle.c2_report.proofs.report_of.Statement.{statement}

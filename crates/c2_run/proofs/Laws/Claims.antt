@@ -1,68 +1,60 @@
--- The claim of specs/Claims.antt: a budget that no replies exceed runs an exchange to its end, as it is
--- played against the target.
+-- The claim of specs/Claims.antt: a budget of as many replies as are the most steps to come runs a session to
+-- its end.
 use mathlib.Core.Path.{_≡_, refl, ap, _∙_}
-use mathlib.Core.List.{List, [], _∷_}
-use Prim.Native.Nat.{ℕ, zero, suc, _*_, _≤_}
+use mathlib.Core.List.{List}
+use Prim.Native.Nat.{ℕ, _*_, _≤_}
 use native.Mathlib.Omega.{arith}
-use borrow.Author.Tests.{eq-eqb}
+use borrow.Author.Tests.{eqb-true, eqb-false}
+use lib.Dec.{eqb}
 use lib.ListN.{length}
-use Rattle.c2_wire.specs.Step.{code}
-use Rattle.c2_wire.specs.Exchange.{Exchange, ended, strobe, ask, at, Outcome, after, fed, steps, taken, outcome-of}
+use Rattle.laws.proofs.Tests.{passes, by-test}
+use Rattle.numbers.specs.Numbers.{no-point}
+use Rattle.c2_wire.specs.Exchange.{Outcome, outcome-of}
 use Rattle.settings.specs.declared.Settings.{Settings}
+use Rattle.settings.specs.Registers.{pairs-from, no-pairs, are-registers, are-pairs, leave-all}
+use Rattle.settings.specs.Opening.{opening-refusal}
+use Rattle.settings.proofs.Laws.Opening.{settings-pass}
 use Rattle.c2_order.specs.Order.{session-order}
-use Rattle.c2_order.specs.Conversation.{Positive, session-limits}
-use Rattle.c2_order.specs.Point.{begin, reached}
+use Rattle.c2_order.specs.Conversation.{limits-of}
+use Rattle.c2_order.specs.Point.{begin}
 use Rattle.c2_order.specs.Figure.{figure}
 use Rattle.c2_order.specs.Claims.{Opening, exchange-of}
-use Rattle.c2_order.proofs.Laws.Claims.{start-bounds}
-use Rattle.c2_target.specs.declared.Target.{Target}
-use Rattle.c2_target.specs.Delays.{Setup, setup}
-use Rattle.c2_target.specs.Target.{fresh, answer, flash-after}
-use Rattle.c2_play.specs.Playing.{against, run-replies, whole-step, play}
-use Rattle.c2_play.proofs.Laws.OwnReplies.{reply-small, after-small}
-use Rattle.c2_play.proofs.Laws.WholeStep.{programmed}
-use Rattle.c2_run.specs.Run.{Left, played, run-refusal, run, run-answer, run-flash}
+use Rattle.c2_target.specs.Delays.{setup}
+use Rattle.c2_target.specs.Target.{fresh}
+use Rattle.c2_play.specs.Playing.{Played, whole-step}
+use Rattle.c2_play.specs.Job.{first-of}
+use Rattle.c2_play.proofs.Laws.Playing.{played-out}
+use Rattle.c2_play.proofs.Laws.Fresh.{fresh-suits}
+use Rattle.c2_play.proofs.Laws.Job.{session-enough, job-opening, job-programmed}
+use Rattle.c2_run.specs.Run.{run-refusal, run, run-answer, run-flash}
 use Rattle.c2_run.specs.Claims.{Runs-program}
-use Rattle.c2_play.proofs.Laws.Fresh.{fresh-met}
-
--- a run is the exchange played to its end against the target
-pub record Ends (u : Setup) (e : Exchange) (y : Target) (f : List ℕ) (p : Left) : Type 0 where
-  pub exchange : p .exchange ≡ ended (play u e y f .outcome)
-  pub target : p .target ≡ play u e y f .target
-  pub flash : p .flash ≡ play u e y f .flash
-  pub replies : p .replies ≡ length (run-replies (whole-step u) e y f)
-
-enough : (n : ℕ) (u : Setup) (e : Exchange) (y : Target) (f : List ℕ) → ((qs : List ℕ) → taken e qs ≤ n) → Ends u e y f (played n u e y f)
-unfolding played against run-replies whole-step taken steps
-enough zero u (ended o) y f h = record { exchange = refl; target = refl; flash = refl; replies = refl }
-enough zero u (ask (at g x) k) y f h = absurd (let z = h (0 ∷ []) in omega arith)
-enough (suc n) u (ended o) y f h = record { exchange = refl; target = refl; flash = refl; replies = refl }
-enough (suc n) u (ask (at g x) k) y f h =
-    let a = answer u y f (code x) in
-    let q = after-small g x k (a .reply) (reply-small u y f (code x)) in
-    let i = enough n u (after (ask (at g x) k) (a .reply)) (a .target) (flash-after u y f (code x)) (λ qs. let z = h (a .reply ∷ qs) in omega arith) in
-    let j = rw q at i in
-    rw q (record { exchange = j .exchange; target = j .target; flash = j .flash; replies = ap suc (j .replies) })
 
 -- a budget of as many replies as the most steps to come at the opening is enough
 pub budget-enough : (t : Settings) (first : ℕ) (image f ds : List ℕ) (n : ℕ) → Opening t first image
-    → figure session-limits (begin (session-order t first image)) ≤ n
-    → Ends (setup t ds) (exchange-of session-limits t first image) fresh f (run t first image f ds n)
-unfolding run reached fed
-budget-enough t first image f ds n o h =
-    let p : Positive session-limits = record { wait = omega arith; reads = omega arith } in
-    let few = start-bounds session-limits t first image p o in
-    enough n (setup t ds) (exchange-of session-limits t first image) fresh f (λ qs. omega (arith, few qs))
+    → figure (limits-of t) (begin (session-order t first image)) ≤ n
+    → run t first image f ds n ≡ played-out (whole-step (setup t no-pairs ds)) (exchange-of (limits-of t) t first image) fresh f
+unfolding run
+budget-enough t first image f ds n o h = session-enough (setup t no-pairs ds) n first image fresh f o h
+
+-- a run that is not refused has an opening that is not, and a flash of size times count bytes
+run-passes : (t : Settings) (first : ℕ) (image f : List ℕ) → run-refusal t first image f ≡ 0
+    → (opening-refusal t first (length image) ≡ 0) × (length f ≡ t .size * t .count)
+unfolding run-refusal
+run-passes t first image f h =
+    by-test (eqb (opening-refusal t first (length image)) 0)
+    (λ p. (eqb-true _ 0 p, eqb-true (length f) (t .size * t .count) (passes (eqb (length f) (t .size * t .count)) 0 no-point (omega arith) (rw p at h) .0)))
+    (λ p. absurd (eqb-false (opening-refusal t first (length image)) 0 p (rw p at h)))
 
 pub runs-program : Runs-program
-unfolding run-answer run-flash run-refusal outcome-of
-runs-program t first image f ds n o l b d h =
-    let u = setup t ds in
-    let w = budget-enough t first image f ds n o h in
-    let g = programmed session-limits u first image fresh f o (fresh-met t ds f l b d) in
-    let whole = eq-eqb (length f) (t .size * t .count) l in
+unfolding run-answer run-flash pairs-from are-registers are-pairs leave-all
+runs-program j f ds n p h b d m =
+    let t = j .settings in
+    let ok = run-passes t (first-of (j .pages)) (j .image) f h in
+    let w = budget-enough t (first-of (j .pages)) (j .image) f ds n (job-opening j p (ok .0)) m in
+    let suits = fresh-suits t no-pairs ds f (settings-pass t (first-of (j .pages)) (length (j .image)) (ok .0)) refl (ok .1) b d in
+    let g = job-programmed j no-pairs ds fresh f refl p (ok .0) suits in
     record {
-      ended = rw (o .accepted, whole) (ap (λ (z : Exchange). outcome-of z .number) (w .exchange) ∙ ap (λ (z : Outcome). z .number) (g .ended));
-      clean = rw (o .accepted, whole) (ap (λ (z : Target). z .collision) (w .target) ∙ g .clean);
-      holds = rw (o .accepted, whole) (w .flash ∙ g .holds);
+      ended = rw h (ap (λ (z : Played). outcome-of (z .left) .number) w ∙ ap (λ (z : Outcome). z .number) (g .ended));
+      clean = rw h (ap (λ (z : Played). z .target .collision) w ∙ g .clean);
+      holds = rw h (ap (λ (z : Played). z .flash) w ∙ g .holds);
     }

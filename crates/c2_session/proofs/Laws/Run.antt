@@ -18,7 +18,8 @@ use Rattle.c2_wire.specs.declared.Moved.{Moved}
 use Rattle.c2_wire.specs.declared.Moved.the-variants.{Within, Stopped, WaitLimit}
 use Rattle.c2_wire.proofs.Laws.Script.{left-from, left-rest}
 use Rattle.c2_acts.specs.declared.Stage.{Stage}
-use Rattle.c2_acts.specs.declared.Stage.the-variants.{Lead, Erase, Write, Read, Close}
+use Rattle.c2_acts.specs.declared.Stage.the-variants.{Lead, Erase, Write, Read, Close, Register}
+use Rattle.c2_order.specs.Conversation.{limits-of}
 use Rattle.c2_acts.specs.declared.Task.{Task}
 use Rattle.c2_acts.specs.declared.Task.the-variants.{Reset, Pause, Address, Send, Input, Output, Ident, Status, Compare}
 use Rattle.c2_acts.specs.Code.Acts.{task-of, acts-in}
@@ -27,8 +28,8 @@ use Rattle.c2_session.specs.declared.Point.{Point}
 use Rattle.c2_session.specs.declared.Point.the-variants.{Running, Ended}
 use Rattle.c2_session.specs.declared.Session.{Session}
 use Rattle.c2_session.specs.declared.Runner.{Runner}
-use Rattle.c2_session.specs.Code.Bytes.{erase-byte, block-byte, image-byte, sent-offset, compared-offset, write-byte, stage-byte}
-use Rattle.c2_session.specs.Code.Next.{act-at, next-write, next-page, next-read, next-stage, next-act}
+use Rattle.c2_session.specs.Code.Bytes.{erase-byte, block-byte, image-byte, sent-offset, compared-offset, write-byte, stage-byte, register-byte}
+use Rattle.c2_session.specs.Code.Next.{act-at, next-write, next-page, next-read, next-register, next-stage, next-act}
 use Rattle.c2_session.specs.Code.Judge.{read-again, differs, compared, frame-judged, frame-answered}
 use Rattle.c2_session.specs.Code.Step.{alone, task-frame, task-byte, point-step, session-step}
 use Rattle.c2_session.specs.Code.Advance.{task-taken, point-replied, point-advanced, with-point, advanced}
@@ -70,18 +71,22 @@ module _ (s : Session) (image : List ℕ) (a : At) where
   either false x y p q = q
 
   onward-fresh : Fresh-point (next-act s a)
-  unfolding next-act next-write next-read next-page
+  unfolding next-act next-write next-read next-page next-register
   onward-fresh = either (ltb (a .act + 1) (acts-in (a .stage))) _ _ refl (go (a .stage))
     where
       page-fresh : (page : ℕ) → Fresh-point (next-page s page)
       page-fresh page = either (ltb (page + 1) (s .pages)) _ _ refl refl
 
+      register-fresh : (i : ℕ) → Fresh-point (next-register s i)
+      register-fresh i = either (ltb i (s .settings .pairs .count)) _ _ refl refl
+
       go : (g : Stage) → Fresh-point (next-stage g s a)
-      go Lead = refl
+      go Lead = register-fresh 0
       go Erase = refl
       go Write = either (ltb (a .block + 1) (s .settings .size / 256)) _ _ refl refl
       go Read = either (ltb (a .block + 1) (s .settings .size / 256)) _ _ refl (page-fresh (a .page))
       go Close = tt
+      go Register = register-fresh (a .page + 1)
 
   again-fresh : (n : ℕ) → Fresh-point (read-again 256 a n)
   unfolding read-again
@@ -148,7 +153,7 @@ settled-point WaitLimit t w s a p image = refl
 
 -- a step that stands in no frame is over at its reply
 answered-alone : (t : Task) (s : Session) (a : At) (p : Place) (b : Bool) (image : List ℕ)
-    → frame-answered 256 (cond (eqb (alone t) 0) (followed 20 (frame (task-frame t) 0) p b) (Stopped (p .bits))) t s a (p .count) image ≡ task-taken 20 256 t s a p b image
+    → frame-answered 256 (cond (eqb (alone t) 0) (followed (limits-of (s .settings) .wait) (frame (task-frame t) 0) p b) (Stopped (p .bits))) t s a (p .count) image ≡ task-taken (limits-of (s .settings)) t s a p b image
 answered-alone Reset s a p b image = refl
 answered-alone Pause s a p b image = refl
 answered-alone Address s a p b image = refl
@@ -167,17 +172,17 @@ module _ (s : Session) (image : List ℕ) (a : At) (p : Place) (x : ℕ) where
   abbrev w : ℕ
   w = script-at t s a (p .strobe) image
 
-  replied-point : runner-replied t w s a p x image .point ≡ point-replied 20 256 s a p x image
+  replied-point : runner-replied t w s a p x image .point ≡ point-replied (limits-of (s .settings)) s a p x image
   unfolding runner-replied point-replied
   replied-point = by-test (ltb 1 x) (λ e. rw e) (λ e. rw e (
-      settled-point (code-follows 20 (w % 16) p (eqb x 1)) t w s a p image
-      ∙ ap (λ (m : Moved). frame-answered 256 m t s a (p .count) image) (script-moves t s a image 20 p (eqb x 1))
+      settled-point (code-follows (limits-of (s .settings) .wait) (w % 16) p (eqb x 1)) t w s a p image
+      ∙ ap (λ (m : Moved). frame-answered 256 m t s a (p .count) image) (script-moves t s a image (limits-of (s .settings) .wait) p (eqb x 1))
       ∙ answered-alone t s a p (eqb x 1) image))
 
   replied-knows : Knows s image (runner-replied t w s a p x image)
   unfolding runner-replied
   replied-knows = by-test (ltb 1 x) (λ e. rw e (record { so = tt }))
-      (λ e. rw e (settled-knows t s a p image (code-follows 20 (w % 16) p (eqb x 1)) refl (moves-on 20 (w % 16) p (eqb x 1))))
+      (λ e. rw e (settled-knows t s a p image (code-follows (limits-of (s .settings) .wait) (w % 16) p (eqb x 1)) refl (moves-on (limits-of (s .settings) .wait) (w % 16) p (eqb x 1))))
 
 -- a runner that can go on finds the task and the script of its act
 known-nonzero : (q w : ℕ) → is-known q w ≡ true → (q ≡ 0 → ⊥) × (w ≡ 0 → ⊥)
@@ -205,12 +210,12 @@ taken-so s image g i j k q c v t w x h =
     (λ e. rw e)
 
 pub runner-goes : (s : Session) (image : List ℕ) (r : Runner) (x : ℕ) → Ready s image r
-    → (runner-advanced s r x image .point ≡ point-advanced 20 256 (r .point) s x image) × Knows s image (runner-advanced s r x image)
+    → (runner-advanced s r x image .point ≡ point-advanced (limits-of (s .settings)) (r .point) s x image) × Knows s image (runner-advanced s r x image)
 unfolding runner-advanced
 runner-goes s image r x h = go (r .point) (h .so)
   where
     go : (y : Point) → (r .script ≡ 0) ⊎ Knows-at s image y (r .task) (r .script)
-        → (point-taken y (r .task) (r .script) s x image .point ≡ point-advanced 20 256 y s x image) × Knows s image (point-taken y (r .task) (r .script) s x image)
+        → (point-taken y (r .task) (r .script) s x image .point ≡ point-advanced (limits-of (s .settings)) y s x image) × Knows s image (point-taken y (r .task) (r .script) s x image)
     go (Running g i j k q c v) f =
         let e = taken-so s image g i j k q c v (r .task) (r .script) x f in
         (ap (λ (z : Runner). z .point) e ∙ replied-point s image (act-at g i j k) (place q c v) x, rw e (replied-knows s image (act-at g i j k) (place q c v) x))
@@ -244,12 +249,13 @@ runner-waits s image r h = go (r .point) (h .so)
 -- where a session goes, and what it waits at, goes by the point that is given and not by the session's own
 module _ (s : Session) (z : Point) (image : List ℕ) where
   next-keeps : (g : Stage) (i j k : ℕ) → next-act (with-point s z) (act-at g i j k) ≡ next-act s (act-at g i j k)
-  unfolding next-act next-write next-page next-read
+  unfolding next-act next-write next-page next-read next-register
   next-keeps Lead i j k = refl
   next-keeps Erase i j k = refl
   next-keeps Write i j k = refl
   next-keeps Read i j k = refl
   next-keeps Close i j k = refl
+  next-keeps Register i j k = refl
 
   judged-keeps : (t : Task) (g : Stage) (i j k n x : ℕ) → frame-judged 256 t (with-point s z) (act-at g i j k) n x image ≡ frame-judged 256 t s (act-at g i j k) n x image
   unfolding compared differs compared-offset
@@ -269,19 +275,20 @@ module _ (s : Session) (z : Point) (image : List ℕ) where
   answered-keeps (Stopped x) t g i j k n = judged-keeps t g i j k n x
   answered-keeps WaitLimit t g i j k n = refl
 
-  pub point-keeps : (y : Point) (x : ℕ) → point-advanced 20 256 y (with-point s z) x image ≡ point-advanced 20 256 y s x image
+  pub point-keeps : (y : Point) (x : ℕ) → point-advanced (limits-of (s .settings)) y (with-point s z) x image ≡ point-advanced (limits-of (s .settings)) y s x image
   unfolding point-replied
   point-keeps (Running g i j k q c v) x =
-      rw (answered-keeps (followed 20 (frame (task-frame (task-of g k)) 0) (place q c v) (eqb x 1)) (task-of g k) g i j k c, next-keeps g i j k)
+      rw (answered-keeps (followed (limits-of (s .settings) .wait) (frame (task-frame (task-of g k)) 0) (place q c v) (eqb x 1)) (task-of g k) g i j k c, next-keeps g i j k)
   point-keeps (Ended n o) x = refl
 
   byte-keeps : (g : Stage) (i j k : ℕ) → stage-byte g (with-point s z) (act-at g i j k) image ≡ stage-byte g s (act-at g i j k) image
-  unfolding write-byte erase-byte block-byte sent-offset
+  unfolding write-byte erase-byte block-byte sent-offset register-byte
   byte-keeps Lead i j k = refl
   byte-keeps Erase i j k = refl
   byte-keeps Write i j k = refl
   byte-keeps Read i j k = refl
   byte-keeps Close i j k = refl
+  byte-keeps Register i j k = refl
 
   pub step-keeps : (y : Point) → point-step y (with-point s z) image ≡ point-step y s image
   step-keeps (Running g i j k q c v) = rw (byte-keeps g i j k)
@@ -292,7 +299,7 @@ abbrev pub session-of : Session → Runner → Session
 session-of s r = with-point s (r .point)
 
 -- the session of a runner after a reply is its session after that reply, and it waits at the same step
-pub session-goes : (s : Session) (image : List ℕ) (r : Runner) (x : ℕ) → Ready s image r → session-of s (runner-advanced s r x image) ≡ advanced 20 256 (session-of s r) x image
+pub session-goes : (s : Session) (image : List ℕ) (r : Runner) (x : ℕ) → Ready s image r → session-of s (runner-advanced s r x image) ≡ advanced (session-of s r) x image
 unfolding advanced
 session-goes s image r x h = ap (with-point s) (runner-goes s image r x h .0 ∙ sym (point-keeps s (r .point) image (r .point) x))
 

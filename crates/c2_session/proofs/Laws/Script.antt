@@ -17,7 +17,7 @@ use Rattle.c2_wire.specs.declared.Moved.the-variants.{Stopped}
 use Rattle.c2_wire.proofs.Laws.Script.{Codes, codes-of, code-from, kept-small, step-by-code, follows-by-code, followed-any-byte}
 use Rattle.c2_acts.specs.declared.Task.{Task}
 use Rattle.c2_acts.specs.declared.Task.the-variants.{Reset, Pause, Address, Send, Input, Output, Ident, Status, Compare}
-use Rattle.c2_acts.specs.Code.Acts.{lead-task, put-task, erase-task, write-task, read-task}
+use Rattle.c2_acts.specs.Code.Acts.{lead-task, put-task, erase-task, write-task, read-task, register-task}
 use Rattle.c2_session.specs.declared.At.{At}
 use Rattle.c2_session.specs.declared.Session.{Session}
 use Rattle.c2_session.specs.Code.Step.{alone, task-frame, task-byte, task-step}
@@ -49,6 +49,9 @@ pub erase-framed : (k : ℕ) → alone (erase-task k) ≡ 0
 erase-framed k =
     framed (eqb k 0) Address _ refl
     (framed (eqb (k % 4) 1) Send _ refl (framed (eqb (k % 4) 2) Input _ refl (framed (eqb (k % 4) 3) Output Status refl refl)))
+
+pub register-framed : (k : ℕ) → alone (register-task k) ≡ 0
+register-framed k = framed (eqb k 0) Address Send refl refl
 
 pub write-framed : (k : ℕ) → alone (write-task k) ≡ 0
 write-framed k =

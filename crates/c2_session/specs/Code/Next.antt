@@ -7,15 +7,21 @@ use Rattle.numbers.specs.Numbers.{done}
 use Rattle.c2_wire.specs.Place.{place}
 use Rattle.c2_wire.specs.declared.Place.{Place}
 use Rattle.c2_acts.specs.declared.Stage.{Stage}
-use Rattle.c2_acts.specs.declared.Stage.the-variants.{Lead, Erase, Write, Read, Close}
+use Rattle.c2_acts.specs.declared.Stage.the-variants.{Lead, Erase, Write, Read, Close, Register}
 use Rattle.c2_session.specs.declared.At.{At}
 use Rattle.c2_session.specs.declared.Point.{Point}
 use Rattle.c2_session.specs.declared.Point.the-variants.{Running, Ended}
 use Rattle.c2_session.specs.declared.Session.{Session}
+use Rattle.c2_session.specs.declared.Way.{Way}
 use Rattle.c2_acts.specs.Code.Acts.{acts-in}
 
 abbrev pub act-at : Stage → (page block act : ℕ) → At
 act-at stage page block act = record { stage = stage; page = page; block = block; act = act }
+
+-- the point that its numbers side by side say
+unfoldable pub way-point : Way → Point
+way-point w =
+    cond (w .ended) (Ended (w .number) (w .offset)) (Running (w .stage) (w .page) (w .block) (w .act) (w .strobe) (w .count) (w .bits))
 
 -- the point of a running session, from its act and its place
 abbrev pub strobe-point : At → Place → Point
@@ -42,13 +48,18 @@ next-page s page = cond (ltb (page + 1) (s .pages)) (first-strobe Erase (page + 
 unfoldable pub next-read : Session → At → Point
 next-read s a = cond (ltb (a .block + 1) (s .settings .size / 256)) (first-strobe Read (a .page) (a .block + 1) 0) (next-page s (a .page))
 
+-- the point where the pairs before this number are over: the next pair, or the first page's erase
+unfoldable pub next-register : Session → (number : ℕ) → Point
+next-register s i = cond (ltb i (s .settings .pairs .count)) (first-strobe Register i 0 0) (first-strobe Erase 0 0 0)
+
 -- the point after the last act of a stage
 abbrev pub next-stage : Stage → Session → At → Point
-next-stage Lead s a = first-strobe Erase 0 0 0
+next-stage Lead s a = next-register s 0
 next-stage Erase s a = first-strobe Write (a .page) 0 0
 next-stage Write s a = next-write s a
 next-stage Read s a = next-read s a
 next-stage Close s a = end-point done
+next-stage Register s a = next-register s (a .page + 1)
 
 -- the point after an act: the next act of its stage, or what follows the stage
 unfoldable pub next-act : Session → At → Point

@@ -5,12 +5,13 @@ use mathlib.Core.Bool.{Bool, false, not, cond}
 use mathlib.Core.List.{List}
 use Prim.Native.Nat.{ℕ, _/_, _%_}
 use lib.Dec.{eqb, ltb}
-use Rattle.numbers.specs.Numbers.{bad-reply, wait-limit-reached}
+use Rattle.numbers.specs.Numbers.{bad-reply}
 use Rattle.c2_wire.specs.Place.{place}
 use Rattle.c2_wire.specs.Code.Script.{code-step, code-follows}
 use Rattle.c2_wire.specs.declared.Place.{Place}
 use Rattle.c2_wire.specs.declared.Moved.{Moved}
 use Rattle.c2_wire.specs.declared.Moved.the-variants.{Within, Stopped, WaitLimit}
+use Rattle.c2_order.specs.Conversation.{limits-of}
 use Rattle.c2_acts.specs.declared.Task.{Task}
 use Rattle.c2_acts.specs.declared.Task.the-variants.{Reset}
 use Rattle.c2_acts.specs.Code.Acts.{task-of}
@@ -19,8 +20,8 @@ use Rattle.c2_session.specs.declared.Point.{Point}
 use Rattle.c2_session.specs.declared.Point.the-variants.{Running, Ended}
 use Rattle.c2_session.specs.declared.Session.{Session}
 use Rattle.c2_session.specs.declared.Runner.{Runner}
-use Rattle.c2_session.specs.Code.Next.{act-at, strobe-point, end-point}
-use Rattle.c2_session.specs.Code.Judge.{frame-judged}
+use Rattle.c2_session.specs.Code.Next.{act-at, end-point}
+use Rattle.c2_session.specs.Code.Judge.{frame-answered}
 use Rattle.c2_session.specs.Code.Step.{alone}
 use Rattle.c2_session.specs.Code.Script.{script-at}
 
@@ -35,16 +36,21 @@ runner-at p = runner p Reset 0
 unfoldable pub is-known : (strobe script : ℕ) → Bool
 is-known q w = cond (eqb q 0) false (not (eqb w 0))
 
+-- what is left of a script after a reply at a strobe has moved the place
+abbrev pub script-left : Moved → (script strobe : ℕ) → ℕ
+script-left (Within p) w q = cond (eqb (p .strobe) q) w (w / 16)
+script-left (Stopped x) w q = 0
+script-left WaitLimit w q = 0
+
 -- the runner after a reply has moved the place in an act's frame
 abbrev pub runner-settled : Moved → Task → (script : ℕ) → Session → At → Place → List ℕ → Runner
-runner-settled (Within p) t w s a b image = runner (strobe-point a p) t (cond (eqb (p .strobe) (b .strobe)) w (w / 16))
-runner-settled (Stopped x) t w s a b image = runner (frame-judged 256 t s a (b .count) x image) t 0
-runner-settled WaitLimit t w s a b image = runner (end-point wait-limit-reached) t 0
+runner-settled m t w s a b image =
+    runner (frame-answered (limits-of (s .settings) .reads) m t s a (b .count) image) t (script-left m w (b .strobe))
 
 -- the runner after a reply, where task and script are known
 unfoldable pub runner-replied : Task → (script : ℕ) → Session → At → Place → (reply : ℕ) → List ℕ → Runner
 runner-replied t w s a p x image =
-    cond (ltb 1 x) (runner (end-point bad-reply) t 0) (runner-settled (code-follows 20 (w % 16) p (eqb x 1)) t w s a p image)
+    cond (ltb 1 x) (runner (end-point bad-reply) t 0) (runner-settled (code-follows (limits-of (s .settings) .wait) (w % 16) p (eqb x 1)) t w s a p image)
 
 -- the runner after a reply, which finds task and script where they are not known
 unfoldable pub runner-taken : Task → (script : ℕ) → Session → At → Place → (reply : ℕ) → List ℕ → Runner

@@ -1,22 +1,16 @@
 -- Delays and status bits are bytes.
 use mathlib.Core.Bool.{Bool, true, false, cond}
-use mathlib.Core.List.{List, [], _∷_}
-use Prim.Native.Nat.{ℕ, zero, suc, _+_, _*_, _<_}
+use mathlib.Core.List.{List}
+use Prim.Native.Nat.{ℕ, _+_, _*_, _<_}
 use native.Mathlib.Omega.{arith}
-use lib.ListN.{getD}
 use Rattle.laws.specs.Bytes.{Bytes}
+use Rattle.laws.proofs.Bytes.{getD-byte}
 use Rattle.c2_wire.specs.Bits.{bit}
 use Rattle.c2_target.specs.declared.Output.{Output}
 use Rattle.c2_target.specs.declared.Link.{Link}
 use Rattle.c2_target.specs.Delays.{list-place, delay}
 use Rattle.c2_target.specs.Commands.{some-output}
 use Rattle.c2_target.specs.Interface.{in-busy, out-ready, status-bits, late-of}
-
--- a byte of a list of bytes, or the 0 past its end, is below 256
-pub getD-byte : (ds : List ℕ) (i : ℕ) → Bytes ds → getD ds i 0 < 256
-getD-byte [] i h = omega arith
-getD-byte (d ∷ ds) zero h = h .0
-getD-byte (d ∷ ds) (suc i) h = getD-byte ds i (h .1)
 
 pub delay-byte : (ds : List ℕ) (p : ℕ) → Bytes ds → delay ds p < 256
 unfolding delay

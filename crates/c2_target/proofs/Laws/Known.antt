@@ -1,7 +1,7 @@
 -- A step that is not refused leads from a state that exists to another, and keeps the flash's length and its
 -- bytes.
 use mathlib.Core.Path.{_≡_, refl, _∙_}
-use mathlib.Core.Bool.{true, false, _&&_}
+use mathlib.Core.Bool.{Bool, true, false, cond, _&&_}
 use mathlib.Core.List.{List, [], _∷_, _++_}
 use Prim.Native.Nat.{ℕ, zero, suc, _+_, _-_, _*_, _%_, _<_, _≤_}
 use native.Mathlib.Nat.{mul-le-mul-right, mod-lt}
@@ -26,15 +26,17 @@ use Rattle.c2_target.specs.declared.Effect.the-variants.{Nothing, SetAdd
 use Rattle.c2_target.specs.declared.Point.{Point}
 use Rattle.c2_target.specs.declared.Point.the-variants.{Start, Ins, WriteLength, ReadLength, Address, Data, LongData, Wait, Waiting, Send, Stop}
 use Rattle.c2_target.specs.declared.Link.{Link}
+use Rattle.c2_target.specs.declared.Met.{Met}
 use Rattle.c2_target.specs.declared.Device.{Device}
 use Rattle.c2_target.specs.declared.Target.{Target}
 use Rattle.c2_target.specs.Delays.{Setup, delay}
 use Rattle.c2_target.specs.Commands.{Put-taken, erased, stored, in-flash, opens, takes-put, first-byte, other-bytes}
 use Rattle.c2_target.specs.Interface.{link, device, Served, Acted, in-busy, out-ready, linked, shown, given, put-byte, get-byte, counted, next-keys, begun, frame-does}
 use Rattle.c2_target.specs.Strobes.{target, Turn, line, strobed-at}
-use Rattle.c2_target.specs.Known.{hearing, is-byte, known-effect, after-its-wait, known-point, is-count, known-block, known-command, known-output, known-link, known}
+use Rattle.c2_target.specs.Known.{hearing, is-byte, known-effect, after-its-wait, known-point, most-keys, is-count, known-block, known-command, known-output, known-link, known}
 use Rattle.c2_target.specs.Target.{cleared, after-reset, after-pause, stepped}
-use Rattle.c2_target.proofs.Laws.Interface.{getD-byte, delay-byte, late-byte, status-small}
+use Rattle.laws.proofs.Bytes.{getD-byte}
+use Rattle.c2_target.proofs.Laws.Interface.{delay-byte, late-byte, status-small}
 use Rattle.c2_target.proofs.Laws.KnownPoint.{and-true, ins-known, write-length-known, read-length-known, address-known, data-known, long-data-known, sent-known, wait-known}
 
 -- bytes that are joined, repeated or set in a list are bytes
@@ -101,37 +103,43 @@ pub record Took (count : ℕ) (f : List ℕ) (x : Put-taken) : Type 0 where
   pub command : known-command count (length f) (x .command) ≡ true
   pub output : known-output (length f) (x .output) ≡ true
 
-takes-known : (s : Settings) (c : Command) (b : ℕ) (f : List ℕ) → b < 256 → Bytes f → length f ≡ s .size * s .count
-    → known-command (s .count) (length f) c ≡ true → Took (s .count) f (takes-put s c b f)
+-- a command that is turned away where the device is not prepared exists
+turned : (ready : Bool) (count end : ℕ) (c : Command) → known-command count end c ≡ true → known-command count end (cond ready c Ready) ≡ true
+unfolding known-command
+turned true count end c k = k
+turned false count end c k = refl
+
+takes-known : (s : Settings) (ready : Bool) (c : Command) (b : ℕ) (f : List ℕ) → b < 256 → Bytes f → length f ≡ s .size * s .count
+    → known-command (s .count) (length f) c ≡ true → Took (s .count) f (takes-put s ready c b f)
 unfolding takes-put opens in-flash known-command known-output known-block is-byte
-takes-known s Ready b f hb hf ef k =
-    by-test (eqb b 0x08) (λ e. rw e (record { size = refl; bytes = hf; command = refl; output = refl }))
-    (λ e. rw e (by-test (eqb b 0x07) (λ e. rw e (record { size = refl; bytes = hf; command = refl; output = refl }))
+takes-known s ready Ready b f hb hf ef k =
+    by-test (eqb b 0x08) (λ e. rw e (record { size = refl; bytes = hf; command = turned ready (s .count) (length f) ErasePage refl; output = refl }))
+    (λ e. rw e (by-test (eqb b 0x07) (λ e. rw e (record { size = refl; bytes = hf; command = turned ready (s .count) (length f) (High true) refl; output = refl }))
     (λ e. rw e (by-test (eqb b 0x06) (λ e. rw e (record { size = refl; bytes = hf; command = refl; output = refl }))
     (λ e. rw e (record { size = refl; bytes = hf; command = refl; output = refl }))))))
-takes-known s ErasePage b f hb hf ef k =
+takes-known s ready ErasePage b f hb hf ef k =
     by-test (ltb b (s .count)) (λ e. rw e (record { size = refl; bytes = hf; command = e; output = refl }))
     (λ e. rw e (record { size = refl; bytes = hf; command = refl; output = refl }))
-takes-known s (EraseConfirm p) b f hb hf ef k =
+takes-known s ready (EraseConfirm p) b f hb hf ef k =
     by-test (eqb b 0x00)
     (λ e. rw e (record { size = length-erased (s .size) (s .count) p f (ltb-true p (s .count) k) ef; bytes = bytes-erased (s .size) p f hf; command = refl; output = refl }))
     (λ e. rw e (record { size = refl; bytes = hf; command = refl; output = refl }))
-takes-known s (High w) b f hb hf ef k = record { size = refl; bytes = hf; command = lt-ltb b 256 hb; output = refl }
-takes-known s (Low w h) b f hb hf ef k =
+takes-known s ready (High w) b f hb hf ef k = record { size = refl; bytes = hf; command = lt-ltb b 256 hb; output = refl }
+takes-known s ready (Low w h) b f hb hf ef k =
     record { size = refl; bytes = hf; command = lt-ltb (h * 256 + b) 65536 (omega (arith, ltb-true h 256 k)); output = refl }
-takes-known s (LengthCode true a) b f hb hf ef k =
+takes-known s ready (LengthCode true a) b f hb hf ef k =
     by-test (leb (a + coded-length b) (length f))
     (λ e. rw e (record { size = refl; bytes = hf; command = and-true (coded-count b hb) e; output = refl }))
     (λ e. rw e (record { size = refl; bytes = hf; command = coded-count b hb; output = refl }))
-takes-known s (LengthCode false a) b f hb hf ef k =
+takes-known s ready (LengthCode false a) b f hb hf ef k =
     by-test (leb (a + coded-length b) (length f))
     (λ e. rw e (record { size = refl; bytes = hf; command = refl; output = and-true (coded-count b hb) e }))
     (λ e. rw e (record { size = refl; bytes = hf; command = refl; output = refl }))
-takes-known s (Byte a n) b f hb hf ef k =
+takes-known s ready (Byte a n) b f hb hf ef k =
     by-test (ltb 1 n)
     (λ e. rw e (record { size = length-stored a b f; bytes = bytes-stored a b f hf; command = block-less (length f) a n k e; output = refl }))
     (λ e. rw e (record { size = length-stored a b f; bytes = bytes-stored a b f hf; command = refl; output = refl }))
-takes-known s (PastEnd n) b f hb hf ef k =
+takes-known s ready (PastEnd n) b f hb hf ef k =
     by-test (ltb 1 n)
     (λ e. rw e (record { size = refl; bytes = hf; command = count-less n k e; output = refl }))
     (λ e. rw e (record { size = refl; bytes = hf; command = refl; output = refl }))
@@ -145,7 +153,6 @@ record Serves (count : ℕ) (f : List ℕ) (x : Served) : Type 0 where
 -- a device exists, fact by fact
 pub record Device-known (count end : ℕ) (d : Device) : Type 0 where
   pub address : is-byte (d .address) ≡ true
-  pub keys : leb (d .keys) 3 ≡ true
   pub link : known-link count end (d .link) ≡ true
 
 -- what a frame leaves at its STOP exists
@@ -196,10 +203,48 @@ keys-few a n b =
     (λ e. rw e (by-test (eqb b 0x01 && eqb n 2) (λ e. rw e) (λ e. rw e)))))))
     (λ e. rw e)
 
+-- two key writes may be counted at any point
+few-keys : (p : Point) (n : ℕ) → leb n 2 ≡ true → leb n (most-keys p) ≡ true
+unfolding most-keys
+few-keys Start n h = le-leb n 3 (omega (arith, leb-true n 2 h))
+few-keys (Ins m v) n h = h
+few-keys (WriteLength m v) n h = h
+few-keys (ReadLength m v) n h = h
+few-keys (Address m v) n h = h
+few-keys (Data m v) n h = h
+few-keys (LongData m) n h = h
+few-keys (Wait m e) n h = h
+few-keys (Waiting z m e) n h = h
+few-keys (Send m v e) n h = h
+few-keys (Stop e) n h = h
+
+-- no more than three key writes are counted at any point
+pub three-keys : (p : Point) (n : ℕ) → leb n (most-keys p) ≡ true → n ≤ 3
+unfolding most-keys
+three-keys Start n h = leb-true n 3 h
+three-keys (Ins m v) n h = omega (arith, leb-true n 2 h)
+three-keys (WriteLength m v) n h = omega (arith, leb-true n 2 h)
+three-keys (ReadLength m v) n h = omega (arith, leb-true n 2 h)
+three-keys (Address m v) n h = omega (arith, leb-true n 2 h)
+three-keys (Data m v) n h = omega (arith, leb-true n 2 h)
+three-keys (LongData m) n h = omega (arith, leb-true n 2 h)
+three-keys (Wait m e) n h = omega (arith, leb-true n 2 h)
+three-keys (Waiting z m e) n h = omega (arith, leb-true n 2 h)
+three-keys (Send m v e) n h = omega (arith, leb-true n 2 h)
+three-keys (Stop e) n h = omega (arith, leb-true n 2 h)
+
+-- a START takes three key writes away
+begun-few : (d : Device) → leb (d .keys) 3 ≡ true → leb (begun d .keys) 2 ≡ true
+unfolding begun
+begun-few d h =
+    by-test (eqb (d .keys) 3) (λ e. rw e)
+    (λ e. rw e (le-leb (d .keys) 2 (omega (arith, leb-true (d .keys) 3 h, eqb-false (d .keys) 3 e))))
+
 -- a state that exists, fact by fact
 pub record Exists (u : Setup) (t : Target) (f : List ℕ) : Type 0 where
   pub flash : length f ≡ u .settings .size * u .settings .count
   pub point : known-point (u .wait) (t .point) ≡ true
+  pub keys : leb (t .device .keys) (most-keys (t .point)) ≡ true
   pub device : Device-known (u .settings .count) (length f) (t .device)
 
 pub known-says : (u : Setup) (t : Target) (f : List ℕ) → known u t f ≡ true → Exists u t f
@@ -208,15 +253,20 @@ known-says u t f k =
     let d = t .device in
     let a = both (eqb (length f) (u .settings .size * u .settings .count)) _ k in
     let b = both (known-point (u .wait) (t .point)) _ (a .1) in
-    let c = both (is-byte (d .address)) _ (b .1) in
-    let e = both (leb (d .keys) 3) _ (c .1) in
-    record { flash = eqb-true (length f) (u .settings .size * u .settings .count) (a .0); point = b .0; device = record { address = c .0; keys = e .0; link = e .1 } }
+    let c = both (leb (d .keys) (most-keys (t .point))) _ (b .1) in
+    let e = both (is-byte (d .address)) _ (c .1) in
+    record {
+      flash = eqb-true (length f) (u .settings .size * u .settings .count) (a .0);
+      point = b .0;
+      keys = c .0;
+      device = record { address = e .0; link = e .1 };
+    }
 
 pub known-is : (u : Setup) (t : Target) (f : List ℕ) → Exists u t f → known u t f ≡ true
 unfolding known
 known-is u t f k =
     and-true (eq-eqb (length f) (u .settings .size * u .settings .count) (k .flash))
-    (and-true (k .point) (and-true (k .device .address) (and-true (k .device .keys) (k .device .link))))
+    (and-true (k .point) (and-true (k .keys) (and-true (k .device .address) (k .device .link))))
 
 -- the target and the flash after a step exist, and the flash is bytes
 pub record Stays (u : Setup) (x : Turn) : Type 0 where
@@ -247,14 +297,13 @@ module _ (u : Setup) (lent : Lent u) where
 
   begun-known : (end : ℕ) (d : Device) → Device-known count end d → Device-known count end (begun d)
   unfolding begun
-  begun-known end d k =
-      record { address = k .address; keys = by-test (eqb (d .keys) 3) (λ e. rw e) (λ e. rw e (k .keys)); link = k .link }
+  begun-known end d k = record { address = k .address; link = k .link }
 
-  put-known : (l : Link) (b p : ℕ) (f : List ℕ) → b < 256 → Bytes f → length f ≡ u .settings .size * count → known-link count (length f) l ≡ true
-      → Serves count f (put-byte u l b p f)
+  put-known : (ready : Bool) (l : Link) (b p : ℕ) (f : List ℕ) → b < 256 → Bytes f → length f ≡ u .settings .size * count → known-link count (length f) l ≡ true
+      → Serves count f (put-byte u ready l b p f)
   unfolding put-byte
-  put-known l b p f hb hf ef k =
-      let x = takes-known (u .settings) (l .command) b f hb hf ef (link-says count (length f) l k .command) in
+  put-known ready l b p f hb hf ef k =
+      let x = takes-known (u .settings) ready (l .command) b f hb hf ef (link-says count (length f) l k .command) in
       record {
         size = x .size;
         bytes = x .bytes;
@@ -285,20 +334,19 @@ module _ (u : Setup) (lent : Lent u) where
   unfolding frame-does known-effect is-byte
   does-known Nothing d p f ke hf ef k = record { size = refl; bytes = hf; device = k }
   does-known (SetAddress a) d p f ke hf ef k =
-      record { size = refl; bytes = hf; device = record { address = ke; keys = k .keys; link = k .link } }
-  does-known (Write b) d p f ke hf ef k = by-test (linked (u .settings) d) (λ e. rw e (put (put-known (d .link) b p f (ltb-true b 256 ke) hf ef (k .link))))
+      record { size = refl; bytes = hf; device = record { address = ke; link = k .link } }
+  does-known (Write b) d p f ke hf ef k = by-test (linked (u .settings) d) (λ e. rw e (put (put-known _ (d .link) b p f (ltb-true b 256 ke) hf ef (k .link))))
       (λ e. rw e (put (record { size = refl; bytes = hf; link = k .link })))
     where
-      put : {x : Served} → Serves count f x
-          → Acts count f (record { device = device (d .address) (d .on) (next-keys (d .address) (d .keys) b) (x .link); place = x .place; flash = x .flash })
-      put s = record { size = s .size; bytes = s .bytes; device = record { address = k .address; keys = keys-few (d .address) (d .keys) b; link = s .link } }
+      put : {m : Met} {x : Served} → Serves count f x
+          → Acts count f (record { device = device (d .address) (d .on) (next-keys (d .address) (d .keys) b) m (x .link); place = x .place; flash = x .flash })
+      put s = record { size = s .size; bytes = s .bytes; device = record { address = k .address; link = s .link } }
   does-known CountDown d p f ke hf ef k =
       record {
         size = refl;
         bytes = hf;
         device = record {
           address = k .address;
-          keys = k .keys;
           link = by-test (linked (u .settings) d) (λ e. rw e (counted-known (length f) (d .link) (k .link))) (λ e. rw e (k .link));
         };
       }
@@ -306,38 +354,72 @@ module _ (u : Setup) (lent : Lent u) where
       (λ e. rw e (got (record { size = refl; bytes = hf; link = k .link })))
     where
       got : {x : Served} → Serves count f x
-          → Acts count f (record { device = device (d .address) (d .on) (d .keys) (x .link); place = x .place; flash = x .flash })
-      got s = record { size = s .size; bytes = s .bytes; device = record { address = k .address; keys = k .keys; link = s .link } }
+          → Acts count f (record { device = device (d .address) (d .on) (d .keys) (d .met) (x .link); place = x .place; flash = x .flash })
+      got s = record { size = s .size; bytes = s .bytes; device = record { address = k .address; link = s .link } }
+
+  does-keys : (e : Effect) (d : Device) (p : ℕ) (f : List ℕ) → leb (d .keys) 2 ≡ true → leb (frame-does u e d p f .device .keys) 3 ≡ true
+  unfolding frame-does most-keys
+  does-keys Nothing d p f h = few-keys Start (d .keys) h
+  does-keys (SetAddress a) d p f h = few-keys Start (d .keys) h
+  does-keys (Write b) d p f h = keys-few (d .address) (d .keys) b
+  does-keys CountDown d p f h = few-keys Start (d .keys) h
+  does-keys Read d p f h = few-keys Start (d .keys) h
+
+  -- a strobe leads to a point where as many key writes may be counted as are
+  strobe-keys : (p : Point) (t : Target) (f : List ℕ) (x : Step) → leb (t .device .keys) (most-keys p) ≡ true
+      → let r = strobed-at u p t f x .target in leb (r .device .keys) (most-keys (r .point)) ≡ true
+  unfolding strobed-at most-keys
+  strobe-keys Start t f x h = begun-few (t .device) h
+  strobe-keys (Ins n v) t f x h = few-keys (strobed-at u (Ins n v) t f x .target .point) (t .device .keys) h
+  strobe-keys (WriteLength n v) t f x h = few-keys (strobed-at u (WriteLength n v) t f x .target .point) (t .device .keys) h
+  strobe-keys (ReadLength n v) t f x h = few-keys (strobed-at u (ReadLength n v) t f x .target .point) (t .device .keys) h
+  strobe-keys (Address n v) t f x h = few-keys (strobed-at u (Address n v) t f x .target .point) (t .device .keys) h
+  strobe-keys (Data n v) t f x h = few-keys (strobed-at u (Data n v) t f x .target .point) (t .device .keys) h
+  strobe-keys (LongData n) t f x h = few-keys (strobed-at u (LongData n) t f x .target .point) (t .device .keys) h
+  strobe-keys (Wait n g) t f x h = few-keys (strobed-at u (Wait n g) t f x .target .point) (t .device .keys) h
+  strobe-keys (Waiting z n g) t f x h = few-keys (strobed-at u (Waiting z n g) t f x .target .point) (t .device .keys) h
+  strobe-keys (Send n v g) t f x h = few-keys (strobed-at u (Send n v g) t f x .target .point) (t .device .keys) h
+  strobe-keys (Stop g) t f x h = does-keys g (t .device) (t .place) f h
 
   moves : (p : Point) (t : Target) (f : List ℕ) (x : Step) → t .point ≡ p → Bytes f → Exists u t f → Stays u (strobed-at u p t f x)
   unfolding strobed-at known-point known-effect hearing
   moves Start t f x e hf k =
-      record { bytes = hf; exists = record { flash = k .flash; point = refl; device = begun-known (length f) (t .device) (k .device) } }
+      record {
+        bytes = hf;
+        exists = record {
+          flash = k .flash;
+          point = refl;
+          keys = strobe-keys Start t f x (rw e at (k .keys));
+          device = begun-known (length f) (t .device) (k .device);
+        };
+      }
   moves (Ins n v) t f x e hf k =
       record {
         bytes = hf;
         exists = record {
           flash = k .flash;
           device = k .device;
+          keys = strobe-keys (Ins n v) t f x (rw e at (k .keys));
           point = ins-known (u .wait) (u .settings) (t .device) n v (line x) (shown-small (length f) (t .device) (k .device)) (rw e at (k .point));
         };
       }
   moves (WriteLength n v) t f x e hf k =
-      record { bytes = hf; exists = record { flash = k .flash; device = k .device; point = write-length-known (u .wait) n v (line x) (rw e at (k .point)) } }
+      record { bytes = hf; exists = record { flash = k .flash; device = k .device; keys = strobe-keys (WriteLength n v) t f x (rw e at (k .keys)); point = write-length-known (u .wait) n v (line x) (rw e at (k .point)) } }
   moves (ReadLength n v) t f x e hf k =
-      record { bytes = hf; exists = record { flash = k .flash; device = k .device; point = read-length-known (u .wait) n v (line x) (rw e at (k .point)) } }
+      record { bytes = hf; exists = record { flash = k .flash; device = k .device; keys = strobe-keys (ReadLength n v) t f x (rw e at (k .keys)); point = read-length-known (u .wait) n v (line x) (rw e at (k .point)) } }
   moves (Address n v) t f x e hf k =
-      record { bytes = hf; exists = record { flash = k .flash; device = k .device; point = address-known (u .wait) n v (line x) (rw e at (k .point)) } }
+      record { bytes = hf; exists = record { flash = k .flash; device = k .device; keys = strobe-keys (Address n v) t f x (rw e at (k .keys)); point = address-known (u .wait) n v (line x) (rw e at (k .point)) } }
   moves (Data n v) t f x e hf k =
-      record { bytes = hf; exists = record { flash = k .flash; device = k .device; point = data-known (u .wait) n v (line x) (rw e at (k .point)) } }
+      record { bytes = hf; exists = record { flash = k .flash; device = k .device; keys = strobe-keys (Data n v) t f x (rw e at (k .keys)); point = data-known (u .wait) n v (line x) (rw e at (k .point)) } }
   moves (LongData n) t f x e hf k =
-      record { bytes = hf; exists = record { flash = k .flash; device = k .device; point = long-data-known (u .wait) n (rw e at (k .point)) } }
+      record { bytes = hf; exists = record { flash = k .flash; device = k .device; keys = strobe-keys (LongData n) t f x (rw e at (k .keys)); point = long-data-known (u .wait) n (rw e at (k .point)) } }
   moves (Wait n g) t f x e hf k =
       record {
         bytes = hf;
         exists = record {
           flash = k .flash;
           device = k .device;
+          keys = strobe-keys (Wait n g) t f x (rw e at (k .keys));
           point = wait-known (u .wait) u (delay (u .delays) (t .place) % u .wait) n g (t .device) f (given-small (t .device) f hf)
               (mod-lt (delay (u .delays) (t .place)) (lent .wait)) (rw e at (k .point));
         };
@@ -349,21 +431,25 @@ module _ (u : Setup) (lent : Lent u) where
         exists = record {
           flash = k .flash;
           device = k .device;
+          keys = strobe-keys (Waiting z n g) t f x (rw e at (k .keys));
           point = wait-known (u .wait) u z n g (t .device) f (given-small (t .device) f hf) (omega (arith, ltb-true (z + 1) (u .wait) (h .0))) (h .1);
         };
       }
   moves (Send n v g) t f x e hf k =
-      record { bytes = hf; exists = record { flash = k .flash; device = k .device; point = sent-known (u .wait) n v g (rw e at (k .point)) } }
+      record { bytes = hf; exists = record { flash = k .flash; device = k .device; keys = strobe-keys (Send n v g) t f x (rw e at (k .keys)); point = sent-known (u .wait) n v g (rw e at (k .point)) } }
   moves (Stop g) t f x e hf k =
       let r = does-known g (t .device) (t .place) f (rw e at (k .point)) hf (k .flash) (k .device) in
-      record { bytes = r .bytes; exists = record { flash = r .size ∙ k .flash; point = refl; device = rw (r .size) (r .device) } }
+      record { bytes = r .bytes; exists = record { flash = r .size ∙ k .flash; point = refl; keys = strobe-keys (Stop g) t f x (rw e at (k .keys)); device = rw (r .size) (r .device) } }
 
   pub stepped-known : (t : Target) (f : List ℕ) (x : Step) → Bytes f → Exists u t f → Stays u (stepped u t f x)
-  unfolding stepped after-reset after-pause cleared known-point known-link known-command known-output is-byte
+  unfolding stepped after-reset after-pause cleared known-point most-keys known-link known-command known-output is-byte
   stepped-known t f released hf k = moves (t .point) t f released refl hf k
   stepped-known t f (driven b) hf k = moves (t .point) t f (driven b) refl hf k
   stepped-known t f reset hf k =
-      record { bytes = hf; exists = record { flash = k .flash; point = refl; device = record { address = refl; keys = refl; link = refl } } }
+      record { bytes = hf; exists = record { flash = k .flash; point = refl; keys = refl; device = record { address = refl; link = refl } } }
   stepped-known t f pause hf k =
-      record { bytes = hf; exists = record { flash = k .flash; point = k .point; device = record { address = k .device .address; keys = k .device .keys; link = k .device .link } } }
+      record {
+        bytes = hf;
+        exists = record { flash = k .flash; point = k .point; keys = k .keys; device = record { address = k .device .address; link = k .device .link } };
+      }
   stepped-known t f off hf k = record { bytes = hf; exists = k }

@@ -12,7 +12,7 @@ use Rattle.c2_target_state.proofs.Laws.State.Fits.{target-back}
 
 pub state-reads : State-reads
 unfolding target-of
-state-reads s t f ds r k = rw (target-back s t f ds r k, same-itself (state-of t))
+state-reads s p t f ds r w k = rw (target-back s p t f ds r w k, same-itself (state-of t))
 
 pub has-state : Has-state
 has-state t s h = held-says t s h
@@ -22,5 +22,5 @@ one-state t a b p q = sym (held-says t a p) ∙ held-says t b q
 
 pub steps-alike : Steps-alike
 unfolding seen-answer seen-flash held-answer answer
-steps-alike s t f ds x r k =
-    rw (state-reads s t f ds r k) (by-test (eqb (step-refusal (setup s ds) t f x) 0) (λ e. rw e) (λ e. rw (e, e)), refl)
+steps-alike s p t f ds x r w k =
+    rw (state-reads s p t f ds r w k) (by-test (eqb (step-refusal (setup s p ds) t f x) 0) (λ e. rw e) (λ e. rw (e, e)), refl)

@@ -5,7 +5,7 @@ use Prim.Native.Nat.{ℕ, _+_, _%_, _<_, _≤_}
 use native.Mathlib.Nat.{mod-eq-of-lt}
 use native.Mathlib.Omega.{arith}
 use borrow.Author.Tests.{ltb-true, ltb-false, leb-true, eqb-true, eqb-false, lt-ltb}
-use lib.Dec.{eqb, ltb, leb}
+use lib.Dec.{eqb, ltb}
 use Rattle.laws.proofs.Tests.{by-test, not-second}
 use Rattle.c2_wire.specs.Bits.{bit}
 use Rattle.c2_target.specs.declared.Command.{Command}
@@ -22,8 +22,8 @@ use Rattle.c2_target_state.specs.declared.PointFields.{PointFields}
 use Rattle.c2_target_state.specs.declared.CommandFields.{CommandFields}
 use Rattle.c2_target_state.specs.declared.OutputFields.{OutputFields}
 use Rattle.c2_target_state.specs.declared.Seen.the-variants as seen
-use Rattle.c2_target_state.specs.State.{effect-code, effect-byte, point-fields, command-fields, output-fields, state-of, effect-of, later-point, state-point, command-of, output-of, target-read, same-state, target-of}
-use Rattle.c2_target_state.specs.Code.Form.{none, effect-in-form, later-in-form, point-in-form, early-in-form, command-in-form, output-in-form, in-form}
+use Rattle.c2_target_state.specs.State.{effect-code, effect-byte, point-fields, command-fields, output-fields, state-of, effect-of, later-point, state-point, command-of, output-of, met-of, target-read, same-state, target-of}
+use Rattle.c2_target_state.specs.Code.Form.{none, effect-in-form, later-in-form, point-in-form, early-in-form, command-in-form, output-in-form, met-in-form, flags-in-form, in-form}
 use Rattle.c2_target_state.proofs.Laws.State.{same-itself, same-says}
 use Rattle.c2_target_state.proofs.Laws.State.Fits.{not-so}
 
@@ -87,12 +87,20 @@ output-forms (Status false) = refl
 output-forms (StatusBlock a n) = refl
 output-forms (Block a n) = refl
 
+-- the truth values that stand in no tag's group are in form, in the state of any target
+flags-form : (t : Target) → flags-in-form (state-of t) ≡ true
+unfolding flags-in-form met-in-form state-of
+flags-form t =
+    let m = t .device .met in
+    rw (flag-forms (t .collision), flag-forms (t .device .on), flag-forms (m .first), flag-forms (m .second), flag-forms (m .third))
+    (flag-forms (m .fourth))
+
 -- the state of any target is in form
 target-forms : (t : Target) → in-form (state-of t) ≡ true
 unfolding in-form state-of
 target-forms t =
-    rw (flag-forms (t .collision), flag-forms (t .device .on), output-forms (t .device .link .output), command-forms (t .device .link .command))
-    (point-forms (t .point))
+    rw (point-forms (t .point), flags-form t, output-forms (t .device .link .output))
+    (command-forms (t .device .link .command))
 
 -- numbers whose sum is 0
 record None (a b c d : ℕ) : Type 0 where
@@ -293,19 +301,45 @@ module _ (s : State) (m : Small s) where
       three : (o : ℕ) → 2 ≤ o → o < 4 → (o ≡ 2 → ⊥) → o ≡ 3
       three o l m h = omega arith
 
-  -- a state in form is that of the target that it says
-  state-said : in-form s ≡ true → state-of (target-read s) ≡ s
-  unfolding in-form state-of target-read
-  state-said k =
+  -- truth values that stand in no tag's group are read back, from a state in form
+  record Flags-said : Type 0 where
+    pub collision : bit (eqb (s .collision) 1) ≡ s .collision
+    pub on : bit (eqb (s .on) 1) ≡ s .on
+    pub met1 : bit (eqb (s .met1) 1) ≡ s .met1
+    pub met2 : bit (eqb (s .met2) 1) ≡ s .met2
+    pub met3 : bit (eqb (s .met3) 1) ≡ s .met3
+    pub met4 : bit (eqb (s .met4) 1) ≡ s .met4
+
+  flags-said : flags-in-form s ≡ true → Flags-said
+  unfolding flags-in-form met-in-form
+  flags-said k =
       let k1 = not-second (ltb (s .collision) 2) _ k in
       let k2 = not-second (ltb (s .on) 2) _ (k1 .1) in
+      let k3 = not-second (ltb (s .met1) 2) _ (k2 .1) in
+      let k4 = not-second (ltb (s .met2) 2) _ (k3 .1) in
+      let k5 = not-second (ltb (s .met3) 2) _ (k4 .1) in
+      record {
+        collision = flag-said (s .collision) (k1 .0);
+        on = flag-said (s .on) (k2 .0);
+        met1 = flag-said (s .met1) (k3 .0);
+        met2 = flag-said (s .met2) (k4 .0);
+        met3 = flag-said (s .met3) (k5 .0);
+        met4 = flag-said (s .met4) (k5 .1);
+      }
+
+  -- a state in form is that of the target that it says
+  pub state-said : in-form s ≡ true → state-of (target-read s) ≡ s
+  unfolding in-form state-of target-read met-of
+  state-said k =
+      let k1 = not-second (point-passes point-numbers) _ k in
+      let k2 = not-second (flags-in-form s) _ (k1 .1) in
+      let q = flags-said (k2 .0) in
       let k3 = not-second (output-passes output-numbers) _ (k2 .1) in
-      let k4 = not-second (command-passes command-numbers) _ (k3 .1) in
       let a : s .address % 256 ≡ s .address = mod-eq-of-lt (m .address) in
       let y : s .keys % 256 ≡ s .keys = mod-eq-of-lt (m .keys) in
       let b : s .busy % 256 ≡ s .busy = mod-eq-of-lt (m .busy) in
       let d : s .late % 256 ≡ s .late = mod-eq-of-lt (m .late) in
-      rw (point-said (k4 .1), command-said (k4 .0), output-said (k3 .0), flag-said (s .collision) (k1 .0), flag-said (s .on) (k2 .0), a, y, b, d)
+      rw (point-said (k1 .0), command-said (k3 .1), output-said (k3 .0), q .collision, q .on, q .met1, q .met2, q .met3, q .met4, a, y, b, d)
 
   -- The test of the form decides whether a state is a target's.
   pub held-form : in-form s ≡ true → target-of s ≡ seen.Held (target-read s)

@@ -10,17 +10,17 @@ use Rattle.laws.proofs.Tests.{both, by-test}
 use Rattle.c2_target.specs.declared.Target.{Target}
 use Rattle.c2_target_state.specs.declared.State.{State}
 use Rattle.c2_target_state.specs.declared.Seen.the-variants.{Held, Nothing}
-use Rattle.c2_target_state.specs.State.{state-of, target-read, same-point, same-device, same-command, same-output, same-state, target-of}
+use Rattle.c2_target_state.specs.State.{state-of, target-read, same-point, same-device, same-met, same-command, same-output, same-state, target-of}
 
 eqb-same : (n : ℕ) → eqb n n ≡ true
 eqb-same n = eq-eqb n n refl
 
 -- a state is the same as itself
 pub same-itself : (s : State) → same-state s s ≡ true
-unfolding same-state same-point same-device same-command same-output
+unfolding same-state same-point same-device same-met same-command same-output
 same-itself s = simp eqb-same
 
--- states that are the same have the same numbers, in four groups of them
+-- states that are the same have the same numbers, in five groups of them
 record Point-numbers (a b : State) : Type 0 where
   pub point : a .point ≡ b .point
   pub heard : a .heard ≡ b .heard
@@ -61,6 +61,20 @@ device-numbers a b h =
     let h6 = both (eqb (a .busy) (b .busy)) _ (h5 .1) in
     record { place = eqb-true (a .place) (b .place) (h1 .0); collision = eqb-true (a .collision) (b .collision) (h2 .0); address = eqb-true (a .address) (b .address) (h3 .0); on = eqb-true (a .on) (b .on) (h4 .0); keys = eqb-true (a .keys) (b .keys) (h5 .0); busy = eqb-true (a .busy) (b .busy) (h6 .0); late = eqb-true (a .late) (b .late) (h6 .1) }
 
+record Met-numbers (a b : State) : Type 0 where
+  pub met1 : a .met1 ≡ b .met1
+  pub met2 : a .met2 ≡ b .met2
+  pub met3 : a .met3 ≡ b .met3
+  pub met4 : a .met4 ≡ b .met4
+
+met-numbers : (a b : State) → same-met a b ≡ true → Met-numbers a b
+unfolding same-met
+met-numbers a b h =
+    let h1 = both (eqb (a .met1) (b .met1)) _ h in
+    let h2 = both (eqb (a .met2) (b .met2)) _ (h1 .1) in
+    let h3 = both (eqb (a .met3) (b .met3)) _ (h2 .1) in
+    record { met1 = eqb-true (a .met1) (b .met1) (h1 .0); met2 = eqb-true (a .met2) (b .met2) (h2 .0); met3 = eqb-true (a .met3) (b .met3) (h3 .0); met4 = eqb-true (a .met4) (b .met4) (h3 .1) }
+
 record Command-numbers (a b : State) : Type 0 where
   pub command : a .command ≡ b .command
   pub write : a .write ≡ b .write
@@ -98,13 +112,15 @@ unfolding same-state
 same-says a b h =
     let h1 = both (same-point a b) _ h in
     let h2 = both (same-device a b) _ (h1 .1) in
-    let h3 = both (same-command a b) _ (h2 .1) in
+    let h3 = both (same-met a b) _ (h2 .1) in
+    let h4 = both (same-command a b) _ (h3 .1) in
     let p = point-numbers a b (h1 .0) in
     let d = device-numbers a b (h2 .0) in
-    let c = command-numbers a b (h3 .0) in
-    let o = output-numbers a b (h3 .1) in
-    let w : _≡_ {A = State} (record { place = a .place; start = a .start; rest = a .rest; next = a .next; count = a .count; point = a .point; heard = a .heard; value = a .value; left = a .left; zeros = a .zeros; effect = a .effect; byte = a .byte; collision = a .collision; address = a .address; on = a .on; keys = a .keys; command = a .command; write = a .write; page = a .page; high = a .high; output = a .output; passed = a .passed; busy = a .busy; late = a .late }) (record { place = b .place; start = b .start; rest = b .rest; next = b .next; count = b .count; point = b .point; heard = b .heard; value = b .value; left = b .left; zeros = b .zeros; effect = b .effect; byte = b .byte; collision = b .collision; address = b .address; on = b .on; keys = b .keys; command = b .command; write = b .write; page = b .page; high = b .high; output = b .output; passed = b .passed; busy = b .busy; late = b .late }) =
-    rw (d .place, c .start, c .rest, o .next, o .count, p .point, p .heard, p .value, p .left, p .zeros, p .effect, p .byte, d .collision, d .address, d .on, d .keys, c .command, c .write, c .page, c .high, o .output, o .passed, d .busy, d .late) in
+    let m = met-numbers a b (h3 .0) in
+    let c = command-numbers a b (h4 .0) in
+    let o = output-numbers a b (h4 .1) in
+    let w : _≡_ {A = State} (record { place = a .place; start = a .start; rest = a .rest; next = a .next; count = a .count; point = a .point; heard = a .heard; value = a .value; left = a .left; zeros = a .zeros; effect = a .effect; byte = a .byte; collision = a .collision; address = a .address; on = a .on; keys = a .keys; met1 = a .met1; met2 = a .met2; met3 = a .met3; met4 = a .met4; command = a .command; write = a .write; page = a .page; high = a .high; output = a .output; passed = a .passed; busy = a .busy; late = a .late }) (record { place = b .place; start = b .start; rest = b .rest; next = b .next; count = b .count; point = b .point; heard = b .heard; value = b .value; left = b .left; zeros = b .zeros; effect = b .effect; byte = b .byte; collision = b .collision; address = b .address; on = b .on; keys = b .keys; met1 = b .met1; met2 = b .met2; met3 = b .met3; met4 = b .met4; command = b .command; write = b .write; page = b .page; high = b .high; output = b .output; passed = b .passed; busy = b .busy; late = b .late }) =
+    rw (d .place, c .start, c .rest, o .next, o .count, p .point, p .heard, p .value, p .left, p .zeros, p .effect, p .byte, d .collision, d .address, d .on, d .keys, m .met1, m .met2, m .met3, m .met4, c .command, c .write, c .page, c .high, o .output, o .passed, d .busy, d .late) in
     w
 
 -- what is read from a state has that state

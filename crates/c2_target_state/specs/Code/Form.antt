@@ -49,15 +49,22 @@ command-in-form c w p h a n =
 unfoldable pub output-in-form : (output passed next count : ℕ) → Bool
 output-in-form o ok a n = cond (ltb o 2) (cond (eqb (a + n) 0) (leb ok o) false) (cond (ltb o 4) (eqb ok 0) false)
 
+-- whether the numbers of wanted pairs that are met are truth values
+unfoldable pub met-in-form : (met1 met2 met3 met4 : ℕ) → Bool
+met-in-form a b c d = cond (ltb a 2) (cond (ltb b 2) (cond (ltb c 2) (ltb d 2) false) false) false
+
+-- whether the truth values that stand in no tag's group are 0 or 1
+unfoldable pub flags-in-form : State → Bool
+flags-in-form s =
+    cond (ltb (s .collision) 2) (cond (ltb (s .on) 2) (met-in-form (s .met1) (s .met2) (s .met3) (s .met4)) false) false
+
 -- whether a state is in form
 unfoldable pub in-form : State → Bool
 in-form s =
-    cond (ltb (s .collision) 2)
-    (cond (ltb (s .on) 2)
+    cond (point-in-form (s .point) (s .heard) (s .value) (s .left) (s .zeros) (s .effect) (s .byte))
+    (cond (flags-in-form s)
     (cond (output-in-form (s .output) (s .passed) (s .next) (s .count))
-    (cond (command-in-form (s .command) (s .write) (s .page) (s .high) (s .start) (s .rest))
-    (point-in-form (s .point) (s .heard) (s .value) (s .left) (s .zeros) (s .effect) (s .byte))
-    false)
+    (command-in-form (s .command) (s .write) (s .page) (s .high) (s .start) (s .rest))
     false)
     false)
     false

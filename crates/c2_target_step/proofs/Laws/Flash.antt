@@ -1,5 +1,5 @@
 -- Only a put changes the flash.
-use mathlib.Core.Path.{_≡_, refl, ap, _∙_}
+use mathlib.Core.Path.{_≡_, refl, sym, ap, _∙_}
 use mathlib.Core.Bool.{Bool, true, false}
 use mathlib.Core.List.{List, _++_}
 use Prim.Native.Nat.{ℕ, _+_, _-_, _*_, _≤_}
@@ -10,7 +10,8 @@ use lib.ListN.{length, take, replicate}
 use Rattle.laws.proofs.Tests.{by-test}
 use Rattle.c2_wire.specs.Step.{Step}
 use Rattle.settings.specs.declared.Settings.{Settings}
-use Rattle.c2_target.specs.declared.Command.the-variants.{ErasePage, LengthCode}
+use Rattle.c2_target.specs.declared.Command.{Command}
+use Rattle.c2_target.specs.declared.Command.the-variants.{Ready, ErasePage, EraseConfirm, High, Low, LengthCode, Byte, PastEnd}
 use Rattle.c2_target.specs.declared.Effect.{Effect}
 use Rattle.c2_target.specs.declared.Effect.the-variants.{Nothing, SetAddress, Write, CountDown, Read}
 use Rattle.c2_target.specs.declared.Point.{Point}
@@ -19,25 +20,38 @@ use Rattle.c2_target.specs.declared.Device.{Device}
 use Rattle.c2_target.specs.declared.Target.{Target}
 use Rattle.c2_target.specs.Delays.{Setup}
 use Rattle.c2_target.specs.Commands.{erased, opens, takes-put}
-use Rattle.c2_target.specs.Interface.{out-ready, linked, put-byte, get-byte, frame-does}
+use Rattle.c2_target.specs.Interface.{out-ready, linked, put-byte, get-byte, prepared, frame-does}
 use Rattle.c2_target.specs.Strobes.{strobed-at}
 use Rattle.c2_target_step.specs.Code.Parts.{effect-flash, strobe-flash}
 
 -- the first byte of a command changes no flash
-pub opens-keeps : (b : ℕ) (f : List ℕ) → opens b f .flash ≡ f
+pub opens-keeps : (ready : Bool) (b : ℕ) (f : List ℕ) → opens ready b f .flash ≡ f
 unfolding opens
-opens-keeps b f =
+opens-keeps ready b f =
     by-test (eqb b 0x08) (λ e. rw e) (λ e. rw e (by-test (eqb b 0x07) (λ e. rw e) (λ e. rw e (by-test (eqb b 0x06) (λ e. rw e) (λ e. rw e)))))
 
 -- the page of an erase (`page-keeps`) and the length code of a block (`length-keeps`) change no flash
-pub page-keeps : (s : Settings) (b : ℕ) (f : List ℕ) → takes-put s ErasePage b f .flash ≡ f
+pub page-keeps : (s : Settings) (ready : Bool) (b : ℕ) (f : List ℕ) → takes-put s ready ErasePage b f .flash ≡ f
 unfolding takes-put
-page-keeps s b f = by-test (ltb b (s .count)) (λ e. rw e) (λ e. rw e)
+page-keeps s ready b f = by-test (ltb b (s .count)) (λ e. rw e) (λ e. rw e)
 
-pub length-keeps : (s : Settings) (w : Bool) (a b : ℕ) (f : List ℕ) → takes-put s (LengthCode w a) b f .flash ≡ f
+pub length-keeps : (s : Settings) (ready w : Bool) (a b : ℕ) (f : List ℕ) → takes-put s ready (LengthCode w a) b f .flash ≡ f
 unfolding takes-put
-length-keeps s true a b f = refl
-length-keeps s false a b f = refl
+length-keeps s ready true a b f = refl
+length-keeps s ready false a b f = refl
+
+-- what a byte put makes of the flash, the device may be prepared or not
+put-alike : (s : Settings) (ready : Bool) (c : Command) (b : ℕ) (f : List ℕ) → takes-put s ready c b f .flash ≡ takes-put s true c b f .flash
+unfolding takes-put
+put-alike s ready Ready b f = opens-keeps ready b f ∙ sym (opens-keeps true b f)
+put-alike s ready ErasePage b f = refl
+put-alike s ready (EraseConfirm p) b f = refl
+put-alike s ready (High w) b f = refl
+put-alike s ready (Low w h) b f = refl
+put-alike s ready (LengthCode true a) b f = refl
+put-alike s ready (LengthCode false a) b f = refl
+put-alike s ready (Byte a n) b f = refl
+put-alike s ready (PastEnd n) b f = refl
 
 -- a part that is filled is a page erased
 pub filled-page : (size p : ℕ) (f ys : List ℕ) → p * size + size ≤ length f → ys ≡ replicate (length (midOf (p * size) (p * size + size - p * size) f)) 0xff
@@ -59,7 +73,8 @@ does-flash : (u : Setup) (e : Effect) (d : Device) (p : ℕ) (f : List ℕ) → 
 unfolding frame-does put-byte
 does-flash u Nothing d p f = refl
 does-flash u (SetAddress a) d p f = refl
-does-flash u (Write b) d p f = by-test (linked (u .settings) d) (λ e. rw e) (λ e. rw e)
+does-flash u (Write b) d p f =
+    by-test (linked (u .settings) d) (λ e. rw e (put-alike (u .settings) (prepared (u .wanted) (d .met)) (d .link .command) b f)) (λ e. rw e)
 does-flash u CountDown d p f = refl
 does-flash u Read d p f = by-test (linked (u .settings) d) (λ e. rw e (get-keeps u d p f)) (λ e. rw e)
 

@@ -1,5 +1,5 @@
--- What a step's byte puts on the line, and what a step gives by its refusal.
-use mathlib.Core.Path.{_≡_, refl, sym, ap, _∙_}
+-- What a step's byte puts on the line, and what a step gives, refused or not.
+use mathlib.Core.Path.{_≡_, refl, sym, _∙_}
 use mathlib.Core.Bool.{true, false, cond, not}
 use mathlib.Core.List.{List}
 use Prim.Native.Nat.{ℕ, suc, _≤_, _<_}
@@ -16,10 +16,8 @@ use Rattle.c2_target.specs.declared.Replied.{Replied}
 use Rattle.c2_target.specs.Delays.{Setup}
 use Rattle.c2_target.specs.Strobes.{line, turn, strobed}
 use Rattle.c2_target.specs.Known.{known}
-use Rattle.c2_target.specs.Target.{after-reset, after-pause, stepped, is-step, step-coded, step-refusal, answered, flash-left, answer, flash-after}
-use Rattle.c2_target_step.specs.Code.StepOn.{known-on, refusal-on, answer-on, flash-on}
+use Rattle.c2_target.specs.Target.{after-reset, after-pause, stepped, is-step, step-coded, setup-refusal, step-refusal, answer, flash-after}
 use Rattle.c2_target_step.specs.Code.Parts.{turn-replied, strobe-flash, still}
-use Rattle.c2_target_step.proofs.Laws.Known.{exists-on}
 use Rattle.c2_target_step.proofs.Laws.Flash.{strobed-flash}
 
 -- only step 2 drives the line low
@@ -57,47 +55,58 @@ is-strobe u t f x k p q r =
     not-one : not (eqb x 1) ≡ true → x ≡ 1 → ⊥
     not-one g e = let w : false ≡ true = rw (eq-eqb x 1 e) at g in let z : _≡_ {A = ℕ} 0 1 = cc in omega arith
 
--- what a step gives by the number m of its refusal: a strobe (`strobe-answered`), and any other step or a
--- refused one (`still-answered`)
-module _ (u : Setup) (t : Target) (f : List ℕ) (x n m : ℕ) (e : m ≡ n) where
-  pub strobe-answered : m ≡ 0 → is-step x ≡ true → x < 4 → (r : Replied) → r ≡ turn-replied (strobed u t f (step-coded x)) → (f₁ : List ℕ)
-      → f₁ ≡ strobe-flash (u .settings) (t .point) (t .device) f → (r ≡ answered n u t f x) × (f₁ ≡ flash-left n u t f x)
-  strobe-answered h k l r er f₁ ef =
-      let s = is-strobe u t f x k (λ z. omega arith) (λ z. omega arith) (λ z. omega arith) in
-      let z = eq-eqb n 0 (sym e ∙ h) in
-      (rw (z, s) er, rw (z, s) (ef ∙ sym (strobed-flash u (t .point) t f (step-coded x))))
+-- a step that is no strobe gives what `still` says
+pub still-is : (u : Setup) (t : Target) (f : List ℕ) (x : ℕ) → (x < 4 → ⊥)
+    → stepped u t f (step-coded x) ≡ turn true (cond (eqb x 4) (after-reset t) (cond (eqb x 5) (after-pause t) t)) f
+unfolding stepped step-coded
+still-is u t f x h =
+    rw (ne-eqb x 0 (λ z. h (omega arith)), ne-eqb x 2 (λ z. h (omega arith)), ne-eqb x 3 (λ z. h (omega arith)))
+    (by-test (eqb x 4) (λ a. rw a) (λ a. rw a (by-test (eqb x 5) (λ b. rw b) (λ b. rw b))))
 
-  -- a step that is no strobe gives what `still` says
-  still-is : (x < 4 → ⊥) → stepped u t f (step-coded x) ≡ turn true (cond (eqb x 4) (after-reset t) (cond (eqb x 5) (after-pause t) t)) f
-  unfolding stepped step-coded
-  still-is h =
-      rw (ne-eqb x 0 (λ z. h (omega arith)), ne-eqb x 2 (λ z. h (omega arith)), ne-eqb x 3 (λ z. h (omega arith)))
-      (by-test (eqb x 4) (λ a. rw a) (λ a. rw a (by-test (eqb x 5) (λ b. rw b) (λ b. rw b))))
+-- what the code gives of a step that is not refused: of a strobe (`strobe-stepped`), and of any other step
+-- (`still-stepped`)
+abbrev pub Stepped : Setup → Target → List ℕ → (step : ℕ) → Replied → (flash : List ℕ) → Type 0
+Stepped u t f x r f₁ = (r ≡ turn-replied (stepped u t f (step-coded x))) × (f₁ ≡ stepped u t f (step-coded x) .flash)
 
-  pub still-answered : (m ≡ 0 → x < 4 → ⊥) → (r : Replied) → r ≡ still m t x → (r ≡ answered n u t f x) × (f ≡ flash-left n u t f x)
-  unfolding bit
-  still-answered h r er =
-      let es : r ≡ still n t x = er ∙ ap (λ (k : ℕ). still k t x) e in
-      by-test (eqb n 0) (λ z. let s = still-is (h (e ∙ eqb-true n 0 z)) in (rw (z, s) (rw z at es), rw (z, s))) (λ z. (rw z (rw z at es), rw z))
+pub strobe-stepped : (u : Setup) (t : Target) (f : List ℕ) (x : ℕ) → is-step x ≡ true → x < 4 → (r : Replied) → r ≡ turn-replied (strobed u t f (step-coded x))
+    → (f₁ : List ℕ) → f₁ ≡ strobe-flash (u .settings) (t .point) (t .device) f → Stepped u t f x r f₁
+strobe-stepped u t f x k l r er f₁ ef =
+    rw (is-strobe u t f x k (λ z. omega arith) (λ z. omega arith) (λ z. omega arith))
+    (er, ef ∙ sym (strobed-flash u (t .point) t f (step-coded x)))
 
--- an accepted step is one of a state that exists, and a step
-pub accepts : (u : Setup) (t : Target) (f : List ℕ) (x n : ℕ) → n ≡ step-refusal u t f x → n ≡ 0 → (known u t f ≡ true) × (is-step x ≡ true)
-unfolding step-refusal
-accepts u t f x n e h =
-    let w : step-refusal u t f x ≡ 0 = sym e ∙ h in
-    by-test (eqb (settings-refusal (u .settings)) 0)
-    (λ a. let p = passes (known u t f) (cond (is-step x) 0 no-step) no-point (omega arith) (rw a at w) in
-    (p .0, passes (is-step x) 0 no-step (omega arith) (p .1) .0))
-    (λ a. absurd (eqb-false (settings-refusal (u .settings)) 0 a (rw a at w)))
+pub still-stepped : (u : Setup) (t : Target) (f : List ℕ) (x : ℕ) → (x < 4 → ⊥) → (r : Replied) → r ≡ still t x → Stepped u t f x r f
+unfolding bit
+still-stepped u t f x h r er = rw (still-is u t f x h) (er, refl)
 
-pub accepts-on : (u : Setup) (t : Target) (f : List ℕ) (x n : ℕ) → n ≡ refusal-on u t f x → n ≡ 0 → (known-on u t f ≡ true) × (is-step x ≡ true)
-unfolding refusal-on
-accepts-on u t f x n e h =
-    let p = passes (known-on u t f) (cond (is-step x) 0 no-step) no-point (omega arith) (sym e ∙ h) in
-    (p .0, passes (is-step x) 0 no-step (omega arith) (p .1) .0)
+-- a step that is refused (`is-refused`), and one that is not (`is-accepted`)
+module _ (u : Setup) (t : Target) (f : List ℕ) (x m : ℕ) (e : m ≡ step-refusal u t f x) where
+  pub is-refused : (m ≡ 0 → ⊥) → (record { number = m; reply = 1; target = t } ≡ answer u t f x) × (f ≡ flash-after u t f x)
+  unfolding answer flash-after
+  is-refused h = rw (sym e, ne-eqb m 0 h) (refl, refl)
 
--- from a state that exists, with settings that pass, `answer-on` and `answer` are the same step
-pub same-on : (u : Setup) (t : Target) (f : List ℕ) (x : ℕ) → settings-refusal (u .settings) ≡ 0 → known u t f ≡ true
-    → (answer-on u t f x ≡ answer u t f x) × (flash-on u t f x ≡ flash-after u t f x)
-unfolding answer-on answer flash-on flash-after refusal-on step-refusal
-same-on u t f x s k = rw (s, k, exists-on u t f k) (refl, refl)
+  pub is-accepted : m ≡ 0 → (r : Replied) (f₁ : List ℕ) → Stepped u t f x r f₁ → (r ≡ answer u t f x) × (f₁ ≡ flash-after u t f x)
+  unfolding answer flash-after
+  is-accepted h r f₁ k = rw (sym e ∙ h) k
+
+-- an accepted step is one of a state that exists, and a step (`accepts`), with settings and wanted pairs that
+-- pass (`passes-setup`), and so with settings that pass (`passes-settings`)
+module _ (u : Setup) (t : Target) (f : List ℕ) (x n : ℕ) (e : n ≡ step-refusal u t f x) (h : n ≡ 0) where
+  zero-so : step-refusal u t f x ≡ 0
+  zero-so = sym e ∙ h
+
+  pub passes-setup : setup-refusal u ≡ 0
+  unfolding step-refusal
+  passes-setup =
+      by-test (eqb (setup-refusal u) 0) (λ a. eqb-true (setup-refusal u) 0 a) (λ a. absurd (eqb-false (setup-refusal u) 0 a (rw a at zero-so)))
+
+  pub passes-settings : settings-refusal (u .settings) ≡ 0
+  unfolding setup-refusal
+  passes-settings =
+      by-test (eqb (settings-refusal (u .settings)) 0) (λ a. eqb-true (settings-refusal (u .settings)) 0 a)
+      (λ a. absurd (eqb-false (settings-refusal (u .settings)) 0 a (rw a at passes-setup)))
+
+  pub accepts : (known u t f ≡ true) × (is-step x ≡ true)
+  unfolding step-refusal
+  accepts =
+      let p = passes (known u t f) (cond (is-step x) 0 no-step) no-point (omega arith) (rw passes-setup at zero-so) in
+      (p .0, passes (is-step x) 0 no-step (omega arith) (p .1) .0)

@@ -1,11 +1,10 @@
 -- For the code, which gives reply and target and writes the flash apart: parts of what the definitions give.
--- `strobe-answered` and `still-answered` of proofs/Laws/Target, `strobed-flash` of proofs/Laws/Flash and
--- `on-behind` of proofs/Laws/Known join them to the definitions.
-use mathlib.Core.Bool.{Bool, cond, _&&_}
+-- `is-strobe` and `still-is` of proofs/Laws/Target and `strobed-flash` of proofs/Laws/Flash join them to the
+-- definitions.
+use mathlib.Core.Bool.{true, cond}
 use mathlib.Core.List.{List}
-use Prim.Native.Nat.{ℕ, _*_}
-use lib.Dec.{eqb, leb}
-use lib.ListN.{length}
+use Prim.Native.Nat.{ℕ}
+use lib.Dec.{eqb}
 use Rattle.c2_wire.specs.Bits.{bit}
 use Rattle.settings.specs.declared.Settings.{Settings}
 use Rattle.c2_target.specs.declared.Effect.{Effect}
@@ -19,7 +18,6 @@ use Rattle.c2_target_step.specs.declared.Taking.{Taking}
 use Rattle.c2_target.specs.Commands.{Put-taken, takes-put}
 use Rattle.c2_target.specs.Interface.{Acted, linked}
 use Rattle.c2_target.specs.Strobes.{target, Turn}
-use Rattle.c2_target.specs.Known.{is-byte, known-link}
 use Rattle.c2_target.specs.Target.{after-reset, after-pause}
 
 -- what a step gives that is not refused
@@ -30,11 +28,9 @@ replying r t = record { number = 0; reply = r; target = t }
 abbrev pub turn-replied : Turn → Replied
 turn-replied r = replying (bit (r .reply)) (r .target)
 
--- what a step gives that is no strobe, by the number of its refusal
-abbrev pub still : (number : ℕ) → Target → (step : ℕ) → Replied
-still n t x =
-    cond (eqb n 0) (replying 1 (cond (eqb x 4) (after-reset t) (cond (eqb x 5) (after-pause t) t)))
-    (record { number = n; reply = 1; target = t })
+-- what a step gives that is no strobe
+abbrev pub still : Target → (step : ℕ) → Replied
+still t x = replying 1 (cond (eqb x 4) (after-reset t) (cond (eqb x 5) (after-pause t) t))
 
 -- the target after a frame's STOP
 abbrev pub stopped : Target → Acted → Target
@@ -44,11 +40,12 @@ stopped t a = target Start (a .place) (t .collision) (a .device)
 abbrev pub put-taking : Put-taken → Taking
 put-taking r = record { command = r .command; output = r .output }
 
--- the flash after a frame's STOP, by what the frame does: only a put changes it
+-- The flash after a frame's STOP, by what the frame does: only a put changes it, whether the device is
+-- prepared or not.
 abbrev pub effect-flash : Settings → Effect → Device → List ℕ → List ℕ
 effect-flash s Nothing d f = f
 effect-flash s (SetAddress a) d f = f
-effect-flash s (Write b) d f = cond (linked s d) (takes-put s (d .link .command) b f .flash) f
+effect-flash s (Write b) d f = cond (linked s d) (takes-put s true (d .link .command) b f .flash) f
 effect-flash s CountDown d f = f
 effect-flash s Read d f = f
 
@@ -65,11 +62,3 @@ strobe-flash s (Wait n e) d f = f
 strobe-flash s (Waiting z n e) d f = f
 strobe-flash s (Send n v e) d f = f
 strobe-flash s (Stop e) d f = effect-flash s e d f
-
--- whether a device exists, before a flash of this length
-unfoldable pub known-device : Settings → Device → (end : ℕ) → Bool
-known-device s d end = is-byte (d .address) && (leb (d .keys) 3 && known-link (s .count) end (d .link))
-
--- whether a device exists, and the flash before it has the right length
-unfoldable pub known-behind : Settings → Device → (flash : List ℕ) → Bool
-known-behind s d f = eqb (length f) (s .size * s .count) && known-device s d (length f)

@@ -1,55 +1,58 @@
 -- The claims of specs/Whole.antt: lists of calls by the laws of c2_calls, the target by its theorem, and each cut
 -- by c2_cut.
 use mathlib.Core.Path.{_≡_, refl, sym, ap, _∙_, subst⁻¹}
+use mathlib.Core.Bool.{true, false}
 use mathlib.Core.List.{List, [], _∷_, append-nil}
 use Prim.Native.Nat.{ℕ, zero, suc, _+_, _*_, _/_, _≤_}
 use native.Mathlib.Omega.{arith}
 use borrow.Author.Tests.{eq-eqb, eqb-true}
 use lib.Dec.{eqb}
 use lib.ListN.{length, take, drop, replicate, length-replicate}
-use Rattle.laws.proofs.Tests.{passes}
+use Rattle.laws.proofs.Tests.{passes, by-test}
 use Rattle.exchange.specs.Calls.{call-done, call-heard, told, in-a-row, May-follow}
 use Rattle.numbers.specs.Numbers.{running, bad-record}
 use Rattle.numbers.specs.Numbers
-use Rattle.c2_wire.specs.Exchange.{Exchange, ended, ask, at, Outcome, outcome, asks, steps, taken, fed, outcome-of}
-use Rattle.settings.specs.declared.Settings.{Settings}
+use Rattle.c2_wire.specs.Exchange.{Exchange, ended, ask, at, Outcome, outcome, taken, fed, outcome-of}
 use Rattle.settings.specs.Accepted.{settings-refusal}
 use Rattle.settings.specs.Opening.{opening-refusal}
+use Rattle.settings.proofs.Laws.Accepted.{facts}
 use Rattle.settings.proofs.Laws.Opening.{settings-pass}
-use Rattle.settings.proofs.Laws.Opening as Facts
 use Rattle.c2_order.specs.Order.{Page, pages, rising, session-order}
-use Rattle.c2_order.specs.Conversation.{Positive, session-limits}
+use Rattle.c2_order.specs.Conversation.{limits-of}
 use Rattle.c2_order.specs.Point.{begin, reached}
 use Rattle.c2_order.specs.Figure.{figure}
 use Rattle.c2_order.specs.Claims.{Opening, exchange-of}
+use Rattle.c2_order.proofs.Laws.Conversation.{limits-positive}
 use Rattle.c2_order.proofs.Laws.Point.{begin-says}
-use Rattle.c2_order.proofs.Laws.Claims.{points-exist, figure-falls}
+use Rattle.c2_order.proofs.Laws.Claims.{start-bounds, points-exist, figure-falls}
 use Rattle.c2_target.specs.declared.Target.{Target}
 use Rattle.c2_target.specs.Delays.{Setup, setup}
 use Rattle.c2_target.specs.Target.{fresh}
 use Rattle.c2_target.specs.Steps.{own-replies, left-by}
 use Rattle.c2_target.specs.Steps
 use Rattle.c2_target.proofs.Laws.Known.{Lent, known-says}
-use Rattle.c2_play.specs.Playing.{Own-replies, answered-steps, played-after, run-replies, whole-step}
-use Rattle.c2_play.specs.Programmed.{Met, Programmed, laid-over}
-use Rattle.c2_play.specs.Pages.{with-pages, Named, Meets}
-use Rattle.c2_play.proofs.Laws.LeftBy.{Lasts, own-replies-program}
-use Rattle.c2_play.proofs.Laws.OwnReplies.{own-ends, played-replies}
-use Rattle.c2_play.proofs.Laws.Fresh.{fresh-met}
-use Rattle.c2_play.proofs.Laws.Rise.{rising-named}
-use Rattle.c2_play.proofs.Laws.Rise
-use Rattle.c2_play.proofs.Laws.WholeStep as Theorem
-use Rattle.c2_cut.specs.Cut.{Cut, numbers}
-use Rattle.c2_cut.proofs.Laws.Again.{pages-again, same-place}
+use Rattle.c2_play.specs.Playing.{Played, whole-step}
+use Rattle.c2_play.specs.Pages.{with-pages}
+use Rattle.c2_play.specs.Job.{Job, first-of, job-pages, programmed}
+use Rattle.c2_play.proofs.Laws.Playing.{played-out, played-left}
+use Rattle.c2_play.proofs.Laws.Programmed.{Suits, Programmed}
+use Rattle.c2_play.proofs.Laws.Programmed as Play
+use Rattle.c2_target.proofs.Laws.Steps.{Lasts}
+use Rattle.c2_play.proofs.Laws.OwnReplies.{sent, Own-replies, own-along, own-left, own-ends, enough-end, out-given}
+use Rattle.c2_play.proofs.Laws.Fresh.{fresh-suits}
+use Rattle.c2_play.proofs.Laws.Rise.{rising-length}
+use Rattle.c2_play.proofs.Laws.Job.{rising-pages, session-named, session-meets, job-opening, job-programmed, job-turned-away}
+use Rattle.c2_cut.specs.Cut.{Cut}
+use Rattle.c2_cut.proofs.Laws.Again.{numbers, pages-again, same-place}
 use Rattle.c2_cut.proofs.Laws.ByReplies.{cuts-by-replies}
-use Rattle.c2_calls.specs.Calls.{Call, opening, taking, opening-number, refusal}
+use Rattle.c2_calls.specs.Calls.{Call, taking, opening-number, refusal}
 use Rattle.c2_calls.specs.Family.{C2, Told, replies-of, by-replies}
 use Rattle.c2_calls.proofs.Laws.Claims.{refused-keeps}
 use Rattle.c2_calls.proofs.Laws.Family.{c2-lists, accepts}
 use Rattle.c2_calls.proofs.Laws.Family as Lists
-use Rattle.c2_whole.specs.Whole.{Job, first-of, opening-call, Begins, job-pages, programmed, anew, Bench, replies, bench-after, Ready, steps-sent, Own, Whole, Calls-program, Calls-alike, Like-one-call, Calls-exist, Fresh-ready}
+use Rattle.c2_whole.specs.Whole.{opening-call, at-opening, Begins, anew, Bench, replies, bench-after, Ready, prepares, steps-sent, bench-cut, Own, Calls-program, Calls-alike, Like-one-call, Calls-exist, Fresh-ready}
 use Rattle.c2_whole.proofs.Laws.Target.{stands, bench, ready, replies-alike, given-alike}
-use Rattle.c2_whole.proofs.Laws.Bench.{met-along, last-keeps}
+use Rattle.c2_whole.proofs.Laws.Bench.{suits-along, ended-along}
 
 module _ (j : Job) (held : List ℕ) (g : Begins held j) where
   abbrev first : ℕ
@@ -60,15 +63,15 @@ module _ (j : Job) (held : List ℕ) (g : Begins held j) where
   halves = let p = passes (eqb (length held) 32) _ bad-record (omega arith) (g .accepted) in (eqb-true (length held) 32 (p .0), p .1)
 
   opening-of : Opening (j .settings) first (j .image)
-  opening-of = record { id = g .id; fpdat = g .fpdat; bytes = g .bytes; accepted = halves .1 }
+  opening-of = job-opening j (g .proper) (halves .1)
 
   -- the opening tells what no replies do
-  starts : (before : Told) → call-heard C2 before (opening-call held j) ≡ by-replies (j .settings) first (j .image) []
+  starts : (before : Told) → at-opening before held j ≡ by-replies (j .settings) first (j .image) []
   unfolding call-heard call-done
   starts before = rw (eq-eqb (refusal (opening-call held j)) 0 (g .accepted)) (Lists.opens (j .settings) first (j .image) opening-of before held)
 
   -- a list of calls tells what its replies in a row come to
-  told-are : (before : Told) (calls : List Call) → May-follow C2 (j .image) (call-heard C2 before (opening-call held j)) calls
+  told-are : (before : Told) (calls : List Call) → May-follow C2 (j .image) (at-opening before held j) calls
       → told C2 before (opening-call held j ∷ calls) ≡ by-replies (j .settings) first (j .image) (in-a-row C2 calls)
   unfolding told
   told-are before calls m =
@@ -80,14 +83,14 @@ module _ (j : Job) (held : List ℕ) (g : Begins held j) where
   unfolding by-replies reached
   bounds rs =
       let acts = session-order (j .settings) first (j .image) in
-      let p : Positive session-limits = record { wait = omega arith; reads = omega arith } in
-      let there = points-exist session-limits (j .settings) first (j .image) p opening-of [] in
-      rw (begin-says session-limits p acts) at (figure-falls session-limits (j .settings) first (j .image) p opening-of (begin acts) there rs)
+      let p = limits-positive (j .settings) (facts (j .settings) (settings-pass (j .settings) first (length (j .image)) (halves .1))) in
+      let there = points-exist (limits-of (j .settings)) (j .settings) first (j .image) p opening-of [] in
+      rw (begin-says (limits-of (j .settings)) p acts) at (figure-falls (limits-of (j .settings)) (j .settings) first (j .image) p opening-of (begin acts) there rs)
 
   -- one call after the opening that takes these replies: it is accepted, its replies in a row are these, and it
   -- may follow
   abbrev one : (before : Told) → (rs buffer : List ℕ) → Call
-  one before rs buffer = taking (call-heard C2 before (opening-call held j) .held) (j .image) rs buffer 0
+  one before rs buffer = taking (at-opening before held j .held) (j .image) rs buffer 0
 
   one-accepted : (before : Told) (rs buffer : List ℕ) → length rs ≤ length buffer → refusal (one before rs buffer) ≡ 0
   unfolding by-replies
@@ -97,35 +100,14 @@ module _ (j : Job) (held : List ℕ) (g : Begins held j) where
   unfolding in-a-row replies-of
   one-row before rs buffer h = rw (eq-eqb (refusal (one before rs buffer)) 0 (one-accepted before rs buffer h)) (append-nil rs)
 
-  one-follows : (before : Told) (rs buffer : List ℕ) → May-follow C2 (j .image) (call-heard C2 before (opening-call held j)) (one before rs buffer ∷ [])
+  one-follows : (before : Told) (rs buffer : List ℕ) → May-follow C2 (j .image) (at-opening before held j) (one before rs buffer ∷ [])
   one-follows before rs buffer = ((λ _. (refl, refl)), tt)
 
--- what holds of a list of rising pages
-rising-length : (n first : ℕ) → length (rising first n) ≡ n
-unfolding rising
-rising-length zero first = refl
-rising-length (suc n) first = ap suc (rising-length n (suc first))
-
+-- pages of the same numbers
 same-numbers : (size n first o q : ℕ) (a b : List ℕ) → numbers (pages size o (rising first n) a) ≡ numbers (pages size q (rising first n) b)
 unfolding pages rising
 same-numbers size zero first o q a b = refl
 same-numbers size (suc n) first o q a b = ap (λ (xs : List ℕ). first ∷ xs) (same-numbers size n (suc first) (o + size) (q + size) (drop size a) (drop size b))
-
-abbrev rising-pages : Settings → (first : ℕ) → (image : List ℕ) → List Page
-rising-pages t first image = pages (t .size) 0 (rising first (length image / t .size)) image
-
-named-is : (t : Settings) (first : ℕ) (image : List ℕ) → Opening t first image → Named t (rising-pages t first image)
-named-is t first image o =
-    let x = Facts.opened t first (length image) (o .accepted) in
-    rising-named t (length image / t .size) first 0 image (omega (arith, x .whole)) (o .bytes) (x .inside)
-
-laid-is : (j : Job) (held : List ℕ) → Begins held j → (f : List ℕ) → length f ≡ j .settings .size * j .settings .count
-    → laid-over (first-of (j .pages) * j .settings .size) (j .image) f ≡ programmed j f
-laid-is j held g f e =
-    let t = j .settings in
-    let o = Facts.opened t (first-of (j .pages)) (length (j .image)) (halves j held g .1) in
-    sym (ap (λ (ps : List ℕ). with-pages (t .size) (pages (t .size) 0 ps (j .image)) f) (g .rising)
-    ∙ Rise.laid-is t (first-of (j .pages)) (j .image) f o e)
 
 -- an exchange whose outcome is not running has ended
 over : (z : Exchange) → (outcome-of z .number ≡ running → ⊥) → (q : Outcome) × (z ≡ ended q)
@@ -135,25 +117,25 @@ over (ask a k) h = absurd (h refl)
 
 module _ (j : Job) (held : List ℕ) (g : Begins held j) (rs : List ℕ) (b : Bench) (r : Ready (j .settings) b) where
   abbrev e : Exchange
-  e = exchange-of session-limits (j .settings) (first-of (j .pages)) (j .image)
+  e = exchange-of (limits-of (j .settings)) (j .settings) (first-of (j .pages)) (j .image)
 
   abbrev x : Told
   x = by-replies (j .settings) (first-of (j .pages)) (j .image) rs
 
   abbrev u : Setup
-  u = setup (j .settings) (b .delays)
+  u = setup (j .settings) (b .wanted) (b .delays)
 
   abbrev y : Target
   y = stands (j .settings) b r .target
 
-  abbrev m : Met session-limits u y (b .flash)
-  m = stands (j .settings) b r .met
+  abbrev m : Suits (limits-of (j .settings)) u y (b .flash)
+  m = stands (j .settings) b r .suits
 
   ok : settings-refusal (j .settings) ≡ 0
   ok = settings-pass (j .settings) (first-of (j .pages)) (length (j .image)) (opening-of j held g .accepted)
 
   lent : Lent u
-  lent = record { id = g .id; delays = r .delays; wait = omega arith }
+  lent = record { id = g .proper .settings .id; delays = r .delays; wait = m .some }
 
   lasts : Lasts u y (b .flash)
   lasts = record { bytes = r .flash; exists = m .state }
@@ -161,115 +143,130 @@ module _ (j : Job) (held : List ℕ) (g : Begins held j) (rs : List ℕ) (b : Be
   sized : length (b .flash) ≡ j .settings .size * j .settings .count
   sized = known-says u y (b .flash) (m .state) .flash
 
-  here : b ≡ bench (b .delays) y (b .flash)
-  here i = record { target = stands (j .settings) b r .state i; flash = b .flash; delays = b .delays }
+  here : b ≡ bench (b .wanted) (b .delays) y (b .flash)
+  here i = record { wanted = b .wanted; target = stands (j .settings) b r .state i; flash = b .flash; delays = b .delays }
 
   -- the target after steps, and its replies, by the definitions of the session's side
-  at-steps : (xs : List ℕ) → bench-after (j .settings) b xs ≡ bench (b .delays) (left-by u y (b .flash) xs .target) (left-by u y (b .flash) xs .flash)
-  at-steps xs = ap (λ (z : Bench). bench-after (j .settings) z xs) here ∙ given-alike (j .settings) (b .delays) ok lent xs y (b .flash) lasts
+  at-steps : (xs : List ℕ) → bench-after (j .settings) b xs ≡ bench (b .wanted) (b .delays) (left-by u y (b .flash) xs .target) (left-by u y (b .flash) xs .flash)
+  at-steps xs = ap (λ (z : Bench). bench-after (j .settings) z xs) here ∙ given-alike (j .settings) (b .wanted) (b .delays) ok (g .proper .settings .wait) lent xs y (b .flash) lasts
 
-  sent-is : steps-sent (by-replies (j .settings) (first-of (j .pages)) (j .image) rs) ≡ asks e ∷ steps e rs
+  sent-is : steps-sent (by-replies (j .settings) (first-of (j .pages)) (j .image) rs) ≡ sent e rs
   unfolding by-replies
   sent-is = refl
 
   replies-there : replies (j .settings) b (take (taken e rs) (steps-sent (by-replies (j .settings) (first-of (j .pages)) (j .image) rs)))
-      ≡ own-replies u y (b .flash) (answered-steps e rs)
-  unfolding answered-steps
+      ≡ own-replies u y (b .flash) (take (taken e rs) (sent e rs))
   replies-there =
       ap (λ (l : List ℕ). replies (j .settings) b (take (taken e rs) l)) sent-is
-      ∙ ap (λ (z : Bench). replies (j .settings) z (take (taken e rs) (asks e ∷ steps e rs))) here
-      ∙ replies-alike (j .settings) (b .delays) ok lent (take (taken e rs) (asks e ∷ steps e rs)) y (b .flash) lasts
+      ∙ ap (λ (z : Bench). replies (j .settings) z (take (taken e rs) (sent e rs))) here
+      ∙ replies-alike (j .settings) (b .wanted) (b .delays) ok (g .proper .settings .wait) lent (take (taken e rs) (sent e rs)) y (b .flash) lasts
 
   own-there : Own-replies u y (b .flash) e rs → Own (j .settings) b (by-replies (j .settings) (first-of (j .pages)) (j .image) rs) rs
   unfolding by-replies
   own-there h = h ∙ sym replies-there
+
+  -- the run to its end against that target
+  abbrev out : Played
+  out = played-out (whole-step u) e y (b .flash)
 
   module _ (own : Own (j .settings) b (by-replies (j .settings) (first-of (j .pages)) (j .image) rs) rs) where
     own-is-own : Own-replies u y (b .flash) e rs
     unfolding by-replies
     own-is-own = own ∙ replies-there
 
-    -- what the target's theorem says of these replies: where they are enough, and where the session has ended
-    abbrev Ends : Type 0
-    Ends = Programmed (laid-over (first-of (j .pages) * j .settings .size) (j .image) (b .flash)) (played-after u e y (b .flash) rs)
-
-    enough : figure session-limits (begin (session-order (j .settings) (first-of (j .pages)) (j .image))) ≤ length rs → Ends
-    enough h = own-replies-program session-limits u (first-of (j .pages)) (j .image) y (b .flash) rs (opening-of j held g) m own-is-own h
-
-    at-end : (q : Outcome) → fed e rs ≡ ended q → Ends
+    -- where these replies have ended the session, it has ended as the run to its end has
+    at-end : (q : Outcome) → fed e rs ≡ ended q → outcome-of (fed e rs) ≡ outcome-of (out .left)
     at-end q h =
-        rw (own-ends u e y (b .flash) rs q own-is-own h) at (Theorem.programmed session-limits u (first-of (j .pages)) (j .image) y (b .flash) (opening-of j held g) m)
+        ap outcome-of (own-left u e y (b .flash) rs own-is-own)
+        ∙ ap (λ (z : Played). outcome-of (z .left)) (own-ends u (taken e rs) e y (b .flash) rs q own-is-own h (omega arith))
 
-    pub ends : figure session-limits (begin (session-order (j .settings) (first-of (j .pages)) (j .image))) ≤ length rs → x .outcome ≡ outcome Numbers.done
-    unfolding by-replies
-    ends h = enough h .ended
+    pub ends : figure (limits-of (j .settings)) (begin (session-order (j .settings) (first-of (j .pages)) (j .image))) ≤ length rs
+        → x .outcome ≡ outcome-of (out .left)
+    unfolding by-replies reached fed
+    ends h =
+        let p = limits-positive (j .settings) (facts (j .settings) ok) in
+        let q = enough-end e (figure (limits-of (j .settings)) (begin (session-order (j .settings) (first-of (j .pages)) (j .image)))) rs
+        (start-bounds (limits-of (j .settings)) (j .settings) (first-of (j .pages)) (j .image) p (opening-of j held g)) h in
+        at-end (q .0) (q .1)
 
-    pub as-done : (x .outcome .number ≡ running → ⊥) → x .outcome ≡ outcome Numbers.done
+    pub as-ended : (x .outcome .number ≡ running → ⊥) → x .outcome ≡ outcome-of (out .left)
     unfolding by-replies
-    as-done h = let q = over (fed e rs) h in at-end (q .0) (q .1) .ended
+    as-ended h = let q = over (fed e rs) h in at-end (q .0) (q .1)
 
     -- the flash after n of the steps
     abbrev F : ℕ → List ℕ
-    F n = bench-after (j .settings) b (take n (steps-sent (by-replies (j .settings) (first-of (j .pages)) (j .image) rs))) .flash
+    F n = bench-cut j b (by-replies (j .settings) (first-of (j .pages)) (j .image) rs) n .flash
 
-    flash-there : (n : ℕ) → F n ≡ left-by u y (b .flash) (take n (asks e ∷ steps e rs)) .flash
+    flash-there : (n : ℕ) → F n ≡ left-by u y (b .flash) (take n (sent e rs)) .flash
     flash-there n =
         ap (λ (l : List ℕ). bench-after (j .settings) b (take n l) .flash) sent-is
-        ∙ ap (λ (z : Bench). z .flash) (at-steps (take n (asks e ∷ steps e rs)))
+        ∙ ap (λ (z : Bench). z .flash) (at-steps (take n (sent e rs)))
 
-    pub holds : x .outcome ≡ outcome Numbers.done → (n : ℕ) → x .taken ≤ n → F n ≡ programmed j (b .flash)
-    unfolding by-replies answered-steps
-    holds d n l =
-        let z : x .outcome .number ≡ running → ⊥ = λ q. let w : Numbers.done ≡ running = sym (ap (λ (o : Outcome). o .number) d) ∙ q in omega arith in
-        let q = over (fed e rs) z in
-        let k = last-keeps u (first-of (j .pages)) (j .image) y (b .flash) rs (opening-of j held g) m own-is-own (q .0) (q .1) n l in
-        flash-there n ∙ ap (λ (s : Steps.State). s .flash) k ∙ at-end (q .0) (q .1) .holds ∙ laid-is j held g (b .flash) sized
+    suits-there : out .target .collision ≡ false → (n : ℕ) → Suits (limits-of (j .settings)) u (left-by u y (b .flash) (take n (sent e rs)) .target) (left-by u y (b .flash) (take n (sent e rs)) .flash)
+    suits-there clean n = suits-along (limits-of (j .settings)) u e y (b .flash) rs own-is-own lent m clean n
 
-    pub stays-ready : (n : ℕ) → Ready (j .settings) (bench-after (j .settings) b (take n (steps-sent (by-replies (j .settings) (first-of (j .pages)) (j .image) rs))))
-    stays-ready n =
-        rw (sent-is, at-steps (take n (asks e ∷ steps e rs)))
-        (ready (j .settings) (b .delays) _ _ ok (met-along u (first-of (j .pages)) (j .image) y (b .flash) rs (opening-of j held g) m own-is-own n))
+    pub stays-ready : out .target .collision ≡ false → (n : ℕ) → Ready (j .settings) (bench-cut j b (by-replies (j .settings) (first-of (j .pages)) (j .image) rs) n)
+    stays-ready clean n =
+        rw (sent-is, at-steps (take n (sent e rs))) (ready (j .settings) (b .wanted) (b .delays) _ _ ok (g .proper .settings .wait) (suits-there clean n))
 
-    flash-sized : (n : ℕ) → length (F n) ≡ j .settings .size * j .settings .count
-    flash-sized n =
-        let k = met-along u (first-of (j .pages)) (j .image) y (b .flash) rs (opening-of j held g) m own-is-own n in
-        ap length (flash-there n) ∙ known-says u _ _ (k .state) .flash
+    -- where the settings' pairs leave the wanted values
+    module _ (leaves : prepares j b ≡ true) where
+      out-programmed : Programmed (programmed j (b .flash)) out
+      out-programmed = job-programmed j (b .wanted) (b .delays) y (b .flash) leaves (g .proper) (halves j held g .1) m
 
-    cut-there : (n : ℕ) → n ≤ suc (taken e rs)
-        → Cut session-limits (j .settings) (rising-pages (j .settings) (first-of (j .pages)) (j .image)) rs n (b .flash) (F n)
-    unfolding session-order
-    cut-there n hn =
-        let ps : List Page = rising-pages (j .settings) (first-of (j .pages)) (j .image) in
-        let meets : Meets session-limits u ps y (b .flash) =
-        record { accepted = ok; id = g .id; fpdat = g .fpdat; named = named-is (j .settings) (first-of (j .pages)) (j .image) (opening-of j held g); met = m } in
-        subst⁻¹ (λ (z : List ℕ). Cut session-limits (j .settings) ps rs n (b .flash) z) (flash-there n)
-        (cuts-by-replies session-limits u ps y (b .flash) rs meets own-is-own n hn)
+      pub holds : x .outcome ≡ outcome Numbers.done → (n : ℕ) → x .taken ≤ n → F n ≡ programmed j (b .flash)
+      unfolding by-replies
+      holds d n l =
+          let z : x .outcome .number ≡ running → ⊥ = λ q. let w : Numbers.done ≡ running = sym (ap (λ (o : Outcome). o .number) d) ∙ q in omega arith in
+          let q = over (fed e rs) z in
+          flash-there n ∙ ap (λ (s : Steps.State). s .flash) (ended-along (limits-of (j .settings)) u e y (b .flash) rs own-is-own (q .0) (q .1) n l) ∙ out-programmed .holds
 
-    pub cut-is : (n : ℕ) → n ≤ suc (by-replies (j .settings) (first-of (j .pages)) (j .image) rs .taken)
-        → Cut session-limits (j .settings) (job-pages j) rs n (b .flash) (F n)
-    unfolding by-replies
-    cut-is n hn =
-        subst⁻¹ (λ (ps : List ℕ). Cut session-limits (j .settings) (pages (j .settings .size) 0 ps (j .image)) rs n (b .flash) (F n)) (g .rising) (cut-there n hn)
+      flash-sized : (n : ℕ) → length (F n) ≡ j .settings .size * j .settings .count
+      flash-sized n = ap length (flash-there n) ∙ known-says u _ _ (suits-there (out-programmed .clean) n .state) .flash
 
-    pub again-is : (n : ℕ) → n ≤ suc (by-replies (j .settings) (first-of (j .pages)) (j .image) rs .taken)
-        → (lent2 image : List ℕ) → Begins lent2 (anew j image) → programmed (anew j image) (F n) ≡ programmed (anew j image) (b .flash)
-    unfolding by-replies
-    again-is n hn lent2 image g2 =
-        let t = j .settings in
-        let first : ℕ = first-of (j .pages) in
-        let c = cut-there n hn in
-        let ps : List Page = rising-pages t first (j .image) in
-        let qs : List Page = rising-pages t first image in
-        let count : length image / t .size ≡ length (j .image) / t .size =
-        sym (rising-length (length image / t .size) first) ∙ ap length (sym (g2 .rising) ∙ g .rising) ∙ rising-length (length (j .image) / t .size) first in
-        let nums : numbers qs ≡ numbers ps =
-        ap (λ (k : ℕ). numbers (pages (t .size) 0 (rising first k) image)) count ∙ same-numbers (t .size) (length (j .image) / t .size) first 0 0 image (j .image) in
-        let here : (f : List ℕ) → programmed (anew j image) f ≡ with-pages (t .size) qs f =
-        λ f. ap (λ (l : List ℕ). with-pages (t .size) (pages (t .size) 0 l image) f) (g2 .rising) in
-        here (F n)
-        ∙ pages-again t qs (b .flash) (F n) (named-is t first image (opening-of (anew j image) lent2 g2)) sized (flash-sized n)
-        (λ q hq off. c .unnamed q hq (λ i p a eq. let z = same-place qs ps nums i p a in off i (z .0) (z .1) (z .2 ∙ eq)))
-        ∙ sym (here (b .flash))
+      cut-there : (n : ℕ) → n ≤ suc (taken e rs)
+          → Cut (limits-of (j .settings)) (j .settings) (rising-pages (j .settings) (first-of (j .pages)) (j .image)) rs n (b .flash) (F n)
+      unfolding session-order
+      cut-there n hn =
+          let ps : List Page = rising-pages (j .settings) (first-of (j .pages)) (j .image) in
+          subst⁻¹ (λ (z : List ℕ). Cut (limits-of (j .settings)) (j .settings) ps rs n (b .flash) z) (flash-there n)
+          (cuts-by-replies (limits-of (j .settings)) u ps y (b .flash) rs leaves (session-meets (limits-of (j .settings)) u (first-of (j .pages)) (j .image) y (b .flash) (opening-of j held g) m) own-is-own n hn)
+
+      pub cut-is : (n : ℕ) → n ≤ suc (by-replies (j .settings) (first-of (j .pages)) (j .image) rs .taken)
+          → Cut (limits-of (j .settings)) (j .settings) (job-pages j) rs n (b .flash) (F n)
+      unfolding by-replies
+      cut-is n hn =
+          subst⁻¹ (λ (ps : List ℕ). Cut (limits-of (j .settings)) (j .settings) (pages (j .settings .size) 0 ps (j .image)) rs n (b .flash) (F n)) (g .proper .rising) (cut-there n hn)
+
+      pub again-is : (n : ℕ) → n ≤ suc (by-replies (j .settings) (first-of (j .pages)) (j .image) rs .taken)
+          → (lent2 image : List ℕ) → Begins lent2 (anew j image) → programmed (anew j image) (F n) ≡ programmed (anew j image) (b .flash)
+      unfolding by-replies
+      again-is n hn lent2 image g2 =
+          let t = j .settings in
+          let first : ℕ = first-of (j .pages) in
+          let c = cut-there n hn in
+          let ps : List Page = rising-pages t first (j .image) in
+          let qs : List Page = rising-pages t first image in
+          let count : length image / t .size ≡ length (j .image) / t .size =
+          sym (rising-length (length image / t .size) first) ∙ ap length (sym (g2 .proper .rising) ∙ g .proper .rising) ∙ rising-length (length (j .image) / t .size) first in
+          let nums : numbers qs ≡ numbers ps =
+          ap (λ (k : ℕ). numbers (pages (t .size) 0 (rising first k) image)) count ∙ same-numbers (t .size) (length (j .image) / t .size) first 0 0 image (j .image) in
+          let here : (f : List ℕ) → programmed (anew j image) f ≡ with-pages (t .size) qs f =
+          λ f. ap (λ (l : List ℕ). with-pages (t .size) (pages (t .size) 0 l image) f) (g2 .proper .rising) in
+          here (F n)
+          ∙ pages-again t qs (b .flash) (F n) (session-named t first image (opening-of (anew j image) lent2 g2)) sized (flash-sized n)
+          (λ q hq off. c .unnamed q hq (λ i p a eq. let z = same-place qs ps nums i p a in off i (z .0) (z .1) (z .2 ∙ eq)))
+          ∙ sym (here (b .flash))
+
+    -- where they do not
+    module _ (differs : prepares j b ≡ false) where
+      out-turned-away : Play.Turned-away u e y (b .flash)
+      out-turned-away = job-turned-away j (b .wanted) (b .delays) y (b .flash) differs (g .proper) (halves j held g .1) m
+
+      pub unchanged : (n : ℕ) → F n ≡ b .flash
+      unchanged n =
+          let k = own-along u n e y (b .flash) rs own-is-own in
+          flash-there n ∙ ap (λ (s : Steps.State). s .flash) (k .1) ∙ out-turned-away .same (k .0)
 
 pub calls-program : Calls-program
 unfolding by-replies reached
@@ -280,15 +277,25 @@ calls-program j held before calls g m =
       refused = refused-keeps;
       told-is = e;
       bounded = rw (e, starts j held g before) (bounds j held g rs);
-      against = λ b r own.
+      against = λ b r own leaves.
           let o = rw e at own in
+          let p = out-programmed j held g rs b r o leaves in
           rw (e, starts j held g before) (record {
-            ready = stays-ready j held g rs b r o;
-            ends = ends j held g rs b r o;
-            as-done = as-done j held g rs b r o;
-            holds = holds j held g rs b r o;
-            cut = cut-is j held g rs b r o;
-            again = again-is j held g rs b r o;
+            ready = stays-ready j held g rs b r o (p .clean);
+            ends = λ h. ends j held g rs b r o h ∙ p .ended;
+            as-done = λ h. as-ended j held g rs b r o h ∙ p .ended;
+            holds = holds j held g rs b r o leaves;
+            cut = cut-is j held g rs b r o leaves;
+            again = again-is j held g rs b r o leaves;
+          });
+      turned-away = λ b r own differs.
+          let o = rw e at own in
+          let p = out-turned-away j held g rs b r o differs in
+          rw (e, starts j held g before) (record {
+            ready = stays-ready j held g rs b r o (p .clean);
+            unchanged = unchanged j held g rs b r o differs;
+            ends = λ h. ends j held g rs b r o h ∙ p .ended;
+            as-turned-away = λ h. as-ended j held g rs b r o h ∙ p .ended;
           });
     }
 
@@ -304,7 +311,7 @@ like-one-call j held buffer before calls g m h =
     (sym (one-row j held g before (in-a-row C2 calls) buffer h))
 
 pub fresh-ready : Fresh-ready
-fresh-ready t f ds ok n h d = ready t ds f fresh ok (fresh-met t ds f n h d)
+fresh-ready t w f ds ok byte a n h d = ready t w ds f fresh ok byte (fresh-suits t w ds f ok a n h d)
 
 -- one call that takes the target's replies to the end
 pub calls-exist : Calls-exist
@@ -312,10 +319,11 @@ unfolding by-replies outcome-of
 calls-exist j held before b g r =
     let t = j .settings in
     let s = stands t b r in
-    let v = setup t (b .delays) in
-    let z = exchange-of session-limits t (first-of (j .pages)) (j .image) in
-    let rs = run-replies (whole-step v) z (s .target) (b .flash) in
-    let k = played-replies v z (s .target) (b .flash) in
+    let v = setup t (b .wanted) (b .delays) in
+    let z = exchange-of (limits-of t) t (first-of (j .pages)) (j .image) in
+    let out = played-out (whole-step v) z (s .target) (b .flash) in
+    let rs = out .replies in
+    let k = out-given v z (s .target) (b .flash) in
     let buffer : List ℕ = replicate (length rs) 0 in
     let room : length rs ≤ length buffer = omega (arith, length-replicate {A = ℕ} (length rs) 0) in
     let row = one-row j held g before rs buffer room in
@@ -325,6 +333,8 @@ calls-exist j held before b g r =
       calls = one j held g before rs buffer ∷ [];
       follow = follow;
       own = rw (same, row) (own-there j held g rs b r (k .own));
-      ended = ap (λ (x : Told). x .outcome) same ∙ ap outcome-of (k .ends)
-          ∙ Theorem.programmed session-limits v (first-of (j .pages)) (j .image) (s .target) (b .flash) (opening-of j held g) (s .met) .ended;
+      ended = ap (λ (x : Told). x .outcome) same ∙ ap outcome-of (played-left (whole-step v) _ z (s .target) (b .flash))
+          ∙ by-test (prepares j b)
+          (λ q. rw q (job-programmed j (b .wanted) (b .delays) (s .target) (b .flash) q (g .proper) (halves j held g .1) (s .suits) .ended))
+          (λ q. rw q (job-turned-away j (b .wanted) (b .delays) (s .target) (b .flash) q (g .proper) (halves j held g .1) (s .suits) .ended));
     }

@@ -4,13 +4,12 @@ use mathlib.Core.List.{List, [], _∷_, _++_, map}
 use Prim.Native.Nat.{ℕ, zero, suc, _+_, _-_, _≤_}
 use native.Mathlib.Omega.{arith}
 use borrow.Author.Tests.{leb-true}
-use lib.Dec.{leb}
 use lib.ListN.{length, take, drop, length-append}
 use lib.Seq.{take-append-seam, drop-append-seam, length-take-le}
 use Rattle.laws.proofs.Tests.{passes}
 use Rattle.exchange.specs.Exchange.{Exchange, after, brought}
 use Rattle.exchange.specs.Machine.{Sound, Replies-follow, fed}
-use Rattle.exchange.specs.Countdown.{counter, read, said-byte, countdown, unpacked, steps, face, Room}
+use Rattle.exchange.specs.Countdown.{counter, read, said-byte, countdown, unpacked, steps, face}
 use Rattle.exchange.specs.Calls.{Lists-are-replies}
 use Rattle.exchange.specs.Served.{family, Adds-up, by-replies}
 use Rattle.exchange.proofs.Laws.Exchange.{brought-append}

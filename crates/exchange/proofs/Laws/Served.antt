@@ -1,11 +1,11 @@
 -- A sound machine's calls go on by their replies, so their lists are the replies in a row.
-use mathlib.Core.Path.{_≡_, refl, sym, ap, _∙_}
-use mathlib.Core.List.{List, [], _∷_, _++_}
-use mathlib.Core.Option.{Option, some, none}
+use mathlib.Core.Path.{_≡_, ap, _∙_}
+use mathlib.Core.List.{List}
+use mathlib.Core.Option.{some}
 use Prim.Native.Nat.{ℕ}
-use Rattle.exchange.specs.Machine.{Machine, Sound, after-replies, fed}
+use Rattle.exchange.specs.Machine.{Machine, Sound, after-replies}
 use Rattle.exchange.specs.Calls.{Goes-on, Lists-are-replies}
-use Rattle.exchange.specs.Served.{Face, Call, Done, Told, family, Adds-up, by-replies, takes}
+use Rattle.exchange.specs.Served.{Face, family, Adds-up, by-replies}
 use Rattle.exchange.proofs.Laws.Machine.{replies-follow, parts-join}
 use Rattle.exchange.proofs.Laws.Calls.{lists-are-replies}
 

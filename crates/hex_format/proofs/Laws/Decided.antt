@@ -2,16 +2,15 @@
 use mathlib.Core.Path.{_≡_, refl, sym, ap, _∙_}
 use mathlib.Core.Bool.{Bool, true, false, cond}
 use mathlib.Core.List.{List, [], _∷_, _++_, append-assoc, append-nil}
-use mathlib.Core.Logic.{_⊎_, inl, inr}
-use Prim.Native.Nat.{ℕ, zero, suc, _+_, _-_, _*_, _/_, _≤_, _<_}
+use Prim.Native.Nat.{ℕ, zero, suc, _+_, _-_, _*_, _/_, _<_}
 use native.Mathlib.Omega.{arith}
 use borrow.Author.Tests.{eqb-true, eqb-false, ltb-true, ltb-false}
 use lib.Dec.{eqb, ltb}
-use lib.ListN.{length, getD, take, drop, replicate}
+use lib.ListN.{length, take, drop, replicate}
 use Rattle.laws.proofs.Tests.{by-test}
 use Rattle.settings.specs.declared.Settings.{Settings}
 use Rattle.settings.specs.Accepted.{settings-refusal}
-use Rattle.hex_format.specs.Reading.{lines, unset, all-unset, first-set, past-set, bytes, line-taken, Lines-taken, lines-taken, Answer, refused, copied, cut-out, read-answer, hex-read}
+use Rattle.hex_format.specs.Reading.{lines, unset, all-unset, first-set, past-set, bytes, line-taken, Lines-taken, lines-taken, Answer, copied, cut-out, read-answer, hex-read}
 use Rattle.hex_format.specs.Claims.{Set, Ended, Fault-at, Touched, touched-bytes, Decided, Answered-exactly}
 use Rattle.hex_format.proofs.Laws.Cells.{cell, unset-at, some-set, first-there, past-there, set-from, set-below}
 use Rattle.hex_format.proofs.Laws.Steps.{step-on, step-stop}

@@ -1,16 +1,14 @@
 -- What bytes are that read as a command: eight, with the command byte in its place.
-use mathlib.Core.Path.{_≡_, refl, sym, ap, _∙_}
+use mathlib.Core.Path.{_≡_, sym, ap, _∙_}
 use mathlib.Core.List.{List}
 use Prim.Native.Nat.{ℕ, _<_}
 use native.Mathlib.Omega.{arith}
 use lib.ListN.{length, getD}
 use Rattle.radio_command.specs.declared.RadioCommand.{RadioCommand}
-use Rattle.radio_command.specs.declared.CommandRead.{CommandRead}
 use Rattle.radio_command.specs.declared.CommandRead.the-variants.{Is}
 use Rattle.radio_command.specs.Command.{command-byte, built, read-command}
 use Rattle.radio_command.proofs.Laws.Claims.{read-was-built}
-use Rattle.radio.specs.declared.CommandParts.{CommandParts}
-use Rattle.radio.specs.Parts.{parts-of, command-parts}
+use Rattle.radio.specs.Parts.{command-parts}
 
 pub read-long : (m : List ℕ) (c : RadioCommand) → read-command m ≡ Is c → 3 < length m
 unfolding built

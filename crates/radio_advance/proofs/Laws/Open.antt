@@ -1,18 +1,17 @@
 -- An opening, by what it writes.
 use mathlib.Core.Path.{_≡_, refl, sym, ap, _∙_}
-use mathlib.Core.Bool.{Bool, true, false, cond, _&&_}
-use mathlib.Core.List.{List, [], _∷_, _++_, append-assoc, append-nil}
-use Prim.Native.Nat.{ℕ, zero, suc, _+_, _*_, _-_, _≤_, _<_}
+use mathlib.Core.Bool.{true}
+use mathlib.Core.List.{List, _++_, append-assoc, append-nil}
+use Prim.Native.Nat.{ℕ, _+_, _≤_, _<_}
 use native.Mathlib.Omega.{arith}
-use lib.Dec.{eqb, ltb}
 use lib.ListN.{length, take, drop, length-append, length-take, length-drop, drop-of-length-le}
-use lib.Seq.{take-at, drop-at, take-length, length-take-le, drop-drop}
+use lib.Seq.{take-at, take-length}
 use borrow.Author.Tests.{eq-eqb, ne-eqb, lt-ltb, le-ltb, le-leb}
 use borrow.Rule.Slice.PartMut.{midOf, putMid}
 use Rattle.exchange.specs.Exchange.{said}
 use Rattle.exchange.specs.Calls.{call-done}
 use Rattle.radio_job.specs.declared.JobPoint.the-variants.{AsksConfiguration}
-use Rattle.radio_job.specs.Image.{mask-fits, input-number, input-refusal}
+use Rattle.radio_job.specs.Image.{input-number}
 use Rattle.radio_job.specs.Job.{confirmed, fetched, job}
 use Rattle.radio_job.specs.State.{opened-job}
 use Rattle.radio_job.proofs.Laws.Image.{Accepted-input, accepted-input, mask-long}
@@ -21,7 +20,7 @@ use Rattle.radio_record.specs.Record.{point-bytes, packed-job}
 use Rattle.radio_record.proofs.Laws.Claims.{packed-long}
 use Rattle.radio_calls.specs.declared.RadioOpened.{RadioOpened}
 use Rattle.radio_calls.specs.declared.RadioAdvanced.{RadioAdvanced}
-use Rattle.radio_calls.specs.Calls.{RadioCall, job-opens, input-of, room-number, first-number, job-refusal, job-untouched, opens-number}
+use Rattle.radio_calls.specs.Calls.{RadioCall, job-opens, input-of, first-number, job-refusal, job-untouched, opens-number}
 use Rattle.radio_calls.specs.Calls.{opens-answer, takes-answer, message-put, job-does}
 use Rattle.radio_calls.specs.Family.{Radio}
 use Rattle.radio_say.specs.Code.Say.{point-says, may-say, say-answer, say-out}

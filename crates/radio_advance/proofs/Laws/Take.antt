@@ -1,18 +1,17 @@
 -- A call that takes a reply, by the laws of its parts.
 use mathlib.Core.Path.{_≡_, refl, sym, ap, _∙_}
 use mathlib.Core.Bool.{Bool, true, false, cond, _&&_}
-use mathlib.Core.List.{List, [], _∷_, _++_, append-assoc}
+use mathlib.Core.List.{List, _++_, append-assoc}
 use mathlib.Core.Option.{Option, some, none}
-use Prim.Native.Nat.{ℕ, zero, suc, _+_, _*_, _-_, _≤_, _<_}
+use Prim.Native.Nat.{ℕ, _+_, _≤_, _<_}
 use native.Mathlib.Omega.{arith}
-use lib.Dec.{eqb, ltb}
+use lib.Dec.{eqb}
 use lib.ListN.{length, take, drop, length-append, length-take, length-drop}
 use lib.Seq.{take-at, drop-at, take-add, take-take, take-append-le, length-take-le}
 use borrow.Author.Tests.{eq-eqb, ne-eqb, lt-ltb, le-ltb, le-leb, eqb-true}
 use Rattle.laws.proofs.Tests.{by-test}
 use Rattle.exchange.specs.Exchange.{Said, said, after}
 use Rattle.exchange.specs.Calls.{call-done}
-use Rattle.numbers.specs.Numbers.{bad-record, other-image, buffer-too-small}
 use Rattle.radio_job.specs.declared.Ending.{Ending}
 use Rattle.radio_job.specs.declared.JobPoint.{JobPoint}
 use Rattle.radio_job.specs.declared.JobPoint.the-variants.{AsksConfiguration, TakesConfiguration, ErasesArea, FeedsPage}
@@ -20,15 +19,14 @@ use Rattle.radio_job.specs.declared.JobPoint.the-variants.{ErasesConfiguration,
 use Rattle.radio_job.specs.declared.JobPoint.the-variants.{TakesPage, SetsByte1, Finished}
 use Rattle.radio_job.specs.Image.{merged, image-fits}
 use Rattle.radio_job.specs.Job.{Message, JobExchange, take-reply, confirmed, fetched}
-use Rattle.radio_job.specs.State.{JobState, point-leaves, job-left, point-fits, state-fits}
-use Rattle.radio_job.specs.Advance.{length-ending, reply-ending, next-point, page-kept, job-advanced-by, job-advanced}
-use Rattle.radio_job.proofs.Laws.Image.{merged-long, Sized, sized}
-use Rattle.radio_job.proofs.Laws.Fits.{Fitting, fitting, next-fits, ends-fit}
+use Rattle.radio_job.specs.State.{JobState, point-leaves, job-left, point-fits}
+use Rattle.radio_job.specs.Advance.{length-ending, reply-ending, page-kept, job-advanced-by, job-advanced}
+use Rattle.radio_job.proofs.Laws.Image.{merged-long, sized}
+use Rattle.radio_job.proofs.Laws.Fits.{fitting, next-fits, ends-fit}
 use Rattle.radio_job.proofs.Laws.Advance.{advances}
 use Rattle.radio_record.specs.declared.JobKept.{JobKept}
 use Rattle.radio_record.specs.declared.JobKept.the-variants.{Keeps, KeepsNone}
 use Rattle.radio_record.specs.Record.{mask-of, point-bytes, packed-job, job-kept, kept-state, unpacked-job}
-use Rattle.radio_record.specs.Claims.{Job-record}
 use Rattle.radio_record.proofs.Laws.Record.{point-bytes-long}
 use Rattle.radio_record.proofs.Laws.Claims.{packed-long, kept-record}
 use Rattle.radio_calls.specs.declared.RadioAdvanced.{RadioAdvanced}

@@ -1,34 +1,29 @@
 -- A job's calls go on by their replies, so their lists are the replies in a row.
 use mathlib.Core.Path.{_≡_, refl, sym, ap, _∙_}
-use mathlib.Core.Bool.{Bool, true, false, cond}
 use mathlib.Core.List.{List, [], _∷_, _++_}
-use mathlib.Core.Option.{Option, some, none}
+use mathlib.Core.Option.{Option, some}
 use Prim.Native.Nat.{ℕ}
-use native.Mathlib.Omega.{arith}
-use lib.Dec.{eqb}
-use lib.ListN.{length, take, drop}
+use lib.ListN.{length, drop}
 use lib.Seq.{take-append-seam}
-use borrow.Author.Tests.{eqb-true, eq-eqb}
-use Rattle.laws.proofs.Tests.{by-test}
-use Rattle.exchange.specs.Exchange.{Said, asks, ends, said, after, fed, ended, ask}
+use Rattle.exchange.specs.Exchange.{Said, asks, ends, said, after, fed}
 use Rattle.exchange.specs.Machine.{Machine, Sound, after-replies, Replies-follow}
 use Rattle.exchange.specs.Machine as Machines
-use Rattle.exchange.specs.Calls.{Family, call-done, call-heard, Goes-on, Lists-are-replies, Lists-alike}
+use Rattle.exchange.specs.Calls.{Goes-on, Lists-are-replies, Lists-alike}
 use Rattle.exchange.proofs.Laws.Exchange.{fed-append}
 use Rattle.exchange.proofs.Laws.Machine.{replies-follow, parts-join}
 use Rattle.exchange.proofs.Laws.Calls.{lists-are-replies, lists-alike}
 use Rattle.radio_job.specs.declared.Ending.{Ending}
 use Rattle.radio_job.specs.Image.{JobInput, input-refusal}
-use Rattle.radio_job.specs.Job.{Message, JobExchange, take-reply, still-runs, fetched, confirmed, job}
-use Rattle.radio_job.specs.State.{JobState, opened-job, job-left, state-fits}
+use Rattle.radio_job.specs.Job.{Message, JobExchange, take-reply, still-runs, job}
+use Rattle.radio_job.specs.State.{JobState, opened-job, job-left}
 use Rattle.radio_job.specs.Advance.{job-advanced}
 use Rattle.radio_job.proofs.Laws.Advance.{advances}
 use Rattle.radio_job.proofs.Laws.Fits.{fitting, stays-fit, stays-long, opened-fits}
 use Rattle.radio_record.specs.Record.{packed-job, unpacked-job}
 use Rattle.radio_record.proofs.Laws.Claims.{packed-back}
-use Rattle.radio_calls.specs.Calls.{RadioCall, job-opens, job-takes, input-of, room-number, first-number, later-number, job-refusal}
-use Rattle.radio_calls.specs.Calls.{job-untouched, job-does, Takes-done, takes-reply, takes-answer, message-of, message-put}
-use Rattle.radio_calls.specs.Family.{Radio, RadioTold, job-hears, Job-as-left, job-replies, job-machine, job-state-after, ending-of}
+use Rattle.radio_calls.specs.Calls.{job-opens, job-takes}
+use Rattle.radio_calls.specs.Calls.{job-does, takes-reply, takes-answer, message-of, message-put}
+use Rattle.radio_calls.specs.Family.{Radio, RadioTold, job-hears, job-replies, job-machine, job-state-after, ending-of}
 use Rattle.radio_calls.specs.Family.{expect-of, by-job}
 
 pub job-sound : Sound job-machine

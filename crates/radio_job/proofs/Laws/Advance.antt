@@ -1,22 +1,22 @@
 -- The state after a reply leaves to say what the reply leaves of the exchange.
-use mathlib.Core.Path.{_≡_, refl, sym, ap, _∙_}
-use mathlib.Core.Bool.{Bool, true, false, cond}
+use mathlib.Core.Path.{_≡_, sym, ap, _∙_}
+use mathlib.Core.Bool.{true, false, cond}
 use mathlib.Core.List.{List, [], _∷_}
-use Prim.Native.Nat.{ℕ, zero, suc, _+_, _*_, _≤_, _<_}
+use Prim.Native.Nat.{ℕ, suc, _+_, _≤_, _<_}
 use native.Mathlib.Numerals.{add-one}
 use native.Mathlib.Omega.{arith}
 use lib.Dec.{eqb, ltb}
 use lib.ListN.{length, drop}
-use borrow.Author.Tests.{ltb-true, ltb-false, eqb-true, eqb-false, ne-eqb}
+use borrow.Author.Tests.{ltb-true, ltb-false, eqb-true}
 use Rattle.laws.proofs.Tests.{by-test}
-use Rattle.exchange.specs.Exchange.{ended, ask, after}
+use Rattle.exchange.specs.Exchange.{ended, after}
 use Rattle.radio_command.specs.Command.{read-command}
 use Rattle.radio_job.specs.declared.Ending.{Ending}
 use Rattle.radio_job.specs.declared.JobPoint.{JobPoint}
 use Rattle.radio_job.specs.declared.JobPoint.the-variants.{AsksConfiguration, TakesConfiguration, ErasesArea, FeedsPage}
 use Rattle.radio_job.specs.declared.JobPoint.the-variants.{ErasesConfiguration, SetsConfiguration, SetsByte0, AsksPage, TakesPage}
 use Rattle.radio_job.specs.declared.JobPoint.the-variants.{SetsByte1, Finished}
-use Rattle.radio_job.specs.Image.{pages-for, page-count, image-pages, image-page, merged}
+use Rattle.radio_job.specs.Image.{page-count, image-pages, image-page}
 use Rattle.radio_job.specs.Job.{JobExchange, unless, take-reply, say, answer-ending, confirmed, fetched, fed-pages, page-ending}
 use Rattle.radio_job.specs.Job.{pages-compared, protects, sets-byte-0, restores, ends-bad, ends-done}
 use Rattle.radio_job.specs.State.{JobState, point-leaves, job-left, ending-fits, point-fits}

@@ -1,6 +1,5 @@
 -- The job ends after 3 n + 7 replies at most, whatever they are.
-use mathlib.Core.Path.{_≡_, refl, sym, ap, _∙_, subst}
-use mathlib.Core.Bool.{Bool, true, false, cond}
+use mathlib.Core.Path.{_≡_, refl, subst}
 use mathlib.Core.List.{List, [], _∷_}
 use Prim.Native.Nat.{ℕ, zero, suc, _+_, _*_, _≤_}
 use native.Mathlib.Omega.{arith}
@@ -11,7 +10,7 @@ use Rattle.laws.proofs.Tests.{by-test}
 use Rattle.exchange.specs.Exchange.{ended, ask, after, fed}
 use Rattle.exchange.proofs.Laws.Exchange.{fed-ended}
 use Rattle.radio_job.specs.declared.Ending.{Ending}
-use Rattle.radio_job.specs.Image.{JobInput, page-count, image-pages, padded}
+use Rattle.radio_job.specs.Image.{page-count, image-pages, padded}
 use Rattle.radio_job.specs.Job.{JobExchange, take-reply, ends-bad, unless, answer-ending, confirmed, fetched, fed-pages}
 use Rattle.radio_job.specs.Job.{page-ending, pages-compared}
 use Rattle.radio_job.specs.Job.{protects, restores, job}

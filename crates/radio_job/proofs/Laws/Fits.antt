@@ -1,12 +1,12 @@
 -- A state that fits leads to states that fit.
 use mathlib.Core.Path.{_≡_, refl, sym, ap, _∙_}
-use mathlib.Core.Bool.{Bool, true, false, cond, _&&_}
+use mathlib.Core.Bool.{true, false}
 use mathlib.Core.List.{List, [], _∷_}
-use Prim.Native.Nat.{ℕ, zero, suc, _+_, _*_, _%_, _≤_, _<_}
+use Prim.Native.Nat.{ℕ, suc, _+_, _*_, _%_, _≤_, _<_}
 use native.Mathlib.Omega.{arith}
 use lib.Dec.{eqb, ltb}
 use lib.ListN.{length}
-use borrow.Author.Tests.{ltb-true, ltb-false, eqb-true, lt-ltb, eq-eqb}
+use borrow.Author.Tests.{ltb-true, eqb-true, lt-ltb, eq-eqb}
 use Rattle.laws.proofs.Tests.{by-test, both}
 use Rattle.radio_command.specs.declared.CommandName.{CommandName}
 use Rattle.radio_command.specs.declared.CommandName.the-variants.{RdSwVersion, InfSwVersion, RdFlashByte, WrFlashByte, RdFlashPage}
@@ -20,14 +20,14 @@ use Rattle.radio_job.specs.declared.JobPoint.{JobPoint}
 use Rattle.radio_job.specs.declared.JobPoint.the-variants.{AsksConfiguration, TakesConfiguration, ErasesArea, FeedsPage}
 use Rattle.radio_job.specs.declared.JobPoint.the-variants.{ErasesConfiguration, SetsConfiguration, SetsByte0, AsksPage, TakesPage}
 use Rattle.radio_job.specs.declared.JobPoint.the-variants.{SetsByte1, Finished}
-use Rattle.radio_job.specs.Image.{JobInput, input-refusal, mask-fits, image-fits, pages-for, page-count, image-page, merged}
-use Rattle.radio_job.specs.Job.{ends-bad, ends-done, ends-differing, still-runs, name-ending, read-ending, answer-ending, same-bytes}
+use Rattle.radio_job.specs.Image.{JobInput, input-refusal, mask-fits, image-fits, pages-for, page-count, image-page}
+use Rattle.radio_job.specs.Job.{ends-bad, ends-done, name-ending, read-ending, answer-ending, same-bytes}
 use Rattle.radio_job.specs.Job.{shared}
 use Rattle.radio_job.specs.Job.{page-ending}
 use Rattle.radio_job.specs.State.{JobState, opened-job, ending-fits, point-fits, state-fits}
-use Rattle.radio_job.specs.Advance.{length-ending, last-ending, reply-ending, next-point, page-kept, job-advanced-by}
+use Rattle.radio_job.specs.Advance.{length-ending, last-ending, reply-ending, next-point, page-kept}
 use Rattle.radio_job.specs.Advance.{job-advanced}
-use Rattle.radio_job.proofs.Laws.Image.{image-page-long, merged-long, mask-long, Sized, sized, accepted-input}
+use Rattle.radio_job.proofs.Laws.Image.{image-page-long, merged-long, mask-long, sized, accepted-input}
 
 pub false-true : false ≡ true → ⊥
 false-true p = let z : _≡_ {A = ℕ} 0 1 = cc in omega arith

@@ -1,15 +1,15 @@
 -- The pages of an image: one after the other, so many, each of 256 bytes, and together the padded image.
-use mathlib.Core.Path.{_≡_, refl, sym, ap, _∙_}
+use mathlib.Core.Path.{_≡_, refl, ap, _∙_}
 use mathlib.Core.Bool.{true}
-use mathlib.Core.List.{List, [], _∷_, _++_}
+use mathlib.Core.List.{List, [], _∷_}
 use Prim.Native.Nat.{ℕ, zero, suc, _+_, _*_, _-_, _≤_, _<_}
 use native.Mathlib.Omega.{arith}
-use lib.Dec.{eqb, leb}
+use lib.Dec.{leb}
 use lib.ListN.{length, take, drop, replicate, length-append, length-replicate, length-drop, length-take, drop-of-length-le}
 use lib.Seq.{drop-drop}
 use borrow.Author.Tests.{eqb-true, leb-true}
 use Rattle.laws.proofs.Tests.{passes, both}
-use Rattle.radio_job.specs.Image.{JobInput, is-mask, mask-fits, image-fits, input-number, input-refusal, pages-for, page-count}
+use Rattle.radio_job.specs.Image.{JobInput, mask-fits, image-fits, input-number, input-refusal, page-count}
 use Rattle.radio_job.specs.Image.{padded, split-pages, image-pages, image-page, merged}
 
 pub pages-many : (n : ℕ) (bs : List ℕ) → length (split-pages n bs) ≡ n

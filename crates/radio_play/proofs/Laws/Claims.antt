@@ -1,10 +1,10 @@
 -- The job programs the module: the laws of its parts, one after the other.
 use mathlib.Core.Path.{_≡_, refl, sym, ap, _∙_}
-use mathlib.Core.Bool.{Bool, true, false}
-use mathlib.Core.List.{List, [], _∷_, _++_, append-assoc}
-use Prim.Native.Nat.{ℕ, zero, suc, _+_, _*_, _-_, _/_, _≤_, _<_}
+use mathlib.Core.Bool.{false}
+use mathlib.Core.List.{List, [], _∷_, _++_}
+use Prim.Native.Nat.{ℕ, zero, suc, _+_, _*_, _-_, _≤_, _<_}
 use native.Mathlib.Omega.{arith}
-use lib.ListN.{length, take, drop, getD, replicate, length-append, length-replicate, length-drop}
+use lib.ListN.{length, drop, getD, replicate, length-append, length-replicate, length-drop}
 use lib.Seq.{take-all}
 use borrow.Author.Tests.{ne-eqb}
 use Rattle.radio_command.specs.declared.CommandName.the-variants.{WrPrgArea}
@@ -14,7 +14,7 @@ use Rattle.radio_flash.specs.Flash.{erased-bytes, flash-page, is-protected}
 use Rattle.radio_target.specs.declared.ModulePoint.the-variants.{Waits, Takes}
 use Rattle.radio_target.specs.Deeds.{radio-command, performs}
 use Rattle.radio_target.specs.State.{fresh-state}
-use Rattle.radio_job.specs.Image.{JobInput, input-refusal, page-count, padded, image-pages}
+use Rattle.radio_job.specs.Image.{JobInput, page-count, padded, image-pages}
 use Rattle.radio_job.specs.Job.{JobExchange, fed-pages, restores, job, ends-done}
 use Rattle.radio_job.proofs.Laws.Image.{padded-long, merged-long, mask-long, sized, accepted-input}
 use Rattle.radio_play.specs.Run.{JobRun, then-run}

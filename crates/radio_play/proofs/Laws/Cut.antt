@@ -1,25 +1,25 @@
 -- A job cut after any number of messages.
 use mathlib.Core.Path.{_≡_, refl, sym, ap, _∙_}
-use mathlib.Core.Bool.{Bool, true, false, cond, _&&_}
+use mathlib.Core.Bool.{true}
 use mathlib.Core.List.{List, [], _∷_, _++_}
 use Prim.Native.Nat.{ℕ, zero, suc, _+_, _*_, _-_, _≤_, _<_}
 use native.Mathlib.Omega.{arith}
 use lib.Dec.{eqb}
-use lib.ListN.{length, take, drop, getD, replicate, length-append, length-replicate, length-drop}
+use lib.ListN.{length, drop, getD, replicate, length-append, length-replicate, length-drop}
 use lib.Seq.{drop-cons}
 use borrow.Author.Tests.{eq-eqb}
 use Rattle.laws.proofs.Tests.{by-test}
-use Rattle.exchange.specs.Exchange.{ended, ask, branch}
+use Rattle.exchange.specs.Exchange.{ended, ask}
 use Rattle.radio_command.specs.Command.{message-byte}
 use Rattle.radio_flash.specs.Flash.{erased-bytes, flash-page}
 use Rattle.radio_target.specs.declared.RadioTarget.{RadioTarget}
-use Rattle.radio_target.specs.State.{fresh-state, RadioStepped, radio-stepped}
-use Rattle.radio_job.specs.Image.{JobInput, is-mask, mask-fits, image-fits, input-number, input-refusal, page-count, padded, merged}
-use Rattle.radio_job.specs.Job.{JobExchange, take-reply, job, ends-done}
-use Rattle.radio_job.proofs.Laws.Image.{merged-long, mask-long, sized, Accepted-input, accepted-input}
+use Rattle.radio_target.specs.State.{fresh-state, radio-stepped}
+use Rattle.radio_job.specs.Image.{JobInput, is-mask, mask-fits, input-number, input-refusal, page-count, padded, merged}
+use Rattle.radio_job.specs.Job.{JobExchange, job, ends-done}
+use Rattle.radio_job.proofs.Laws.Image.{merged-long, mask-long, sized, accepted-input}
 use Rattle.radio_play.specs.Run.{JobRun, run-job}
 use Rattle.radio_play.specs.Flashes.{configuration-for, job-leaves, flash-with, flash-fed, feeding-flashes, job-flashes}
-use Rattle.radio_play.specs.Cut.{flash-cut, nth-flash, full-mask, job-again, Job-cut, Job-cuts, Job-after-cut, Job-again-restores}
+use Rattle.radio_play.specs.Cut.{flash-cut, nth-flash, full-mask, job-again, Job-cuts, Job-after-cut, Job-again-restores}
 use Rattle.radio_play.proofs.Laws.Steps.{page-long}
 use Rattle.radio_play.proofs.Laws.Flashes.{with-long, byte-1-is, information-is}
 use Rattle.radio_play.proofs.Laws.Claims.{job-programs, job-messages, all-with}

@@ -1,17 +1,17 @@
 -- The flash on the way of a job: its length, its protection, its pages, and what the messages make of it.
 use mathlib.Core.Path.{_≡_, refl, sym, ap, _∙_}
-use mathlib.Core.Bool.{Bool, true, false, cond, _&&_}
-use mathlib.Core.List.{List, [], _∷_, _++_, append-assoc, append-nil}
-use Prim.Native.Nat.{ℕ, zero, suc, _+_, _*_, _-_, _≤_, _<_}
+use mathlib.Core.Bool.{false}
+use mathlib.Core.List.{List, [], _∷_, _++_, append-assoc}
+use Prim.Native.Nat.{ℕ, suc, _+_, _*_, _-_, _≤_, _<_}
 use native.Mathlib.Omega.{arith}
-use lib.Dec.{eqb, ltb, leb}
-use lib.ListN.{length, take, drop, getD, set, replicate, length-append, length-replicate, length-drop, length-take}
+use lib.Dec.{eqb}
+use lib.ListN.{length, take, drop, getD, set, replicate, length-append, length-replicate, length-drop}
 use lib.ListN.{replicate-append-replicate}
 use lib.Seq.{take-at, drop-at, take-add, take-all, take-append-le, drop-append-le, length-take-le}
-use borrow.Author.Tests.{eq-eqb, ne-eqb, lt-ltb, le-ltb, le-leb}
+use borrow.Author.Tests.{ne-eqb}
 use Rattle.radio_flash.specs.Flash.{erased-bytes, flash-page, is-protected, page-set, byte-set, mass-erased}
 use Rattle.radio_job.specs.Image.{page-count, padded, image-page}
-use Rattle.radio_job.proofs.Laws.Image.{padded-long, image-page-long}
+use Rattle.radio_job.proofs.Laws.Image.{padded-long}
 use Rattle.radio_play.specs.Flashes.{flash-with, flash-fed}
 use Rattle.radio_play.proofs.Laws.Lists.{get-second, set-second}
 

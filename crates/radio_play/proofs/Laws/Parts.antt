@@ -1,19 +1,16 @@
 -- The parts of a job played one after the other: pages fed, the configuration set, pages compared.
 use mathlib.Core.Path.{_≡_, refl, sym, ap, _∙_}
-use mathlib.Core.Bool.{Bool, true, false, cond, _&&_}
-use mathlib.Core.List.{List, [], _∷_, _++_, append-assoc}
+use mathlib.Core.Bool.{true, false}
+use mathlib.Core.List.{List, [], _∷_, _++_}
 use Prim.Native.Nat.{ℕ, zero, suc, _+_, _*_, _-_, _≤_, _<_}
 use native.Mathlib.Omega.{arith}
-use lib.Dec.{eqb, ltb, leb}
-use lib.ListN.{length, take, drop, getD, replicate, length-replicate, length-drop}
+use lib.ListN.{length, drop, getD, replicate, length-replicate, length-drop}
 use borrow.Author.Tests.{eq-eqb, ne-eqb, lt-ltb, le-ltb, le-leb}
 use Rattle.exchange.specs.Exchange.{ended}
 use Rattle.radio_command.specs.declared.CommandName.the-variants.{RdFlashPage, WrFlashPage, WrFlashByte, WrPrgArea}
-use Rattle.radio_command.specs.declared.CommandRead.the-variants.{Is}
 use Rattle.radio_command.specs.Command.{message-byte, name-of, command-sum, built}
-use Rattle.radio_command.proofs.Laws.Claims.{built-reads}
 use Rattle.radio_flash.specs.declared.FlashChange.the-variants.{Nothing, Byte, Page, Area}
-use Rattle.radio_flash.specs.Flash.{erased-bytes, flash-page, is-protected, page-set}
+use Rattle.radio_flash.specs.Flash.{erased-bytes, is-protected, page-set}
 use Rattle.radio_target.specs.declared.ModulePoint.{ModulePoint}
 use Rattle.radio_target.specs.declared.ModulePoint.the-variants.{Waits, Takes, Sends}
 use Rattle.radio_target.specs.Deeds.{radio-command, inf-ok, performs, rd-flash-page, wr-flash-page, wr-flash-byte, wr-prg-area}
@@ -21,10 +18,10 @@ use Rattle.radio_target.specs.Model.{commanded, response, message-refusal}
 use Rattle.radio_target.specs.State.{fresh-state}
 use Rattle.radio_job.specs.declared.Ending.{Ending}
 use Rattle.radio_job.specs.Image.{page-count, image-pages, image-page}
-use Rattle.radio_job.specs.Job.{JobExchange, say, unless, read-ending, answer-ending, confirmed, fetched, command-message, fed-pages, same-bytes}
-use Rattle.radio_job.specs.Job.{shared, page-ending, pages-compared, protects, restores, ends-done}
+use Rattle.radio_job.specs.Job.{JobExchange, say, unless, answer-ending, confirmed, fetched, command-message, fed-pages, same-bytes}
+use Rattle.radio_job.specs.Job.{page-ending, pages-compared, protects, restores, ends-done}
 use Rattle.radio_job.proofs.Laws.Image.{image-next, image-last, image-page-long}
-use Rattle.radio_play.specs.Run.{JobRun, then-run, run-ends, run-job}
+use Rattle.radio_play.specs.Run.{JobRun, then-run, run-job}
 use Rattle.radio_play.specs.Flashes.{flash-with, flash-fed, feeding-flashes}
 use Rattle.radio_play.proofs.Laws.Steps.{run-at, said, goes-on, page-sent, answer-read}
 use Rattle.radio_play.proofs.Laws.Flashes.{with-long, is-off, page-fed, page-stands, configuration-page, byte-0-set, byte-1-set}

@@ -1,32 +1,29 @@
 -- A job played message by message: one law for a message, one for a command.
-use mathlib.Core.Path.{_≡_, refl, sym, ap, _∙_}
-use mathlib.Core.Bool.{Bool, true, false, cond, _&&_}
-use mathlib.Core.List.{List, [], _∷_, _++_}
-use Prim.Native.Nat.{ℕ, zero, suc, _+_, _*_, _-_, _%_, _≤_, _<_}
+use mathlib.Core.Path.{_≡_, refl, ap, _∙_}
+use mathlib.Core.Bool.{cond}
+use mathlib.Core.List.{List, []}
+use Prim.Native.Nat.{ℕ, _+_, _*_, _%_, _≤_, _<_}
 use native.Mathlib.Omega.{arith}
-use lib.Dec.{eqb, ltb, leb}
-use lib.ListN.{length, take, drop, getD, length-take, length-drop}
-use borrow.Author.Tests.{eq-eqb, ne-eqb, le-leb, lt-ltb, le-ltb, lt-leb}
-use Rattle.exchange.specs.Exchange.{ended, ask}
-use Rattle.radio_command.specs.declared.CommandName.{CommandName}
-use Rattle.radio_command.specs.declared.CommandName.the-variants.{RdFlashPage, WrFlashPage, WrFlashByte, WrPrgArea}
-use Rattle.radio_command.specs.declared.CommandRead.{CommandRead}
+use lib.Dec.{eqb}
+use lib.ListN.{length, drop, getD, length-take, length-drop}
+use borrow.Author.Tests.{eq-eqb, le-leb}
+use Rattle.radio_command.specs.declared.CommandName.the-variants.{RdFlashPage, WrPrgArea}
 use Rattle.radio_command.specs.declared.CommandRead.the-variants.{Is}
 use Rattle.radio_command.specs.declared.RadioCommand.{RadioCommand}
-use Rattle.radio_command.specs.Command.{message-byte, name-of, command-sum, built, read-command}
+use Rattle.radio_command.specs.Command.{name-of, command-sum, built}
 use Rattle.radio_command.proofs.Laws.Claims.{built-reads}
-use Rattle.radio_flash.specs.declared.FlashChange.the-variants.{Nothing, Byte, Page, Area}
+use Rattle.radio_flash.specs.declared.FlashChange.the-variants.{Nothing}
 use Rattle.radio_flash.specs.Flash.{flash-page, is-protected, changed}
 use Rattle.radio_target.specs.declared.ModulePoint.{ModulePoint}
 use Rattle.radio_target.specs.declared.ModulePoint.the-variants.{Waits, Takes, Loads, Sends}
 use Rattle.radio_target.specs.declared.PointFound.{PointFound}
-use Rattle.radio_target.specs.declared.PointFound.the-variants.{At, Nowhere}
+use Rattle.radio_target.specs.declared.PointFound.the-variants.{At}
 use Rattle.radio_target.specs.declared.Deed.{Deed}
 use Rattle.radio_target.specs.Deeds.{radio-command, inf-ok, answers-error, performs, rd-flash-page, wr-prg-area}
-use Rattle.radio_target.specs.Model.{commanded, is-point, is-taken, response, message-refusal}
+use Rattle.radio_target.specs.Model.{commanded, response, message-refusal}
 use Rattle.radio_target.specs.State.{module-state, module-point, fresh-state, RadioStepped, radio-taken, radio-stepped, found-stepped}
 use Rattle.radio_job.specs.declared.Ending.{Ending}
-use Rattle.radio_job.specs.Image.{JobInput, page-count}
+use Rattle.radio_job.specs.Image.{page-count}
 use Rattle.radio_job.specs.Job.{JobExchange, say, unless, read-ending, answer-ending, confirmed, fetched, command-message, job, ends-error}
 use Rattle.radio_play.specs.Run.{JobRun, then-run, run-ends, run-job}
 use Rattle.radio_play.specs.Claims.{Job-protected}

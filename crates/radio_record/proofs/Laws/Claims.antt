@@ -1,12 +1,12 @@
 -- The claims of specs/Claims: packing and unpacking a job.
 use mathlib.Core.Path.{_≡_, refl, sym, ap, _∙_}
-use mathlib.Core.Bool.{Bool, true, false, cond, _&&_}
+use mathlib.Core.Bool.{true, _&&_}
 use mathlib.Core.List.{List, [], _∷_, _++_}
-use mathlib.Core.Option.{Option, some, none}
-use Prim.Native.Nat.{ℕ, zero, suc, _+_, _*_, _-_, _/_, _%_, _≤_, _<_}
+use mathlib.Core.Option.{some, none}
+use Prim.Native.Nat.{ℕ, _+_, _*_, _≤_, _<_}
 use native.Mathlib.Omega.{arith}
 use lib.Dec.{eqb, ltb}
-use lib.ListN.{length, take, drop, getD, length-append, length-take, length-drop, take-append-drop}
+use lib.ListN.{length, take, drop, getD, length-append, length-take, take-append-drop}
 use lib.Seq.{take-at, drop-at, drop-drop, getD-append-add}
 use borrow.Author.Tests.{eqb-true, ltb-true, eq-eqb, ne-eqb}
 use Rattle.laws.proofs.Tests.{by-test, both}
@@ -21,13 +21,13 @@ use Rattle.radio_job.specs.Image.{mask-fits, image-fits, pages-for}
 use Rattle.radio_job.specs.Job.{same-bytes}
 use Rattle.radio_job.specs.State.{JobState, ending-fits, point-fits, state-fits}
 use Rattle.radio_job.proofs.Laws.Image.{mask-long, sized}
-use Rattle.radio_job.proofs.Laws.Fits.{Fitting, fitting, fit, false-true}
+use Rattle.radio_job.proofs.Laws.Fits.{fitting, fit, false-true}
 use Rattle.radio_record.specs.declared.JobFields.{JobFields}
 use Rattle.radio_record.specs.declared.JobKept.{JobKept}
 use Rattle.radio_record.specs.declared.JobKept.the-variants.{Keeps, KeepsNone}
 use Rattle.radio_record.specs.declared.PointRead.{PointRead}
 use Rattle.radio_record.specs.declared.PointRead.the-variants.{Point, NoPoint}
-use Rattle.radio_record.specs.Record.{field-low, field-high, kept-byte, kept-pair, job-point-fields, fields-laid, point-bytes, packed-job, job-fields-read}
+use Rattle.radio_record.specs.Record.{field-low, field-high, kept-byte, kept-pair, fields-laid, point-bytes, packed-job, job-fields-read}
 use Rattle.radio_record.specs.Record.{point-read, numbers-checked, mask-of, kept-at, job-kept, kept-state, unpacked-job}
 use Rattle.radio_record.specs.Claims.{Job-record, Packed-long, Job-unpacked-exactly, Job-refused-exactly}
 use Rattle.radio_record.proofs.Laws.Record.{point-bytes-long, kept-checked}

@@ -1,17 +1,15 @@
 -- A record taken apart.
 use mathlib.Core.Path.{_≡_, refl, sym, ap, _∙_}
-use mathlib.Core.Bool.{Bool, true, false, cond, _&&_}
-use mathlib.Core.List.{List, [], _∷_, _++_}
-use Prim.Native.Nat.{ℕ, zero, suc, _+_, _*_, _-_, _/_, _%_, _≤_, _<_}
+use mathlib.Core.Bool.{true, false}
+use mathlib.Core.List.{List}
+use Prim.Native.Nat.{ℕ, _-_}
 use native.Mathlib.Omega.{arith}
-use lib.Dec.{eqb}
 use lib.ListN.{length, take, drop, length-drop}
 use lib.Seq.{take-all}
 use borrow.Author.Tests.{eq-eqb, ne-eqb}
-use Rattle.laws.proofs.Tests.{by-test}
 use Rattle.radio_job.specs.declared.JobPoint.{JobPoint}
 use Rattle.radio_job.specs.Image.{mask-fits, image-fits}
-use Rattle.radio_job.specs.Job.{same-bytes, shared}
+use Rattle.radio_job.specs.Job.{shared}
 use Rattle.radio_job.specs.State.{point-fits}
 use Rattle.radio_point.proofs.Laws.Compare.{same-shared, other-shared}
 use Rattle.radio_record.specs.declared.JobKept.{JobKept}

@@ -1,11 +1,11 @@
 -- What a job says at each point, and a call's answer and buffer by it.
 use mathlib.Core.Path.{_≡_, refl, sym, ap, _∙_}
-use mathlib.Core.Bool.{Bool, true, false, cond, _&&_}
+use mathlib.Core.Bool.{Bool, true, false}
 use mathlib.Core.List.{List, [], _∷_, _++_}
-use Prim.Native.Nat.{ℕ, zero, suc, _+_, _≤_, _<_}
+use Prim.Native.Nat.{ℕ, suc, _+_, _≤_, _<_}
 use native.Mathlib.Numerals.{add-one}
 use native.Mathlib.Omega.{arith}
-use lib.Dec.{eqb, ltb}
+use lib.Dec.{ltb}
 use lib.ListN.{length, take, drop, getD}
 use lib.Seq.{getD-take, take-length, length-take-le}
 use borrow.Author.Tests.{ltb-true, ltb-false, lt-leb, le-leb, eq-eqb, ne-eqb}
@@ -19,11 +19,10 @@ use Rattle.radio_job.specs.declared.JobPoint.{JobPoint}
 use Rattle.radio_job.specs.declared.JobPoint.the-variants.{AsksConfiguration, TakesConfiguration, ErasesArea, FeedsPage}
 use Rattle.radio_job.specs.declared.JobPoint.the-variants.{ErasesConfiguration, SetsConfiguration, SetsByte0, AsksPage}
 use Rattle.radio_job.specs.declared.JobPoint.the-variants.{TakesPage, SetsByte1, Finished}
-use Rattle.radio_job.specs.Image.{image-fits, pages-for, page-count, image-pages, image-page, merged}
+use Rattle.radio_job.specs.Image.{image-fits, page-count, image-pages, image-page}
 use Rattle.radio_job.specs.Job.{Message, JobExchange, command-message, confirmed, fetched, fed-pages, pages-compared, protects, restores}
-use Rattle.radio_job.specs.State.{JobState, point-leaves, job-left, point-fits}
-use Rattle.radio_job.specs.Advance.{length-ending, reply-ending, next-point, page-kept, job-advanced-by, job-advanced}
-use Rattle.radio_job.proofs.Laws.Image.{image-next, image-last, image-page-long}
+use Rattle.radio_job.specs.State.{point-fits}
+use Rattle.radio_job.proofs.Laws.Image.{image-next, image-last}
 use Rattle.radio_calls.specs.declared.RadioAdvanced.{RadioAdvanced}
 use Rattle.radio_calls.specs.Calls.{takes-answer, message-of, message-put}
 use Rattle.radio_say.specs.Code.Say.{point-says, asks-for, may-say, say-answer, say-out}

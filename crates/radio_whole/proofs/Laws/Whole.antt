@@ -1,15 +1,14 @@
 -- The claims of specs/Whole, from those of the job, its record, its calls and its run.
 use mathlib.Core.Path.{_≡_, refl, sym, ap, _∙_}
-use mathlib.Core.Bool.{Bool, true, false, cond}
+use mathlib.Core.Bool.{true, false, cond}
 use mathlib.Core.List.{List, [], _∷_, _++_}
-use mathlib.Core.Option.{Option, some, none}
-use Prim.Native.Nat.{ℕ, zero, suc, _+_, _*_, _≤_}
-use native.Mathlib.Omega.{arith}
-use lib.Dec.{eqb, ltb}
-use lib.ListN.{length, take, drop, getD, replicate}
-use borrow.Author.Tests.{eqb-true, eqb-false, eq-eqb, ne-eqb}
+use mathlib.Core.Option.{Option}
+use Prim.Native.Nat.{ℕ, suc, _+_, _*_}
+use lib.Dec.{eqb}
+use lib.ListN.{length, replicate}
+use borrow.Author.Tests.{eqb-true, eq-eqb, ne-eqb}
 use Rattle.laws.proofs.Tests.{by-test}
-use Rattle.exchange.specs.Exchange.{Said, said, ended, ask, after, fed}
+use Rattle.exchange.specs.Exchange.{said, ended, ask, after, fed}
 use Rattle.exchange.specs.Machine.{after-replies}
 use Rattle.exchange.specs.Machine as Machines
 use Rattle.exchange.specs.Calls.{call-done, call-heard, told, in-a-row, May-follow}
@@ -22,20 +21,19 @@ use Rattle.radio_job.specs.Image.{JobInput, input-refusal, page-count}
 use Rattle.radio_job.specs.Job.{Message, JobExchange, take-reply, confirmed, fetched, job, ends-done, ends-error, ends-bad}
 use Rattle.radio_job.specs.State.{JobState, opened-job, job-left}
 use Rattle.radio_job.specs.Advance.{job-advanced, reply-ending}
-use Rattle.radio_job.proofs.Laws.Ends.{Has-ended, job-ends, ends-fed}
+use Rattle.radio_job.proofs.Laws.Ends.{job-ends, ends-fed}
 use Rattle.radio_job.proofs.Laws.Fits.{opened-fits}
 use Rattle.radio_record.specs.Record.{packed-job, unpacked-job}
-use Rattle.radio_calls.specs.Calls.{RadioCall, job-opens, job-takes, later-number, room-number, first-number, job-refusal, job-does, message-put, opens-answer}
-use Rattle.radio_calls.specs.Calls.{message-of, job-untouched}
-use Rattle.radio_calls.specs.Family.{Radio, RadioTold, job-hears, job-replies, job-machine, job-state-after, ending-of, expect-of, by-job}
-use Rattle.radio_calls.proofs.Laws.Family.{goes-on, job-follows, same-fed, opened-leaves, job-lists, job-lists-alike}
+use Rattle.radio_calls.specs.Calls.{RadioCall, job-opens, job-takes, later-number, first-number, job-refusal, job-does, message-put}
+use Rattle.radio_calls.specs.Calls.{job-untouched}
+use Rattle.radio_calls.specs.Family.{Radio, RadioTold, job-hears, job-replies, job-machine, job-state-after, ending-of, by-job}
+use Rattle.radio_calls.proofs.Laws.Family.{goes-on, job-follows, same-fed, opened-leaves, job-lists}
 use Rattle.radio_play.specs.Run.{JobRun, run-job}
-use Rattle.radio_play.specs.Flashes.{job-leaves, job-flashes}
 use Rattle.radio_play.proofs.Laws.Steps.{job-protected}
 use Rattle.radio_play.proofs.Laws.Claims.{job-programs, job-messages}
 use Rattle.radio_play.proofs.Laws.Cut.{job-cuts, job-again-restores}
-use Rattle.radio_whole.specs.Whole.{Keeps-all, opens-job, own-answers, Protection-off, Radio-against, Radio-whole, Radio-calls-program}
-use Rattle.radio_whole.specs.Whole.{Radio-calls-alike, Some-radio-calls, Radio-calls-exist}
+use Rattle.radio_whole.specs.Whole.{Keeps-all, opens-job, own-answers, Radio-against, Radio-whole, Radio-calls-program}
+use Rattle.radio_whole.specs.Whole.{Radio-calls-alike, Radio-calls-exist}
 
 -- a reply of the length expected, and one of another
 takes-right : (a : Message) (k : List ℕ → JobExchange) (r : List ℕ) → eqb (length r) (a .expect) ≡ true → after take-reply (ask a k) r ≡ k r

@@ -7,9 +7,9 @@ use native.Mathlib.Nat.{div-add-mod'}
 use borrow.Author.Tests.{leb-true, eqb-true}
 use lib.Dec.{eqb, leb}
 use Rattle.laws.proofs.Tests.{passes, both, by-test}
-use Rattle.settings.specs.Accepted.{settings-refusal}
+use Rattle.settings.specs.Accepted.{settings-refusal, tidied}
 use Rattle.settings.specs.declared.Settings.{Settings}
-use Rattle.settings.proofs.Laws.Accepted.{Facts, facts}
+use Rattle.settings.proofs.Laws.Accepted.{Facts, facts, tidied-refusal}
 use Rattle.settings.specs.Opening.{is-image, are-pages, opening-refusal}
 
 pub record Opened (s : Settings) (first n : ℕ) : Type 0 where
@@ -36,3 +36,8 @@ opened s first n e =
       whole = omega (arith, div-add-mod' n (s .size), eqb-true (n % s .size) 0 (b .1));
       inside = leb-true (first + n / s .size) (s .count) (c .0);
     }
+
+-- what a session keeps of settings opens as they do
+pub tidied-opening : (s : Settings) (first n : ℕ) → opening-refusal (tidied s) first n ≡ opening-refusal s first n
+unfolding opening-refusal is-image are-pages
+tidied-opening s first n = rw (tidied-refusal s)

@@ -28,17 +28,14 @@ loop-holds c =
 is-running-requires : tie.Need-is-running-requires Inv-loop μ-loop
 is-running-requires c κs = search needs
 
-at-point-requires : tie.Need-at-point-requires Inv-loop μ-loop
-at-point-requires c κs = search needs
-
 same-length : tie.Need-same-length Inv-loop μ-loop
 same-length c = search needs
 
 returns : tie.Need-returns Inv-loop μ-loop
 returns c =
-    let k = c .before .before .before .before .loop .inv .0 in
-    let d = stops _ _ _ _ _ _ _ k (sym (c .before .before .is-running .ensures) ∙ not-true _ (c .before .if1 .taken)) in
-    (c .at-point .ensures ∙ d .session, (d .taken, d .out))
+    let k = c .before .before .before .loop .inv .0 in
+    let d = stops _ _ _ _ _ _ _ k (sym (c .before .is-running .ensures) ∙ not-true _ (c .if1 .taken)) in
+    (d .session, (d .taken, d .out))
 
 shared-slice-read-advance : tie.Need-shared-slice-read-advance Inv-loop μ-loop
 shared-slice-read-advance c = search needs
@@ -64,16 +61,13 @@ loop-again c =
     let run = sym (c .before .before .before .before .is-running .ensures) ∙ not-false _ (c .before .before .before .if1 .left) in
     goes-running _ _ _ _ _ _ _ (l .0) (l .1) (c .before .before .before .before .before .loop-test .taken) run _ (c .before .advance .ensures) _ (c .step .ensures)
 
-at-point-requires-2 : tie.Need-at-point-requires-2 Inv-loop μ-loop
-at-point-requires-2 c κs = search needs
-
 same-length-2 : tie.Need-same-length-2 Inv-loop μ-loop
 same-length-2 c = search needs
 
 returns-2 : tie.Need-returns-2 Inv-loop μ-loop
 returns-2 c =
-    let d = done _ _ _ _ _ _ _ (c .before .before .loop .inv .0) (c .before .loop-test .left) in
-    (c .at-point2 .ensures ∙ d .session, (d .taken, d .out))
+    let d = done _ _ _ _ _ _ _ (c .before .loop .inv .0) (c .loop-test .left) in
+    (d .session, (d .taken, d .out))
 
 pub run-spec : {M : Type 1} → statement M
 run-spec =
@@ -84,7 +78,6 @@ run-spec =
     set-off-requires
     loop-holds
     is-running-requires
-    at-point-requires
     same-length
     returns
     shared-slice-read-advance
@@ -94,6 +87,5 @@ run-spec =
     add-i
     loop-less
     loop-again
-    at-point-requires-2
     same-length-2
     returns-2)

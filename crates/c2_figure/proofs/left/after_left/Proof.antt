@@ -6,8 +6,8 @@ use Rattle.c2_figure.proofs.left.after_left.Tie as tie
 enum-told : tie.Need-enum-told
 enum-told c = search needs
 
-pages-cost-requires : tie.Need-pages-cost-requires
-pages-cost-requires c κs = search needs
+registers-left-requires : tie.Need-registers-left-requires
+registers-left-requires c κs = search needs
 
 enum-told-2 : tie.Need-enum-told-2
 enum-told-2 c = search needs
@@ -57,8 +57,17 @@ add-result-4 c = search needs
 enum-told-5 : tie.Need-enum-told-5
 enum-told-5 c = search needs
 
+enum-told-6 : tie.Need-enum-told-6
+enum-told-6 c = search needs
+
+add-registers-left : tie.Need-add-registers-left
+add-registers-left c = search needs
+
+registers-left-requires-2 : tie.Need-registers-left-requires-2
+registers-left-requires-2 c κs = search needs
+
 returns : tie.Need-returns
-returns c = (rw (c .before .enum-told .given .1) (c .pages-cost .ensures .0), omega (arith, c .pages-cost .ensures .1))
+returns c = (rw (c .before .enum-told .given .1) (c .registers-left .ensures .0), omega (arith, c .registers-left .ensures .1))
 
 returns-2 : tie.Need-returns-2
 returns-2 c = (rw (c .before .before .enum-told2 .given .1) (omega (arith, c .pages-left .ensures .0, c .before .page-blocks .ensures .0)), omega (arith, c .pages-left .ensures .1, c .before .page-blocks .ensures .1))
@@ -70,14 +79,17 @@ returns-4 : tie.Need-returns-4
 returns-4 c = (rw (c .before .before .enum-told4 .given .1) (omega (arith, c .pages-left3 .ensures .0, c .before .blocks-left2 .ensures .0)), omega (arith, c .pages-left3 .ensures .1, c .before .blocks-left2 .ensures .1))
 
 returns-5 : tie.Need-returns-5
-returns-5 c = search needs
+returns-5 c = (rw (c .enum-told5 .given .1), omega arith)
+
+returns-6 : tie.Need-returns-6
+returns-6 c = (rw (c .before .enum-told6 .given .1) (c .registers-left2 .ensures .0), omega (arith, c .registers-left2 .ensures .1))
 
 pub after-left-spec : {M : Type 1} → statement M
 after-left-spec =
     tie.close
     (tie.spec
     enum-told
-    pages-cost-requires
+    registers-left-requires
     enum-told-2
     page-blocks-requires
     mul-result
@@ -94,8 +106,12 @@ after-left-spec =
     pages-left-requires-3
     add-result-4
     enum-told-5
+    enum-told-6
+    add-registers-left
+    registers-left-requires-2
     returns
     returns-2
     returns-3
     returns-4
-    returns-5)
+    returns-5
+    returns-6)

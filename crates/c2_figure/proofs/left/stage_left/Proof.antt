@@ -39,6 +39,12 @@ bytes-left-requires-3 c κs = search needs
 enum-told-5 : tie.Need-enum-told-5
 enum-told-5 c = search needs
 
+enum-told-6 : tie.Need-enum-told-6
+enum-told-6 c = search needs
+
+register-left-requires : tie.Need-register-left-requires
+register-left-requires c κs = search needs
+
 returns : tie.Need-returns
 returns c = (rw (c .before .enum-told .given .1) (c .lead-left .ensures .0), omega (arith, c .lead-left .ensures .1))
 
@@ -53,6 +59,9 @@ returns-4 c = (rw (c .before .before .enum-told4 .given .1) (cc), c .bytes-left3
 
 returns-5 : tie.Need-returns-5
 returns-5 c = search needs
+
+returns-6 : tie.Need-returns-6
+returns-6 c = (rw (c .before .enum-told6 .given .1) (c .register-left .ensures .0), omega (arith, c .register-left .ensures .1))
 
 pub stage-left-spec : {M : Type 1} → statement M
 stage-left-spec =
@@ -70,8 +79,11 @@ stage-left-spec =
     task-of-requires-3
     bytes-left-requires-3
     enum-told-5
+    enum-told-6
+    register-left-requires
     returns
     returns-2
     returns-3
     returns-4
-    returns-5)
+    returns-5
+    returns-6)

@@ -11,7 +11,7 @@ use lib.Dec.{eqb}
 use lib.ListN.{length}
 use Rattle.numbers.specs.Numbers.{done}
 use Rattle.c2_wire.specs.Bits.{odd, bits, bit, number}
-use Rattle.c2_wire.specs.Exchange.{Exchange, ended, strobe, outcome}
+use Rattle.c2_wire.specs.Exchange.{Exchange, ended, outcome}
 use Rattle.c2_wire.specs.Frames.{Strobe, plain, sampled, waits, waiting, strobes, framed, sends, ins-code, frame}
 use Rattle.c2_wire.specs.Place.{samples, longest}
 use Rattle.c2_wire.specs.declared.Frame.the-variants.{AddressRead, DataRead}

@@ -17,14 +17,14 @@ returns : tie.Need-returns
 returns c =
     let a = c .before .before .before .before .args in
     let p = a .place in
-    place-decides (a .wait) (a .reads) (a .size) (a .pages) (a .at .stage) (a .at .page) (a .at .block) (a .at .act) (p .strobe) (p .count) (p .bits)
+    place-decides (a .wait) (a .reads) (a .size) (a .pairs) (a .pages) (a .at .stage) (a .at .page) (a .at .block) (a .at .act) (p .strobe) (p .count) (p .bits)
     _ (c .before .before .before .act-in-range .ensures) (c .before .before .if1 .taken) _ (c .before .task-of .ensures) _ (c .place-in-range .ensures)
 
 returns-2 : tie.Need-returns-2
 returns-2 c =
     let a = c .before .before .args in
     let p = a .place in
-    act-fails (a .wait) (a .reads) (a .size) (a .pages) (a .at .stage) (a .at .page) (a .at .block) (a .at .act) (p .strobe) (p .count) (p .bits) _ (c .before .act-in-range .ensures) (c .if1 .left)
+    act-fails (a .wait) (a .reads) (a .size) (a .pairs) (a .pages) (a .at .stage) (a .at .page) (a .at .block) (a .at .act) (p .strobe) (p .count) (p .bits) _ (c .before .act-in-range .ensures) (c .if1 .left)
 
 pub running-in-range-spec : {M : Type 1} → statement M
 running-in-range-spec =

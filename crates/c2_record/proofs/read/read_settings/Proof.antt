@@ -9,14 +9,14 @@ shared-slice-read-t3 c = search needs
 shared-slice-read-t5 : tie.Need-shared-slice-read-t5
 shared-slice-read-t5 c = search needs
 
-shared-slice-read-pair32 : tie.Need-shared-slice-read-pair32
-shared-slice-read-pair32 c = search needs
+shared-slice-read-word32 : tie.Need-shared-slice-read-word32
+shared-slice-read-word32 c = search needs
 
-shared-slice-read-pair32-2 : tie.Need-shared-slice-read-pair32-2
-shared-slice-read-pair32-2 c = search needs
+shared-slice-read-word32-2 : tie.Need-shared-slice-read-word32-2
+shared-slice-read-word32-2 c = search needs
 
-pair32-requires : tie.Need-pair32-requires
-pair32-requires c κs = search needs
+word32-requires : tie.Need-word32-requires
+word32-requires c κs = search needs
 
 shared-slice-read-wide32 : tie.Need-shared-slice-read-wide32
 shared-slice-read-wide32 c = search needs
@@ -26,7 +26,13 @@ wide32-requires c κs = search needs
 
 returns : tie.Need-returns
 unfolding settings-read
-returns c = rw (c .wide32 .ensures, c .before .before .pair32 .ensures)
+returns c = rw (c .before .before .wide32 .ensures, c .before .before .before .before .word32 .ensures, c .read-pairs .ensures)
+
+shared-slice-read-t15 : tie.Need-shared-slice-read-t15
+shared-slice-read-t15 c = search needs
+
+read-pairs-requires : tie.Need-read-pairs-requires
+read-pairs-requires c κs = search needs
 
 pub read-settings-spec : {M : Type 1} → statement M
 read-settings-spec =
@@ -34,9 +40,11 @@ read-settings-spec =
     (tie.spec
     shared-slice-read-t3
     shared-slice-read-t5
-    shared-slice-read-pair32
-    shared-slice-read-pair32-2
-    pair32-requires
+    shared-slice-read-word32
+    shared-slice-read-word32-2
+    word32-requires
     shared-slice-read-wide32
     wide32-requires
+    shared-slice-read-t15
+    read-pairs-requires
     returns)

@@ -7,21 +7,21 @@ use Rattle.c2_record.proofs.spare.unused.Tie as tie
 shared-slice-read-if1 : tie.Need-shared-slice-read-if1
 shared-slice-read-if1 c = search needs
 
-shared-slice-read-pair32 : tie.Need-shared-slice-read-pair32
-shared-slice-read-pair32 c = search needs
+shared-slice-read-word32 : tie.Need-shared-slice-read-word32
+shared-slice-read-word32 c = search needs
 
-shared-slice-read-pair32-2 : tie.Need-shared-slice-read-pair32-2
-shared-slice-read-pair32-2 c = search needs
+shared-slice-read-word32-2 : tie.Need-shared-slice-read-word32-2
+shared-slice-read-word32-2 c = search needs
 
-pair32-requires : tie.Need-pair32-requires
-pair32-requires c κs = search needs
+word32-requires : tie.Need-word32-requires
+word32-requires c κs = search needs
 
 returns : tie.Need-returns
 unfolding unused
-returns c = rw (c .pair32 .ensures) (search (needs, picks))
+returns c = rw (c .word32 .ensures) (search (needs, picks))
 
-zeros-requires : tie.Need-zeros-requires
-zeros-requires c κs = search needs
+no-point-requires : tie.Need-no-point-requires
+no-point-requires c κs = search needs
 
 returns-2 : tie.Need-returns-2
 unfolding unused
@@ -32,9 +32,9 @@ unused-spec =
     tie.close
     (tie.spec
     shared-slice-read-if1
-    shared-slice-read-pair32
-    shared-slice-read-pair32-2
-    pair32-requires
+    shared-slice-read-word32
+    shared-slice-read-word32-2
+    word32-requires
     returns
-    zeros-requires
+    no-point-requires
     returns-2)

@@ -6,12 +6,15 @@ use Rattle.c2_session.proofs.Session.differs.Tie as tie
 compared-offset-requires : tie.Need-compared-offset-requires
 compared-offset-requires c κs = search needs
 
-cast-t5 : tie.Need-cast-t5
-cast-t5 c = search needs
+cast-end-with : tie.Need-cast-end-with
+cast-end-with c = search needs
+
+end-with-requires : tie.Need-end-with-requires
+end-with-requires c κs = search needs
 
 returns : tie.Need-returns
 unfolding differs
-returns c = rw (c .compared-offset .ensures)
+returns c = rw (c .end-with .ensures, c .before .compared-offset .ensures)
 
 pub differs-spec : {M : Type 1} → statement M
-differs-spec = tie.close (tie.spec compared-offset-requires cast-t5 returns)
+differs-spec = tie.close (tie.spec compared-offset-requires cast-end-with end-with-requires returns)

@@ -29,6 +29,12 @@ block-byte-requires c κs = search needs
 enum-told-5 : tie.Need-enum-told-5
 enum-told-5 c = search needs
 
+enum-told-6 : tie.Need-enum-told-6
+enum-told-6 c = search needs
+
+register-byte-requires : tie.Need-register-byte-requires
+register-byte-requires c κs = search needs
+
 returns : tie.Need-returns
 returns c = rw (c .before .enum-told .given .1, c .lead-byte .ensures)
 
@@ -42,7 +48,10 @@ returns-4 : tie.Need-returns-4
 returns-4 c = rw (c .before .enum-told4 .given .1, c .block-byte .ensures)
 
 returns-5 : tie.Need-returns-5
-returns-5 c = search needs
+returns-5 c = rw (c .enum-told5 .given .1)
+
+returns-6 : tie.Need-returns-6
+returns-6 c = rw (c .before .enum-told6 .given .1, c .register-byte .ensures)
 
 pub stage-byte-spec : {M : Type 1} → statement M
 stage-byte-spec =
@@ -57,8 +66,11 @@ stage-byte-spec =
     enum-told-4
     block-byte-requires
     enum-told-5
+    enum-told-6
+    register-byte-requires
     returns
     returns-2
     returns-3
     returns-4
-    returns-5)
+    returns-5
+    returns-6)

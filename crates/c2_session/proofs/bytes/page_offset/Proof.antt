@@ -6,10 +6,10 @@ use Rattle.c2_session.proofs.bytes.page_offset.Statement.{statement}
 use Rattle.c2_session.proofs.bytes.page_offset.Tie as tie
 
 mul-result : tie.Need-mul-result
-mul-result c = omega (arith, product-below 16 32 (c .fits .page .fits) (c .fits .size .fits))
+mul-result c = omega (arith, product-below 17 32 (c .pre) (c .fits .size .fits))
 
 returns : tie.Need-returns
-returns c = (refl, product-below 16 32 (c .fits .page .fits) (c .fits .size .fits))
+returns c = (refl, product-below 17 32 (c .pre) (c .fits .size .fits))
 
 pub page-offset-spec : {M : Type 1} → statement M
 page-offset-spec = tie.close (tie.spec mul-result returns)

@@ -1,6 +1,6 @@
 use mathlib.Core.Path.{sym}
 use borrow.Author.Needs.{needs}
-use Rattle.c2_session.proofs.Laws.Script.{erase-framed, write-framed, read-framed}
+use Rattle.c2_session.proofs.Laws.Script.{erase-framed, write-framed, read-framed, register-framed}
 use Rattle.c2_session.proofs.script.first_step.Statement.{statement}
 use Rattle.c2_session.proofs.script.first_step.Tie as tie
 
@@ -22,6 +22,9 @@ enum-told-4 c = search needs
 enum-told-5 : tie.Need-enum-told-5
 enum-told-5 c = search needs
 
+enum-told-6 : tie.Need-enum-told-6
+enum-told-6 c = search needs
+
 returns : tie.Need-returns
 returns c = rw (c .before .enum-told .given .1) (c .lead-step .ensures)
 
@@ -35,7 +38,10 @@ returns-4 : tie.Need-returns-4
 returns-4 c = rw (c .enum-told4 .given .1) (sym (read-framed (c .before .before .args .act)))
 
 returns-5 : tie.Need-returns-5
-returns-5 c = search needs
+returns-5 c = rw (c .enum-told5 .given .1)
+
+returns-6 : tie.Need-returns-6
+returns-6 c = rw (c .enum-told6 .given .1) (sym (register-framed (c .before .before .args .act)))
 
 pub first-step-spec : {M : Type 1} → statement M
 first-step-spec =
@@ -47,8 +53,10 @@ first-step-spec =
     enum-told-3
     enum-told-4
     enum-told-5
+    enum-told-6
     returns
     returns-2
     returns-3
     returns-4
-    returns-5)
+    returns-5
+    returns-6)

@@ -12,6 +12,7 @@ use Rattle.laws.proofs.Tests.{both, by-test, passes}
 use Rattle.numbers.specs.Numbers.{bad-fpdat, bad-page-size, bad-page-count}
 use Rattle.c2_wire.specs.Bits.{bit}
 use Rattle.settings.specs.declared.Settings.{Settings}
+use Rattle.settings.specs.declared.Pairs.{Pairs}
 use Rattle.settings.specs.Accepted.{is-fpdat, is-page-size, is-page-count, settings-refusal}
 use Rattle.c2_target.specs.declared.Command.{Command}
 use Rattle.c2_target.specs.declared.Command.the-variants.{Ready, ErasePage, EraseConfirm, High, Low, LengthCode, Byte, PastEnd}
@@ -21,13 +22,15 @@ use Rattle.c2_target.specs.declared.Effect.{Effect}
 use Rattle.c2_target.specs.declared.Effect.the-variants.{Nothing, SetAddress, Write, CountDown, Read}
 use Rattle.c2_target.specs.declared.Point.{Point}
 use Rattle.c2_target.specs.declared.Point.the-variants.{Start, Ins, WriteLength, ReadLength, Address, Data, LongData, Wait, Waiting, Send, Stop}
+use Rattle.c2_target.specs.declared.Met.{Met}
 use Rattle.c2_target.specs.declared.Device.{Device}
 use Rattle.c2_target.specs.declared.Target.{Target}
 use Rattle.c2_target.specs.Delays.{setup}
 use Rattle.c2_target.specs.Interface.{link, device}
 use Rattle.c2_target.specs.Strobes.{target}
 use Rattle.c2_target.specs.Known.{hearing, is-byte, known-effect, after-its-wait, is-sent, known-point, is-count, known-block, known-command, known-output, known-link, known}
-use Rattle.c2_target_state.specs.State.{effect-code, effect-byte, point-fields, command-fields, output-fields, state-of, effect-of, later-point, state-point, command-of, output-of, target-read}
+use Rattle.c2_target.proofs.Laws.Known.{known-says, three-keys}
+use Rattle.c2_target_state.specs.State.{effect-code, effect-byte, point-fields, command-fields, output-fields, state-of, effect-of, later-point, state-point, command-of, output-of, met-of, target-read}
 use Rattle.c2_target_step.proofs.Laws.Known.{hearing-bytes, byte-says, block-says}
 
 bit-back : (b : Bool) → eqb (bit b) 1 ≡ b
@@ -94,29 +97,29 @@ heard-back w n v h k = let g = hearing-bytes w n v h k in (mod-eq-of-lt (omega a
 
 -- the point is read back, whatever stands beside it
 module _ (place : ℕ) (mark : Bool) (d : Device) where
-  point-back : (p : Point) → known-point 20 p ≡ true → state-point (state-of (target p place mark d)) ≡ p
+  point-back : (l : ℕ) → l < 256 → (p : Point) → known-point l p ≡ true → state-point (state-of (target p place mark d)) ≡ p
   unfolding known-point state-point later-point state-of point-fields
-  point-back Start k = refl
-  point-back (Ins n v) k = let h = heard-back 2 n v (omega arith) k in rw (h .0, h .1)
-  point-back (WriteLength n v) k = let h = heard-back 2 n v (omega arith) k in rw (h .0, h .1)
-  point-back (ReadLength n v) k = let h = heard-back 2 n v (omega arith) k in rw (h .0, h .1)
-  point-back (Address n v) k = let h = heard-back 8 n v (omega arith) k in rw (h .0, h .1)
-  point-back (Data n v) k = let h = heard-back 8 n v (omega arith) k in rw (h .0, h .1)
-  point-back (LongData n) k =
+  point-back l few Start k = refl
+  point-back l few (Ins n v) k = let h = heard-back 2 n v (omega arith) k in rw (h .0, h .1)
+  point-back l few (WriteLength n v) k = let h = heard-back 2 n v (omega arith) k in rw (h .0, h .1)
+  point-back l few (ReadLength n v) k = let h = heard-back 2 n v (omega arith) k in rw (h .0, h .1)
+  point-back l few (Address n v) k = let h = heard-back 8 n v (omega arith) k in rw (h .0, h .1)
+  point-back l few (Data n v) k = let h = heard-back 8 n v (omega arith) k in rw (h .0, h .1)
+  point-back l few (LongData n) k =
       let h = leb-true n 32 (both (leb 1 n) (leb n 32) k .1) in
       let e : n % 256 ≡ n = mod-eq-of-lt (omega arith) in
       rw e
-  point-back (Wait n e) k = let h = waits-effect n e k in rw (mod-eq-of-lt (h .0), effect-back e (h .1))
-  point-back (Waiting z n e) k =
-      let g = both (ltb (z + 1) 20) (after-its-wait n e) k in
+  point-back l few (Wait n e) k = let h = waits-effect n e k in rw (mod-eq-of-lt (h .0), effect-back e (h .1))
+  point-back l few (Waiting z n e) k =
+      let g = both (ltb (z + 1) l) (after-its-wait n e) k in
       let h = waits-effect n e (g .1) in
-      let l = ltb-true (z + 1) 20 (g .0) in
+      let m = ltb-true (z + 1) l (g .0) in
       let i : z % 256 ≡ z = mod-eq-of-lt (omega arith) in
       rw (i, mod-eq-of-lt (h .0), effect-back e (h .1))
-  point-back (Send n v e) k =
+  point-back l few (Send n v e) k =
       let h = sent-effect n v e (both (leb 1 n) (is-sent n v e) k .1) in
       rw (mod-eq-of-lt (h .left), mod-eq-of-lt (h .value), effect-back e (h .effect))
-  point-back (Stop e) k = rw (effect-back e k)
+  point-back l few (Stop e) k = rw (effect-back e k)
 
 count-says : (n : ℕ) → is-count n ≡ true → n ≤ 256
 unfolding is-count
@@ -131,9 +134,9 @@ block-back end a n h k =
     (mod-eq-of-lt (omega arith), mod-eq-of-lt (omega arith))
 
 -- the command and the output are read back
-module _ (p : Point) (place : ℕ) (mark : Bool) (address : ℕ) (on : Bool) (keys busy late : ℕ) (end : ℕ) (small : end ≤ 65536) where
+module _ (p : Point) (place : ℕ) (mark : Bool) (address : ℕ) (on : Bool) (keys : ℕ) (met : Met) (busy late : ℕ) (end : ℕ) (small : end ≤ 65536) where
   command-back : (pages : ℕ) → pages ≤ 256 → (c : Command) (o : Output) → known-command pages end c ≡ true
-      → command-of (state-of (target p place mark (device address on keys (link c o busy late)))) ≡ c
+      → command-of (state-of (target p place mark (device address on keys met (link c o busy late)))) ≡ c
   unfolding known-command command-of state-of command-fields
   command-back pages few Ready o k = refl
   command-back pages few ErasePage o k = refl
@@ -151,7 +154,7 @@ module _ (p : Point) (place : ℕ) (mark : Bool) (address : ℕ) (on : Bool) (ke
       rw e
 
   output-back : (c : Command) (o : Output) → known-output end o ≡ true
-      → output-of (state-of (target p place mark (device address on keys (link c o busy late)))) ≡ o
+      → output-of (state-of (target p place mark (device address on keys met (link c o busy late)))) ≡ o
   unfolding known-output output-of state-of output-fields
   output-back c Empty k = refl
   output-back c (Status ok) k = rw (bit-back ok)
@@ -168,7 +171,7 @@ unfolding settings-refusal is-page-size is-page-count
 sized s h =
     let a = passes (is-fpdat (s .fpdat)) _ bad-fpdat (omega arith) h in
     let b = passes (eqb (s .size) 512 || eqb (s .size) 1024) _ bad-page-size (omega arith) (a .1) in
-    let c = passes (leb 1 (s .count) && leb (s .size * s .count) 65536) 0 bad-page-count (omega arith) (b .1) in
+    let c = passes (leb 1 (s .count) && leb (s .size * s .count) 65536) _ bad-page-count (omega arith) (b .1) in
     let m = leb-true (s .size * s .count) 65536 (both (leb 1 (s .count)) (leb (s .size * s .count) 65536) (c .0) .1) in
     record { bytes = m; pages = pages-few (s .size) (s .count) (b .0) m }
   where
@@ -181,30 +184,30 @@ sized s h =
 parts : (t : Target) → state-point (state-of t) ≡ t .point → command-of (state-of t) ≡ t .device .link .command → output-of (state-of t) ≡ t .device .link .output
     → t .device .address % 256 ≡ t .device .address → t .device .keys % 256 ≡ t .device .keys → t .device .link .busy % 256 ≡ t .device .link .busy
     → t .device .link .late % 256 ≡ t .device .link .late → target-read (state-of t) ≡ t
-unfolding target-read state-of
-parts t p c o a y b e = rw (p, c, o, bit-back (t .collision), bit-back (t .device .on), a, y, b, e)
+unfolding target-read met-of state-of
+parts t p c o a y b e =
+    let m = t .device .met in
+    rw (p, c, o, bit-back (t .collision), bit-back (t .device .on), a, y, b, e, bit-back (m .first), bit-back (m .second), bit-back (m .third), bit-back (m .fourth))
 
 -- a target that exists is read back
-pub target-back : (s : Settings) (t : Target) (f ds : List ℕ) → settings-refusal s ≡ 0 → known (setup s ds) t f ≡ true → target-read (state-of t) ≡ t
-unfolding target-read known known-link is-byte
-target-back s t f ds r k =
+pub target-back : (s : Settings) (w : Pairs) (t : Target) (f ds : List ℕ) → settings-refusal s ≡ 0 → s .wait < 256 → known (setup s w ds) t f ≡ true
+    → target-read (state-of t) ≡ t
+unfolding target-read known-link is-byte
+target-back s pairs t f ds r byte k =
     let d = t .device in
     let l = d .link in
     let z = sized s r in
-    let k1 = both (eqb (length f) (s .size * s .count)) _ k in
-    let k2 = both (known-point 20 (t .point)) _ (k1 .1) in
-    let k3 = both (ltb (d .address) 256) _ (k2 .1) in
-    let k4 = both (leb (d .keys) 3) _ (k3 .1) in
-    let k5 = both (known-command (s .count) (length f) (l .command)) _ (k4 .1) in
-    let k6 = both (known-output (length f) (l .output)) _ (k5 .1) in
-    let k7 = both (ltb (l .busy) 256) (ltb (l .late) 256) (k6 .1) in
+    let w = known-says (setup s pairs ds) t f k in
+    let k1 = both (known-command (s .count) (length f) (l .command)) _ (w .device .link) in
+    let k2 = both (known-output (length f) (l .output)) _ (k1 .1) in
+    let k3 = both (ltb (l .busy) 256) (ltb (l .late) 256) (k2 .1) in
     let few : s .count ≤ 256 = omega (arith, z .pages) in
-    let small : length f ≤ 65536 = omega (arith, z .bytes, eqb-true (length f) (s .size * s .count) (k1 .0)) in
-    let p = point-back (t .place) (t .collision) d (t .point) (k2 .0) in
-    let c = command-back (t .point) (t .place) (t .collision) (d .address) (d .on) (d .keys) (l .busy) (l .late) (length f) small (s .count) few (l .command) (l .output) (k5 .0) in
-    let o = output-back (t .point) (t .place) (t .collision) (d .address) (d .on) (d .keys) (l .busy) (l .late) (length f) small (l .command) (l .output) (k6 .0) in
-    let a : d .address % 256 ≡ d .address = mod-eq-of-lt (ltb-true (d .address) 256 (k3 .0)) in
-    let y : d .keys % 256 ≡ d .keys = mod-eq-of-lt (omega (arith, leb-true (d .keys) 3 (k4 .0))) in
-    let b : l .busy % 256 ≡ l .busy = mod-eq-of-lt (ltb-true (l .busy) 256 (k7 .0)) in
-    let e : l .late % 256 ≡ l .late = mod-eq-of-lt (ltb-true (l .late) 256 (k7 .1)) in
+    let small : length f ≤ 65536 = omega (arith, z .bytes, w .flash) in
+    let p = point-back (t .place) (t .collision) d (s .wait) byte (t .point) (w .point) in
+    let c = command-back (t .point) (t .place) (t .collision) (d .address) (d .on) (d .keys) (d .met) (l .busy) (l .late) (length f) small (s .count) few (l .command) (l .output) (k1 .0) in
+    let o = output-back (t .point) (t .place) (t .collision) (d .address) (d .on) (d .keys) (d .met) (l .busy) (l .late) (length f) small (l .command) (l .output) (k2 .0) in
+    let a : d .address % 256 ≡ d .address = mod-eq-of-lt (ltb-true (d .address) 256 (w .device .address)) in
+    let y : d .keys % 256 ≡ d .keys = mod-eq-of-lt (omega (arith, three-keys (t .point) (d .keys) (w .keys))) in
+    let b : l .busy % 256 ≡ l .busy = mod-eq-of-lt (ltb-true (l .busy) 256 (k3 .0)) in
+    let e : l .late % 256 ≡ l .late = mod-eq-of-lt (ltb-true (l .late) 256 (k3 .1)) in
     parts t p c o a y b e

@@ -12,27 +12,12 @@ command-fields-requires c κs = search needs
 output-fields-requires : tie.Need-output-fields-requires
 output-fields-requires c κs = search needs
 
-flag-requires : tie.Need-flag-requires
-flag-requires c κs = search needs
-
-low-requires : tie.Need-low-requires
-low-requires c κs = search needs
-
-flag-requires-2 : tie.Need-flag-requires-2
-flag-requires-2 c κs = search needs
-
-low-requires-2 : tie.Need-low-requires-2
-low-requires-2 c κs = search needs
-
-low-requires-3 : tie.Need-low-requires-3
-low-requires-3 c κs = search needs
-
-low-requires-4 : tie.Need-low-requires-4
-low-requires-4 c κs = search needs
+state-with-requires : tie.Need-state-with-requires
+state-with-requires c κs = search needs
 
 returns : tie.Need-returns
 unfolding state-of
-returns c = rw (c .low4 .ensures, c .before .low3 .ensures, c .before .before .low2 .ensures, c .before .before .before .flag2 .ensures, c .before .before .before .before .low .ensures, c .before .before .before .before .before .flag .ensures, c .before .before .before .before .before .before .output-fields .ensures, c .before .before .before .before .before .before .before .command-fields .ensures, c .before .before .before .before .before .before .before .before .point-fields .ensures)
+returns c = rw (c .state-with .ensures, c .before .output-fields .ensures, c .before .before .command-fields .ensures, c .before .before .before .point-fields .ensures)
 
 pub state-of-spec : {M : Type 1} → statement M
 state-of-spec =
@@ -41,10 +26,5 @@ state-of-spec =
     point-fields-requires
     command-fields-requires
     output-fields-requires
-    flag-requires
-    low-requires
-    flag-requires-2
-    low-requires-2
-    low-requires-3
-    low-requires-4
+    state-with-requires
     returns)

@@ -74,7 +74,7 @@ returns-5 c = rw (c .before .before .command2 .given .1) (c .low-taken .ensures 
 
 returns-6 : tie.Need-returns-6
 unfolding takes-put
-returns-6 c = rw (c .before .before .command3 .given .1) (c .length-taken .ensures _)
+returns-6 c = rw (c .before .before .command3 .given .1) (c .length-taken .ensures _ _)
 
 returns-7 : tie.Need-returns-7
 unfolding takes-put

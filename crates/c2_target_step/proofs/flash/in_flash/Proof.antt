@@ -1,6 +1,6 @@
 use borrow.Author.Needs.{needs}
 use Rattle.c2_target.specs.Commands.{in-flash}
-use Rattle.c2_target_step.proofs.Laws.Known.{room, no-room}
+use Rattle.c2_target_known.proofs.Laws.Room.{room, no-room}
 use Rattle.c2_target_step.proofs.flash.in_flash.Statement.{statement}
 use Rattle.c2_target_step.proofs.flash.in_flash.Tie as tie
 

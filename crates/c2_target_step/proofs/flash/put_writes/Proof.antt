@@ -40,13 +40,13 @@ enum-told c = search needs
 
 returns-3 : tie.Need-returns-3
 unfolding takes-put
-returns-3 c = rw (c .enum-told .given .1) (sym (opens-keeps _ _))
+returns-3 c = rw (c .enum-told .given .1) (sym (opens-keeps _ _ _))
 
 enum-told-2 : tie.Need-enum-told-2
 enum-told-2 c = search needs
 
 returns-4 : tie.Need-returns-4
-returns-4 c = rw (c .enum-told2 .given .1) (sym (page-keeps _ _ _))
+returns-4 c = rw (c .enum-told2 .given .1) (sym (page-keeps _ _ _ _))
 
 enum-told-3 : tie.Need-enum-told-3
 enum-told-3 c = search needs
@@ -66,7 +66,7 @@ enum-told-5 : tie.Need-enum-told-5
 enum-told-5 c = search needs
 
 returns-7 : tie.Need-returns-7
-returns-7 c = rw (c .enum-told5 .given .1) (sym (length-keeps _ _ _ _ _))
+returns-7 c = rw (c .enum-told5 .given .1) (sym (length-keeps _ _ _ _ _ _))
 
 enum-told-6 : tie.Need-enum-told-6
 enum-told-6 c = search needs

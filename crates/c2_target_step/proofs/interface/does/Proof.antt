@@ -54,7 +54,7 @@ returns-4 c = rw (c .before .enum-told2 .given .1, c .counts-down .ensures)
 
 returns-5 : tie.Need-returns-5
 unfolding frame-does
-returns-5 c = rw (c .before .enum-told3 .given .1, c .reads .ensures)
+returns-5 c = rw (c .before .enum-told3 .given .1) (c .reads .ensures _)
 
 pub does-spec : {M : Type 1} → statement M
 does-spec =

@@ -15,14 +15,14 @@ awaits-requires c κs = search needs
 
 returns : tie.Need-returns
 unfolding get-byte
-returns c = λ t. rw (sym (c .before .before .before .out-ready .ensures) ∙ c .before .before .if1 .taken, c .awaits .ensures, c .before .other-bytes .ensures)
+returns c = λ t w. rw (sym (c .before .before .before .out-ready .ensures) ∙ c .before .before .if1 .taken, c .awaits .ensures, c .before .other-bytes .ensures)
 
 served-requires : tie.Need-served-requires
 served-requires c κs = search needs
 
 returns-2 : tie.Need-returns-2
 unfolding get-byte
-returns-2 c = λ t. rw (sym (c .before .before .out-ready .ensures) ∙ c .before .if1 .left, c .served .ensures)
+returns-2 c = λ t w. rw (sym (c .before .before .out-ready .ensures) ∙ c .before .if1 .left, c .served .ensures)
 
 pub gets-spec : {M : Type 1} → statement M
 gets-spec =

@@ -17,7 +17,7 @@ awaits-requires c κs = search needs
 
 returns : tie.Need-returns
 unfolding put-byte
-returns c = rw (c .awaits .ensures, c .before .next-place .ensures, c .before .before .delay .ensures, c .before .before .before .takes .ensures)
+returns c = λ w. rw (c .awaits .ensures, c .before .next-place .ensures, c .before .before .delay .ensures, c .before .before .before .takes .ensures)
 
 pub puts-spec : {M : Type 1} → statement M
 puts-spec =

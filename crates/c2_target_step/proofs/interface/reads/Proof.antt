@@ -12,14 +12,14 @@ gets-requires c κs = search needs
 
 returns : tie.Need-returns
 unfolding frame-does
-returns c = rw (sym (c .before .before .linked .ensures) ∙ c .before .if1 .taken) (c .gets .ensures _)
+returns c = λ w. rw (sym (c .before .before .linked .ensures) ∙ c .before .if1 .taken) (c .gets .ensures _ w)
 
 served-requires : tie.Need-served-requires
 served-requires c κs = search needs
 
 returns-2 : tie.Need-returns-2
 unfolding frame-does
-returns-2 c = rw (sym (c .before .before .linked .ensures) ∙ c .before .if1 .left, c .served .ensures)
+returns-2 c = λ w. rw (sym (c .before .before .linked .ensures) ∙ c .before .if1 .left, c .served .ensures)
 
 pub reads-spec : {M : Type 1} → statement M
 reads-spec = tie.close (tie.spec linked-requires gets-requires returns served-requires returns-2)

@@ -3,17 +3,14 @@ use borrow.Author.Needs.{needs}
 use Rattle.c2_target_step.proofs.steps.still.Statement.{statement}
 use Rattle.c2_target_step.proofs.steps.still.Tie as tie
 
-returns : tie.Need-returns
-returns c = rw (ne-eqb _ _ (c .if1 .taken))
-
 after-reset-requires : tie.Need-after-reset-requires
 after-reset-requires c κs = search needs
 
 accepted-requires : tie.Need-accepted-requires
 accepted-requires c κs = search needs
 
-returns-2 : tie.Need-returns-2
-returns-2 c = rw (eq-eqb _ _ (c .before .before .before .if1 .left), eq-eqb _ _ (c .before .before .if2 .taken), c .accepted .ensures, c .before .after-reset .ensures)
+returns : tie.Need-returns
+returns c = rw (eq-eqb _ _ (c .before .before .if1 .taken), c .accepted .ensures, c .before .after-reset .ensures)
 
 after-pause-requires : tie.Need-after-pause-requires
 after-pause-requires c κs = search needs
@@ -21,25 +18,24 @@ after-pause-requires c κs = search needs
 accepted-requires-2 : tie.Need-accepted-requires-2
 accepted-requires-2 c κs = search needs
 
-returns-3 : tie.Need-returns-3
-returns-3 c = rw (eq-eqb _ _ (c .before .before .before .before .if1 .left), ne-eqb _ _ (c .before .before .before .if2 .left), eq-eqb _ _ (c .before .before .if3 .taken), c .accepted2 .ensures, c .before .after-pause .ensures)
+returns-2 : tie.Need-returns-2
+returns-2 c = rw (ne-eqb _ _ (c .before .before .before .if1 .left), eq-eqb _ _ (c .before .before .if2 .taken), c .accepted2 .ensures, c .before .after-pause .ensures)
 
 accepted-requires-3 : tie.Need-accepted-requires-3
 accepted-requires-3 c κs = search needs
 
-returns-4 : tie.Need-returns-4
-returns-4 c = rw (eq-eqb _ _ (c .before .before .before .if1 .left), ne-eqb _ _ (c .before .before .if2 .left), ne-eqb _ _ (c .before .if3 .left), c .accepted3 .ensures)
+returns-3 : tie.Need-returns-3
+returns-3 c = rw (ne-eqb _ _ (c .before .before .if1 .left), ne-eqb _ _ (c .before .if2 .left), c .accepted3 .ensures)
 
 pub still-spec : {M : Type 1} → statement M
 still-spec =
     tie.close
     (tie.spec
-    returns
     after-reset-requires
     accepted-requires
-    returns-2
+    returns
     after-pause-requires
     accepted-requires-2
-    returns-3
+    returns-2
     accepted-requires-3
-    returns-4)
+    returns-3)

@@ -12,14 +12,14 @@ sending-requires c κs = search needs
 
 returns : tie.Need-returns
 unfolding after-wait
-returns c = λ ds. rw (eq-eqb _ _ (c .before .before .if1 .taken), c .sending .ensures, c .before .value-sent .ensures ds)
+returns c = λ w ds. rw (eq-eqb _ _ (c .before .before .if1 .taken), c .sending .ensures, c .before .value-sent .ensures w ds)
 
 sub-t9 : tie.Need-sub-t9
 sub-t9 c = search needs
 
 returns-2 : tie.Need-returns-2
 unfolding after-wait
-returns-2 c = λ ds. rw (ne-eqb _ _ (c .if1 .left))
+returns-2 c = λ w ds. rw (ne-eqb _ _ (c .if1 .left))
 
 pub after-wait-spec : {M : Type 1} → statement M
 after-wait-spec =

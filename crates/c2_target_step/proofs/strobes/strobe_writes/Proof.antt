@@ -1,6 +1,6 @@
 use borrow.Author.Needs.{needs}
 use Rattle.c2_target.specs.Known.{known-point}
-use Rattle.c2_target_step.proofs.Laws.Known.{stop-exists}
+use Rattle.c2_target.proofs.Laws.Known.{known-says}
 use Rattle.c2_target_step.proofs.strobes.strobe_writes.Statement.{statement}
 use Rattle.c2_target_step.proofs.strobes.strobe_writes.Tie as tie
 
@@ -10,7 +10,7 @@ enum-known-point c = search needs
 effect-writes-requires : tie.Need-effect-writes-requires
 unfolding known-point
 effect-writes-requires c κs =
-    let w = stop-exists _ _ _ _ (c .before .before .point .given .1) (c .before .before .before .before .before .before .pre) in
+    let w = known-says _ _ _ (c .before .before .before .before .before .before .pre) in
     (w .device .link, (w .flash, rw (c .before .before .point .given .1) at (w .point)))
 
 same-length : tie.Need-same-length

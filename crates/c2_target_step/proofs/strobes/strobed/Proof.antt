@@ -2,8 +2,8 @@ use native.Mathlib.Omega.{arith}
 use borrow.Author.Needs.{needs}
 use Rattle.c2_target.specs.Strobes.{strobed-at}
 use Rattle.c2_target.specs.Known.{known-point}
-use Rattle.c2_target_step.specs.Code.StepOn.{known-on}
-use Rattle.c2_target_step.proofs.Laws.Known.{hearing-bytes, stop-exists}
+use Rattle.c2_target.proofs.Laws.Known.{known-says}
+use Rattle.c2_target_step.proofs.Laws.Known.{hearing-bytes}
 use Rattle.c2_target_step.proofs.strobes.strobed.Statement.{statement}
 use Rattle.c2_target_step.proofs.strobes.strobed.Tie as tie
 
@@ -17,36 +17,36 @@ enum-known-point : tie.Need-enum-known-point
 enum-known-point c = search needs
 
 hears-ins-requires : tie.Need-hears-ins-requires
-unfolding known-point known-on
-hears-ins-requires c κs = hearing-bytes 2 _ _ (omega arith) (rw (c .before .point .given .1) at (c .before .before .before .before .before .pre))
+unfolding known-point
+hears-ins-requires c κs = hearing-bytes 2 _ _ (omega arith) (rw (c .before .point .given .1) at (known-says _ _ _ (c .before .before .before .before .before .pre) .point))
 
 enum-known-point-2 : tie.Need-enum-known-point-2
 enum-known-point-2 c = search needs
 
 hears-write-length-requires : tie.Need-hears-write-length-requires
-unfolding known-point known-on
-hears-write-length-requires c κs = hearing-bytes 2 _ _ (omega arith) (rw (c .before .point2 .given .1) at (c .before .before .before .before .before .pre))
+unfolding known-point
+hears-write-length-requires c κs = hearing-bytes 2 _ _ (omega arith) (rw (c .before .point2 .given .1) at (known-says _ _ _ (c .before .before .before .before .before .pre) .point))
 
 enum-known-point-3 : tie.Need-enum-known-point-3
 enum-known-point-3 c = search needs
 
 hears-read-length-requires : tie.Need-hears-read-length-requires
-unfolding known-point known-on
-hears-read-length-requires c κs = hearing-bytes 2 _ _ (omega arith) (rw (c .before .point3 .given .1) at (c .before .before .before .before .before .pre))
+unfolding known-point
+hears-read-length-requires c κs = hearing-bytes 2 _ _ (omega arith) (rw (c .before .point3 .given .1) at (known-says _ _ _ (c .before .before .before .before .before .pre) .point))
 
 enum-known-point-4 : tie.Need-enum-known-point-4
 enum-known-point-4 c = search needs
 
 hears-address-requires : tie.Need-hears-address-requires
-unfolding known-point known-on
-hears-address-requires c κs = hearing-bytes 8 _ _ (omega arith) (rw (c .before .point4 .given .1) at (c .before .before .before .before .before .pre))
+unfolding known-point
+hears-address-requires c κs = hearing-bytes 8 _ _ (omega arith) (rw (c .before .point4 .given .1) at (known-says _ _ _ (c .before .before .before .before .before .pre) .point))
 
 enum-known-point-5 : tie.Need-enum-known-point-5
 enum-known-point-5 c = search needs
 
 hears-data-requires : tie.Need-hears-data-requires
-unfolding known-point known-on
-hears-data-requires c κs = hearing-bytes 8 _ _ (omega arith) (rw (c .before .point5 .given .1) at (c .before .before .before .before .before .pre))
+unfolding known-point
+hears-data-requires c κs = hearing-bytes 8 _ _ (omega arith) (rw (c .before .point5 .given .1) at (known-says _ _ _ (c .before .before .before .before .before .pre) .point))
 
 enum-known-point-6 : tie.Need-enum-known-point-6
 enum-known-point-6 c = search needs
@@ -81,7 +81,7 @@ enum-known-point-10 c = search needs
 stops-requires : tie.Need-stops-requires
 unfolding known-point
 stops-requires c κs =
-    let w = stop-exists _ _ _ _ (c .before .point10 .given .1) (c .before .before .before .before .before .pre) in
+    let w = known-says _ _ _ (c .before .before .before .before .before .pre) in
     (w .device .link, rw (c .before .point10 .given .1) at (w .point))
 
 returns : tie.Need-returns
@@ -114,11 +114,11 @@ returns-7 c = rw (c .before .before .before .point6 .given .1, c .hears .ensures
 
 returns-8 : tie.Need-returns-8
 unfolding strobed-at
-returns-8 c = rw (c .before .before .point7 .given .1, c .begins-wait .ensures)
+returns-8 c = rw (c .before .before .point7 .given .1) (c .begins-wait .ensures _)
 
 returns-9 : tie.Need-returns-9
 unfolding strobed-at
-returns-9 c = rw (c .before .before .point8 .given .1) (c .waits .ensures _)
+returns-9 c = rw (c .before .before .point8 .given .1) (c .waits .ensures _ _)
 
 returns-10 : tie.Need-returns-10
 unfolding strobed-at

@@ -23,23 +23,23 @@ given-requires c κs = search needs
 
 returns : tie.Need-returns
 unfolding value-sent
-returns c = λ ds. rw (c .enum-told .given .1)
+returns c = λ w ds. rw (c .enum-told .given .1)
 
 returns-2 : tie.Need-returns-2
 unfolding value-sent
-returns-2 c = λ ds. rw (c .enum-told2 .given .1)
+returns-2 c = λ w ds. rw (c .enum-told2 .given .1)
 
 returns-3 : tie.Need-returns-3
 unfolding value-sent
-returns-3 c = λ ds. rw (c .enum-told3 .given .1)
+returns-3 c = λ w ds. rw (c .enum-told3 .given .1)
 
 returns-4 : tie.Need-returns-4
 unfolding value-sent
-returns-4 c = λ ds. rw (c .enum-told4 .given .1)
+returns-4 c = λ w ds. rw (c .enum-told4 .given .1)
 
 returns-5 : tie.Need-returns-5
 unfolding value-sent
-returns-5 c = λ ds. rw (c .before .enum-told5 .given .1, c .given .ensures)
+returns-5 c = λ w ds. rw (c .before .enum-told5 .given .1, c .given .ensures)
 
 pub value-sent-spec : {M : Type 1} → statement M
 value-sent-spec =

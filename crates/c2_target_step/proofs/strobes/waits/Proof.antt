@@ -14,7 +14,7 @@ shows-requires c κs = search needs
 
 returns : tie.Need-returns
 unfolding strobed-at
-returns c = λ ds. rw (c .shows .ensures, c .before .after-wait .ensures ds, c .before .before .ends .ensures)
+returns c = λ w ds. rw (c .shows .ensures, c .before .after-wait .ensures w ds, c .before .before .ends .ensures)
 
 pub waits-spec : {M : Type 1} → statement M
 waits-spec = tie.close (tie.spec ends-requires after-wait-requires shows-requires returns)
