@@ -16,8 +16,8 @@ use Rattle.settings.specs.Opening.{opening-refusal}
 use Rattle.c2_order.specs.Acts.{Act, expect, data-write}
 use Rattle.c2_order.specs.Order.{session-order}
 use Rattle.c2_order.specs.Conversation.{Limits, Positive, limits-of, conversation}
-use Rattle.c2_order.specs.Point.{Point, ended, Stands, Exists-in, begin, reached, left-to-say}
-use Rattle.c2_order.specs.Figure.{figure, pair-cost, page-cost}
+use Rattle.c2_order.specs.Point.{Point, ended, Stands, Exists-in, begin, next, reached, left-to-say}
+use Rattle.c2_order.specs.Figure.{figure, drop-of, pair-cost, page-cost}
 use Rattle.exchange.specs.Exchange as Shared
 
 -- an opening that is not refused, over bytes
@@ -78,6 +78,13 @@ abbrev pub Figure-falls : Type 0
 Figure-falls = (l : Limits) (s : Settings) (first : ℕ) (image : List ℕ) → Positive l → Opening s first image
     → (x : Point) → Exists-in l (session-order s first image) x
     → (rs : List ℕ) → figure l (reached l x rs) + taken (left-to-say l x) rs ≤ figure l x
+
+-- At every point of the order, what a reply takes from the figure leaves the figure at the point after it (for
+-- document 02, f, where the figure is kept and lowered).
+abbrev pub Figure-drops : Type 0
+Figure-drops = (l : Limits) (s : Settings) (first : ℕ) (image : List ℕ) → Positive l → Opening s first image
+    → (x : Point) → Exists-in l (session-order s first image) x
+    → (r : ℕ) → drop-of l x r + figure l (next l x r) ≡ figure l x
 
 -- From every point of the order on, no replies whatever take more steps than the figure.
 abbrev pub Figure-bounds : Type 0

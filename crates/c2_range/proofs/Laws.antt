@@ -2,4 +2,5 @@
 pub mod Acts
 pub mod Bounds
 pub mod Decide
+pub mod Pairs
 pub mod Range

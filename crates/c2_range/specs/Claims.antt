@@ -9,7 +9,7 @@ use lib.ListN.{length, take, drop}
 use Rattle.numbers.specs.Numbers.{compare-differs}
 use Rattle.c2_wire.specs.Place.{strobe-at, samples, count-limit}
 use Rattle.settings.specs.declared.Settings.{Settings}
-use Rattle.settings.specs.Registers.{are-pairs, is-tidy}
+use Rattle.settings.specs.Registers.{pair-at}
 use Rattle.c2_order.specs.Acts.{Act}
 use Rattle.c2_order.specs.Conversation.{Limits, limits-of}
 use Rattle.c2_order.specs.Claims.{Last-number}
@@ -20,14 +20,16 @@ use Rattle.c2_session.specs.declared.Point.the-variants.{Running, Ended}
 use Rattle.c2_session.specs.declared.Session.{Session}
 use Rattle.c2_range.specs.Range.{pages-in, blocks-in, stage-order, in-range}
 
--- What opening asks of settings and pages would pass (numbers 1 to 5, 18 and 19).
+-- What opening asks of settings and pages would pass (numbers 1 to 5, 18 and 19). There are at most four pairs
+-- of register and value, and the register of each is neither below 3 nor the FPDAT address.
 pub record Opening-passes (t : Settings) (first pages : ℕ) : Type 0 where
   pub fpdat : 3 ≤ t .fpdat
   pub size : (t .size ≡ 512) ⊎ (t .size ≡ 1024)
   pub count : 1 ≤ t .count
   pub flash : t .size * t .count ≤ 65536
   pub wait : 1 ≤ t .wait
-  pub pairs : are-pairs (t .fpdat) (t .pairs) ≡ true
+  pub pairs : t .pairs .count ≤ 4
+  pub registers : (i : ℕ) → i < t .pairs .count → (3 ≤ pair-at (t .pairs) i .register) × (pair-at (t .pairs) i .register ≡ t .fpdat → ⊥)
   pub image : 1 ≤ pages
   pub inside : first + pages ≤ t .count
 
@@ -53,9 +55,12 @@ abbrev pub Point-stands : Limits → (size pairs pages : ℕ) → Point → Type
 Point-stands l size pairs pages (Running g i j k q c v) = Point-exists l size pairs pages g i j k q c v
 Point-stands l size pairs pages (Ended n o) = Outcome-stands (size * pages) n o
 
+-- A session is within its ranges: its settings and pages pass; of the four entries for pairs each that is not
+-- named, from the count on, has register 0 and value 0; its point stands.
 pub record Within-ranges (s : Session) : Type 0 where
   pub opening : Opening-passes (s .settings) (s .first) (s .pages)
-  pub unnamed : is-tidy (s .settings .pairs) ≡ true
+  pub unnamed : (i : ℕ) → s .settings .pairs .count ≤ i → i < 4
+      → (pair-at (s .settings .pairs) i .register ≡ 0) × (pair-at (s .settings .pairs) i .value ≡ 0)
   pub point : Point-stands (limits-of (s .settings)) (s .settings .size) (s .settings .pairs .count) (s .pages) (s .point)
 
 -- `in-range` means exactly `Within-ranges`.

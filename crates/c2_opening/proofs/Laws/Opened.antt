@@ -28,6 +28,7 @@ use Rattle.c2_position.proofs.Laws.Advanced.{fits-of}
 use Rattle.c2_position.proofs.Laws.Onward.{begin-at}
 use Rattle.c2_position.proofs.Laws.Before.{lead-first}
 use Rattle.c2_range.specs.Range.{stage-order, in-range}
+use Rattle.c2_range.proofs.Laws.Pairs.{tidy-exactly}
 use Rattle.c2_range.proofs.Laws.Range.{opening-passes, ranges-are}
 use Rattle.c2_opening.specs.Opened.{opened-session, exchange-at}
 use Rattle.c2_opening.specs.Code.Started.{started}
@@ -56,7 +57,7 @@ module _ (t : Settings) (first : ℕ) (image : List ℕ) (e : opening-refusal t 
       (record {
         opening = opening-passes (tidied t) first (length image / t .size)
             (ap (λ (z : ℕ). opening-refusal (tidied t) first z) (sym whole-pages) ∙ tidied-opening t first (length image) ∙ e);
-        unnamed = tidy-is-tidy (t .pairs);
+        unnamed = tidy-exactly (tidied t .pairs) .0 (tidy-is-tidy (t .pairs));
         point = record { page = omega arith; block = omega arith; act = _; later = _; here = refl; strobe = omega arith; count = omega arith; bits = omega arith };
       })
 

@@ -21,11 +21,11 @@ use Rattle.c2_order.specs.Order.{session-order}
 use Rattle.c2_order.specs.Conversation.{Limits, Positive, limits, limits-of, polling, conversation}
 use Rattle.c2_order.specs.Point.{Point, running, ended, strobes-of, Exists-in, begin, next, follow-up, left-to-say, reached}
 use Rattle.c2_order.specs.Figure.{figure, pair-cost, page-cost}
-use Rattle.c2_order.specs.Claims.{Opening, point-after, exchange-of, Points-follow, Points-exist, Parts-in-a-row, Driven-by-master, Driven-on, Zero-when-ended, Figure-zero, Figure-falls, Figure-bounds, Figure-starts, Figure-starts-paper, Figure-reached}
+use Rattle.c2_order.specs.Claims.{Opening, point-after, exchange-of, Points-follow, Points-exist, Parts-in-a-row, Driven-by-master, Driven-on, Zero-when-ended, Figure-zero, Figure-falls, Figure-drops, Figure-bounds, Figure-starts, Figure-starts-paper, Figure-reached}
 use Rattle.c2_order.proofs.Laws.Valid.{Sound, Every, none, more, masters-of, Valid, begin-valid}
 use Rattle.c2_order.proofs.Laws.Point.{begin-says, next-says, next-valid}
 use Rattle.c2_order.proofs.Laws.Stands.{exists-valid, begin-ends, reached-ends, ends-exist}
-use Rattle.c2_order.proofs.Laws.Figure.{begin-figure, figure-ended, figure-running, row-falls}
+use Rattle.c2_order.proofs.Laws.Figure.{begin-figure, figure-ended, figure-running, row-falls, next-drops}
 use Rattle.c2_order.proofs.Laws.Figure.Start.{costs-session}
 use Rattle.c2_order.proofs.Laws.Order.{every-session, sound}
 use Rattle.c2_order.proofs.Laws.Figure.Reached.{passable, way-acts}
@@ -148,6 +148,9 @@ figure-zero l s first image h o x e = zero-when-ended l h x (valid-there l s fir
 
 pub figure-falls : Figure-falls
 figure-falls l s first image h o x e rs = row-falls l h x (valid-there l s first image o x e) rs
+
+pub figure-drops : Figure-drops
+figure-drops l s first image h o x e r = next-drops l h x (valid-there l s first image o x e) r
 
 bounds : (l : Limits) → Positive l → (x : Point) → Valid l x → (rs : List ℕ) → taken (left-to-say l x) rs ≤ figure l x
 bounds l h x v rs = omega (arith, row-falls l h x v rs)

@@ -25,6 +25,7 @@ use Rattle.c2_session.specs.declared.Point.the-variants.{Running, Ended}
 use Rattle.c2_session.specs.declared.Session.{Session}
 use Rattle.c2_range.specs.Range.{pages-in, blocks-in, stage-order, place-in-range, first-in-range, running-in-range, ends-session, offsets-of, ended-in-range, point-in-range, in-range}
 use Rattle.c2_range.specs.Claims.{Opening-passes, Point-exists, Outcome-stands, Point-stands, Within-ranges, Ranges-are}
+use Rattle.c2_range.proofs.Laws.Pairs.{pairs-exactly, tidy-exactly}
 
 -- what the tests of settings say
 either : (a b : Bool) → a || b ≡ true → (a ≡ true) ⊎ (b ≡ true)
@@ -65,6 +66,7 @@ opening-passes t first pages e =
     let n = passes (leb 1 (t .count) && leb (t .size * t .count) 65536) _ 3 (omega arith) (s .1) in
     let w = passes (leb 1 (t .wait)) _ 18 (omega arith) (n .1) in
     let r = passes (are-pairs (t .fpdat) (t .pairs)) 0 19 (omega arith) (w .1) in
+    let q = pairs-exactly (t .fpdat) (t .pairs) .0 (r .0) in
     let m = both (leb 1 (t .count)) (leb (t .size * t .count) 65536) (n .0) in
     let size = sized (t .size) (s .0) in
     let i = passes (leb 1 (t .size * pages) && eqb (t .size * pages % t .size) 0) _ 4 (omega arith) (a .1) in
@@ -76,7 +78,8 @@ opening-passes t first pages e =
       count = leb-true 1 (t .count) (m .0);
       flash = leb-true (t .size * t .count) 65536 (m .1);
       wait = leb-true 1 (t .wait) (w .0);
-      pairs = r .0;
+      pairs = q .0;
+      registers = q .1;
       image = some-pages pages (leb-true 1 (t .size * pages) (j .0));
       inside = omega (arith, leb-true (first + t .size * pages / t .size) (t .count) (p .0), mul-div-right pages {m = t .size} (some-size (t .size) size));
     }
@@ -96,7 +99,7 @@ opening-would-pass t first pages o =
       le-leb 1 (t .count) (o .count),
       le-leb (t .size * t .count) 65536 (o .flash),
       le-leb 1 (t .wait) (o .wait),
-      o .pairs,
+      pairs-exactly (t .fpdat) (t .pairs) .1 (o .pairs, o .registers),
       le-leb 1 (t .size * pages) b,
       mul-mod-right (t .size) pages,
       mul-div-right pages {m = t .size} z,
@@ -192,14 +195,15 @@ within-ranges s e =
     let a = both (eqb n 0) (is-tidy (s .settings .pairs)) (p .0) in
     record {
       opening = opening-passes (s .settings) (s .first) (s .pages) (eqb-true n 0 (a .0));
-      unnamed = a .1;
+      unnamed = tidy-exactly (s .settings .pairs) .0 (a .1);
       point = point-stands (limits-of (s .settings)) (s .settings .size) (s .settings .pairs .count) (s .pages) (s .point) (p .1);
     }
 
 pub ranges-within : (s : Session) → Within-ranges s → in-range s ≡ true
 unfolding in-range
 ranges-within s x =
-    rw (opening-would-pass (s .settings) (s .first) (s .pages) (x .opening), x .unnamed) (standing-point (limits-of (s .settings)) (s .settings .size) (s .settings .pairs .count) (s .pages) (s .point) (x .point))
+    rw (opening-would-pass (s .settings) (s .first) (s .pages) (x .opening), tidy-exactly (s .settings .pairs) .1 (x .unnamed))
+    (standing-point (limits-of (s .settings)) (s .settings .size) (s .settings .pairs .count) (s .pages) (s .point) (x .point))
 
 pub ranges-are : Ranges-are
 ranges-are s = (within-ranges s, ranges-within s)

@@ -13,7 +13,6 @@ use Rattle.laws.specs.Bytes.{Bytes}
 use Rattle.laws.proofs.Tests.{both, by-test}
 use Rattle.settings.specs.declared.Settings.{Settings}
 use Rattle.settings.specs.Accepted.{In-bytes}
-use Rattle.settings.proofs.Laws.Registers.{pairs-facts}
 use Rattle.c2_order.specs.Conversation.{Limits, limits-of}
 use Rattle.c2_acts.specs.declared.Stage.{Stage}
 use Rattle.c2_acts.specs.declared.Stage.the-variants.{Lead, Erase, Write, Read, Close, Register}
@@ -129,7 +128,7 @@ opening-fits t first pages o = go (o .size)
           first-page = omega (arith, o .inside);
           pages-too = omega (arith, o .inside);
           bytes = omega (arith, mul-le-mul-left {m = pages} {n = t .count} (t .size) (omega (arith, o .inside)), o .flash);
-          few-pairs = pairs-facts (t .fpdat) (t .pairs) (o .pairs) .0;
+          few-pairs = o .pairs;
         }
 
     go : (t .size ≡ 512) ⊎ (t .size ≡ 1024) → Opening-fits t first pages
