@@ -3,20 +3,39 @@
 /* What the device makes the driver wait for: zeros in a WAIT, reads of the status. */
 static const uint8_t DELAYS[] = {0, 3, 1, 0, 7, 19, 2};
 
-void board_power_on(board *b) {
-    b->target = c2_target_fresh();
+/* Nobody drives a wire; pull-ups keep both high. */
+void board_host_on(board *b) {
     b->c2ck = b->sent = true;
     b->driven = b->high = false;
     b->edge = b->ready = b->now;
     b->quiet = 0;
+    b->cut = false;
+}
+
+void board_power_on(board *b) {
+    board_host_on(b);
+    b->target = c2_target_fresh();
+}
+
+void board_cut(board *b, uint32_t steps) {
+    b->cut = true;
+    b->power = steps;
+}
+
+static bool is_dead(const board *b) {
+    return b->cut && b->power == 0;
 }
 
 static void fault_if(board *b, bool fault) {
-    if (fault)
+    if (fault && !is_dead(b))
         b->faults++;
 }
 
 static void target_step(board *b, uint8_t step) {
+    if (is_dead(b))
+        return;
+    if (b->cut)
+        b->power--;
     c2_replied replied = c2_target_step(DEVICE, DEVICE.pairs, b->target, b->flash, sizeof b->flash, DELAYS,
                                         sizeof DELAYS, step);
     fault_if(b, replied.number != 0);

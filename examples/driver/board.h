@@ -20,11 +20,19 @@ typedef struct {
     bool driven, high; /* C2D: whether the driver drives it, and how */
     bool sent;         /* what the device has on C2D, or the pull-up */
     bool collision;    /* the driver once drove C2D in a strobe of the device's */
+    bool cut;          /* the host's power will go, */
+    uint32_t power;    /* after so many steps more */
     unsigned faults;   /* times not kept, steps not known */
 } board;
 
-/* The device forgets everything but its flash. */
+/* The whole board gets its power: the device has forgotten everything but its flash. */
 void board_power_on(board *b);
+
+/* The host gets its power again, and the device had its own all the time: it is as it was left. */
+void board_host_on(board *b);
+
+/* The host's power goes after so many steps more. Whatever the driver does then reaches no wire. */
+void board_cut(board *b, uint32_t steps);
 
 /* The five functions, for this board. */
 pins board_pins(board *b);

@@ -1,5 +1,8 @@
-/* A session on the board that is not there: the power goes in the middle, the driver opens again and
-   finishes. */
+/*
+ * The battery comes out. A session on the board that is not there runs to its end; in each of its callbacks
+ * the power goes once, on a copy of the board, and the flash is looked at. From some of these cuts on the
+ * driver wakes and finishes.
+ */
 #include <stdio.h>
 #include <string.h>
 #include <unistd.h>
@@ -7,12 +10,28 @@
 #include "board.h"
 #include "c2_text.h"
 
-enum { IMAGE = 3 * PAGE, FIRST_PAGE = 5, START = FIRST_PAGE * PAGE };
-enum { SLEEP_US = 5000, CUT_AFTER = 900, NEVER = 0 };
+enum { NAMED = 3, IMAGE = NAMED * PAGE, FIRST_PAGE = 5, START = FIRST_PAGE * PAGE };
+enum { SLEEP_US = 5000, MOST_STEPS = 140, WAKE_EVERY = 101 };
+
+/* How it is when the driver wakes. */
+typedef enum {
+    RECORD_KEPT, /* the power went in a sleep; the device had its own and was not reset */
+    RECORD_LOST, /* the device had its own power and is in the middle of something */
+    ALL_LOST,    /* the device had no power either */
+    WAYS
+} waking;
 
 /* The image as it is stored, and where it was lent last: each callback finds it elsewhere, the old place
    spoilt. */
 static uint8_t image[IMAGE], places[2][IMAGE];
+
+/* The whole flash before the first session, and as it must be in the end. */
+static uint8_t before[FLASH], after[FLASH];
+
+/* What held so far. */
+static unsigned cuts, woken[WAYS];
+static bool others_kept = true, over_held = true, waiting_kept = true, one_in_part = true;
+static bool lost_refused = true, ended_done = true, programmed = true, no_collision = true, times_kept = true;
 
 static const uint8_t *moved_image(void) {
     static unsigned moves;
@@ -29,26 +48,136 @@ static void bar(uint64_t start, uint64_t now) {
     int done = (int)((start - now) * (uint64_t)width / start);
     if (!isatty(STDOUT_FILENO))
         return;
-    printf("\r[%.*s%*s]", done, full, width - done, "");
+    printf("\r[%.*s%*s]%s", done, full, width - done, "", now == 0 ? "\n" : "");
     fflush(stdout);
 }
 
-static void bar_end(void) {
-    if (isatty(STDOUT_FILENO))
-        putchar('\n');
+/* A callback; the first one of a session opens it. */
+static c2_advanced callback(const pins *pin, uint8_t *record, bool first) {
+    if (first)
+        return driver_begin(pin, record, moved_image(), IMAGE, DEVICE, FIRST_PAGE);
+    return driver_resume(pin, record, moved_image(), IMAGE);
 }
 
-/* Callbacks, with sleep between them, until the session is over or the power is cut after so many. */
-static c2_advanced run(const pins *pin, uint8_t *record, unsigned cut_after) {
-    c2_advanced answer = driver_begin(pin, record, moved_image(), IMAGE, DEVICE, FIRST_PAGE);
-    uint64_t start = c2_steps_left(record, C2_RECORD_BYTES).steps;
-    for (unsigned callbacks = 1; answer.number == C2_RUNNING && callbacks != cut_after; callbacks++) {
-        pin->delay_us(pin->context, SLEEP_US);
-        answer = driver_resume(pin, record, moved_image(), IMAGE);
-        bar(start, c2_steps_left(record, C2_RECORD_BYTES).steps);
+/* Pages of the image that are over, read back with no byte differing. docs/RECORD.md has the bytes. */
+static unsigned pages_over(const uint8_t *record) {
+    switch (record[10]) {
+    case 1: /* page erase */
+    case 2: /* block write */
+    case 3: /* block read */
+        return record[11];
+    case 4: /* last reset */
+        return NAMED;
+    default: /* up to the pause, and the pairs */
+        return 0;
     }
-    bar_end();
-    return answer;
+}
+
+/* The same and the page under way. */
+static unsigned pages_begun(const uint8_t *record) {
+    bool under_way = record[10] >= 1 && record[10] <= 3;
+    return pages_over(record) + (under_way ? 1 : 0);
+}
+
+/* The first bytes of the image, however many, and 0xFF behind them. */
+static bool is_in_part(const uint8_t *page, const uint8_t *wanted) {
+    size_t i = 0;
+    while (i < PAGE && page[i] == wanted[i])
+        i++;
+    while (i < PAGE && page[i] == 0xFF)
+        i++;
+    return i == PAGE;
+}
+
+/*
+ * Looks at every page. The record is that of the last sleep; if the power went in the callback after it, one
+ * page more may be begun, and one more over.
+ */
+static void look(const board *b, const uint8_t *record, bool in_sleep) {
+    unsigned over = pages_over(record), begun = pages_begun(record) + (in_sleep ? 0 : 1), in_part = 0;
+    for (unsigned page = 0; page < PAGES; page++) {
+        const uint8_t *now = b->flash + page * PAGE;
+        bool kept = memcmp(now, before + page * PAGE, PAGE) == 0;
+        unsigned at = page - FIRST_PAGE; /* a page before the first named one is beyond all of them */
+        if (at >= NAMED) {
+            others_kept &= kept;
+            continue;
+        }
+        bool whole = memcmp(now, image + at * PAGE, PAGE) == 0;
+        if (at < over)
+            over_held &= whole;
+        else if (at >= begun)
+            waiting_kept &= kept;
+        else if (!kept && !whole)
+            one_in_part &= in_part++ == 0 && is_in_part(now, image + at * PAGE);
+    }
+}
+
+/* The rest of a session, with sleep between its callbacks. */
+static uint32_t finish(const pins *pin, uint8_t *record, bool first) {
+    c2_advanced answer = callback(pin, record, first);
+    while (answer.number == C2_RUNNING) {
+        pin->delay_us(pin->context, SLEEP_US);
+        answer = callback(pin, record, false);
+    }
+    return answer.number;
+}
+
+/* Goes on if the record was kept and the device not reset; else opens anew over the same pages. */
+static void wake(board *b, uint8_t *record, waking how) {
+    pins pin = board_pins(b);
+    if (how == ALL_LOST)
+        board_power_on(b);
+    else
+        board_host_on(b);
+    if (how != RECORD_KEPT) {
+        memset(record, 0xA5, C2_RECORD_BYTES);
+        lost_refused &= callback(&pin, record, false).number == C2_BAD_RECORD;
+    }
+    ended_done &= finish(&pin, record, how != RECORD_KEPT) == C2_DONE;
+    programmed &= memcmp(b->flash, after, FLASH) == 0;
+    no_collision &= !b->collision;
+    times_kept &= b->faults == 0;
+    woken[how]++;
+}
+
+/*
+ * The power goes after some steps of the next callback, or before them all. What that callback makes of its
+ * record is lost; the one before it stands in memory that outlives the power, and now and then it is lost
+ * too.
+ */
+static void cut(board *b, const uint8_t *stored, bool first) {
+    uint8_t record[C2_RECORD_BYTES];
+    pins pin = board_pins(b);
+    bool wakes = cuts % WAKE_EVERY == 0;
+    waking how = first ? RECORD_LOST : (waking)(cuts / WAKE_EVERY % WAYS);
+    uint32_t steps = wakes && how == RECORD_KEPT ? 0 : cuts * 37 % MOST_STEPS;
+    cuts++;
+    board_cut(b, steps);
+    memcpy(record, stored, sizeof record);
+    callback(&pin, record, first);
+    look(b, stored, steps == 0);
+    memcpy(record, stored, sizeof record);
+    if (wakes)
+        wake(b, record, how);
+}
+
+/* The session that nothing happens to; the cuts are on copies of its board. */
+static uint32_t run(board *b, uint8_t *record) {
+    static board copy;
+    pins pin = board_pins(b);
+    c2_advanced answer = {C2_RUNNING, 0, 0};
+    uint64_t start = 0;
+    for (bool first = true; answer.number == C2_RUNNING; first = false) {
+        copy = *b;
+        cut(&copy, record, first);
+        answer = callback(&pin, record, first);
+        uint64_t left = c2_steps_left(record, C2_RECORD_BYTES).steps;
+        start = first ? left : start;
+        bar(start, left);
+        pin.delay_us(pin.context, SLEEP_US);
+    }
+    return answer.number;
 }
 
 /* Says what was expected; the program succeeds only if all of it held. */
@@ -57,48 +186,35 @@ static bool expect(bool held, const char *what) {
     return held;
 }
 
-/* The power goes: record and device forget, the flash stays. */
-static bool cut(const pins *pin, board *b, uint8_t *record) {
-    const uint8_t *pages = b->flash + START;
-    bool held = expect(run(pin, record, CUT_AFTER).number == C2_RUNNING, "the power goes while the session runs");
-    held &= expect(memcmp(pages, image, PAGE + PAGE / 4) == 0, "by then a page and a quarter is written");
-    held &= expect(memcmp(pages, image, 2 * PAGE) != 0, "the rest of the second page is not");
-    memset(record, 0xA5, C2_RECORD_BYTES);
-    board_power_on(b);
-    c2_advanced answer = driver_resume(pin, record, moved_image(), IMAGE);
-    printf("after the power cut: %u, %s\n", (unsigned)answer.number, c2_text(answer.number));
-    return expect(answer.number == C2_BAD_RECORD, "the lost record is refused") && held;
-}
-
-static bool finish(const pins *pin, uint8_t *record) {
-    c2_advanced answer = run(pin, record, NEVER);
-    printf("outcome: %u, %s\n", (unsigned)answer.number, c2_text(answer.number));
-    if (answer.number == C2_COMPARE_DIFFERS)
-        printf("offset in the image: %u\n", (unsigned)answer.offset);
-    return expect(answer.number == C2_DONE, "the session ends done");
-}
-
-/* The flash as it must be: as it was before, with the image in its pages. */
-static bool check(const board *b, uint8_t *before) {
-    bool held = expect(memcmp(b->flash + START, image, IMAGE) == 0, "the named pages hold the image");
-    memcpy(before + START, image, IMAGE);
-    held &= expect(memcmp(b->flash, before, FLASH) == 0, "every other byte is unchanged");
-    held &= expect(!b->collision, "the driver never drove C2D in a strobe of the device's");
-    return expect(b->faults == 0, "the times on the wires were kept") && held;
+static bool report(uint32_t number) {
+    printf("outcome: %u, %s\n", (unsigned)number, c2_text(number));
+    printf("%u power cuts; %u times the driver woke with its record, %u times without\n", cuts,
+           woken[RECORD_KEPT], woken[RECORD_LOST] + woken[ALL_LOST]);
+    bool held = expect(others_kept, "at each cut every page not named is as before");
+    held &= expect(over_held, "every page whose read-back has ended holds its image");
+    held &= expect(waiting_kept, "every page not yet begun is as before");
+    held &= expect(one_in_part, "at most one page is neither: its image's first bytes, 0xFF behind them");
+    held &= expect(lost_refused, "a record that was lost is refused");
+    held &= expect(ended_done && number == C2_DONE, "every session that goes on or opens anew ends done");
+    held &= expect(programmed, "the named pages then hold the image, and every other byte is unchanged");
+    held &= expect(no_collision, "the driver never drove C2D in a strobe of the device's");
+    return expect(times_kept, "the times on the wires were kept") && held;
 }
 
 int main(void) {
     static board b;
-    static uint8_t before[FLASH];
     for (size_t i = 0; i < IMAGE; i++)
         image[i] = (uint8_t)(i * 7 + i / 256);
     for (size_t i = 0; i < FLASH; i++)
-        before[i] = b.flash[i] = (uint8_t)(i * 31 + 5);
+        before[i] = (uint8_t)(i * 31 + 5);
+    memcpy(b.flash, before, FLASH);
+    memcpy(after, before, FLASH);
+    memcpy(after + START, image, IMAGE);
     board_power_on(&b);
-    pins pin = board_pins(&b);
     uint8_t record[C2_RECORD_BYTES] = {0}; /* all that lives from one callback to the next */
-    bool held = cut(&pin, &b, record);
-    held &= finish(&pin, record);
-    held &= check(&b, before);
-    return held ? 0 : 1;
+    uint32_t number = run(&b, record);
+    programmed &= memcmp(b.flash, after, FLASH) == 0;
+    no_collision &= !b.collision;
+    times_kept &= b.faults == 0;
+    return report(number) ? 0 : 1;
 }

@@ -20,6 +20,7 @@ const ALL: &[&[Check]] = &[
     c2::pairs::CHECKS,
     c2::wanted::CHECKS,
     c2::closed::CHECKS,
+    c2::cut::CHECKS,
     dump::CHECKS,
     hex::CHECKS,
     radio::commands::CHECKS,

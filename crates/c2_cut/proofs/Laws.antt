@@ -6,5 +6,6 @@ pub mod PageOf
 pub mod Over
 pub mod Cut
 pub mod Again
+pub mod Unprepared
 pub mod ByReplies
 pub mod Examples

@@ -3,7 +3,7 @@
 use mathlib.Core.Path.{_≡_}
 use mathlib.Core.Bool.{Bool, true, false, cond}
 use mathlib.Core.List.{List, [], _∷_}
-use Prim.Native.Nat.{ℕ, suc, _+_, _*_, _<_, _≤_}
+use Prim.Native.Nat.{ℕ, _+_, _*_, _<_, _≤_}
 use lib.ListN.{length, take}
 use Rattle.numbers.specs.Numbers.{done, running, bad-status}
 use Rattle.laws.specs.Bytes.{Bytes}
@@ -73,8 +73,8 @@ unfoldable pub bench-after : Settings → Bench → (steps : List ℕ) → Bench
 bench-after t b [] = b
 bench-after t b (x ∷ xs) = bench-after t (bench-step t b x) xs
 
--- A target is one that a session may meet: no step of it is refused (step 6 changes nothing), so its wanted
--- pairs pass 19; no collision is marked, and flash and delays are bytes.
+-- A target is one that a session may meet: no step that a session sends is refused (step 6, which changes
+-- nothing, is not), so its wanted pairs pass 19; no collision is marked, and flash and delays are bytes.
 pub record Ready (t : Settings) (b : Bench) : Type 0 where
   pub steps : model-answer t (b .wanted) (b .target) (b .flash) (b .delays) (code off) .number ≡ 0
   pub unmarked : b .target .collision ≡ 0
@@ -100,37 +100,40 @@ abbrev pub Own : Settings → Bench → Told → (replies : List ℕ) → Type 0
 Own t b x rs = take (x .taken) rs ≡ replies t b (take (x .taken) (steps-sent x))
 
 -- What is claimed against a target whose wanted values the settings' pairs leave, of what was told at the
--- opening (`start`) and after calls with these replies (`x`). However many of the steps it has got, the
--- target is one that another session may meet. With as many replies as the most steps to come at the opening
--- the session has ended. Once it has ended, it has ended done, and the target, by then or with the last step
--- too, holds the image in the named pages, and every other byte as it was. Cut after n steps: a page not
--- named, or not yet begun, is as before, one whose read-back has ended holds its image, and at most one is
--- under way (`Cut` of c2_cut); and a new session over the same pages, to which `ready` and this whole claim
--- apply, comes to the same as if there had been none before.
+-- opening (`start`) and after calls with these replies (`x`). With as many replies as the most steps to come
+-- at the opening the session has ended. Once it has ended, it has ended done, and the target, by then or with
+-- the last step too, holds the image in the named pages, and every other byte as it was.
 pub record Against (j : Job) (b : Bench) (start x : Told) (rs : List ℕ) : Type 0 where
-  pub ready : (n : ℕ) → Ready (j .settings) (bench-cut j b x n)
   pub ends : start .left ≤ length rs → x .outcome ≡ outcome done
   pub as-done : (x .outcome .number ≡ running → ⊥) → x .outcome ≡ outcome done
   pub holds : x .outcome ≡ outcome done → (n : ℕ) → x .taken ≤ n → bench-cut j b x n .flash ≡ programmed j (b .flash)
-  pub cut : (n : ℕ) → n ≤ suc (x .taken) → Cut (limits-of (j .settings)) (j .settings) (job-pages j) rs n (b .flash) (bench-cut j b x n .flash)
-  pub again : (n : ℕ) → n ≤ suc (x .taken) → (held image : List ℕ) → Begins held (anew j image)
-      → programmed (anew j image) (bench-cut j b x n .flash) ≡ programmed (anew j image) (b .flash)
 
 -- What is claimed against a target whose wanted values the settings' pairs do not leave: it turns the session
--- away. However many of the steps it has got, the target is one that another session may meet, and its flash
--- is as before. With as many replies as the most steps to come at the opening
--- the session has ended, and once it has ended, it has ended with 13, the number of a status that is not
--- 0x0D.
+-- away. However many of the steps it has got, its flash is as before. With as many replies as the most steps
+-- to come at the opening the session has ended, and once it has ended, it has ended with 13, the number of a
+-- status that is not 0x0D.
 pub record Turned-away (j : Job) (b : Bench) (start x : Told) (rs : List ℕ) : Type 0 where
-  pub ready : (n : ℕ) → Ready (j .settings) (bench-cut j b x n)
   pub unchanged : (n : ℕ) → bench-cut j b x n .flash ≡ b .flash
   pub ends : start .left ≤ length rs → x .outcome ≡ outcome bad-status
   pub as-turned-away : (x .outcome .number ≡ running → ⊥) → x .outcome ≡ outcome bad-status
 
+-- What is claimed when the battery comes out (document 02, h) after n of the steps, whether or not the
+-- settings' pairs leave the wanted values. A page not named is as before; one whose read-back has ended with
+-- no byte differing holds its image; a named one not yet begun is as before; at most one page is neither
+-- (`Cut` of c2_cut). The target as it was left is one that a session may meet, so no collision is marked, and
+-- wants the same pairs: `Calls-program` applies to a new session over the same pages as to any. The flash
+-- that it programs is the one that it would have programmed with no session before it (`Calls-again`).
+pub record When-cut (j : Job) (b : Bench) (x : Told) (rs : List ℕ) (n : ℕ) : Type 0 where
+  pub pages : Cut (limits-of (j .settings)) (j .settings) (job-pages j) rs n (b .flash) (bench-cut j b x n .flash)
+  pub ready : Ready (j .settings) (bench-cut j b x n)
+  pub wanted : bench-cut j b x n .wanted ≡ b .wanted
+  pub again : (held image : List ℕ) → Begins held (anew j image)
+      → programmed (anew j image) (bench-cut j b x n .flash) ≡ programmed (anew j image) (b .flash)
+
 -- What is claimed of a list of calls: each refused one changes no byte that it is lent and takes no reply;
 -- what the calls tell is what the replies in a row come to; the most steps to come and the replies taken are
 -- together at most what the opening told; and where the replies are the target's own, `Against` holds if the
--- settings' pairs leave the wanted values, and `Turned-away` if not.
+-- settings' pairs leave the wanted values, `Turned-away` if not, and `When-cut` after any number of steps.
 pub record Whole (j : Job) (start x : Told) (calls : List Call) : Type 0 where
   pub refused : Refused-keeps
   pub told-is : x ≡ by-replies (j .settings) (first-of (j .pages)) (j .image) (in-a-row C2 calls)
@@ -139,6 +142,8 @@ pub record Whole (j : Job) (start x : Told) (calls : List Call) : Type 0 where
       → Against j b start x (in-a-row C2 calls)
   pub turned-away : (b : Bench) → Ready (j .settings) b → Own (j .settings) b x (in-a-row C2 calls) → prepares j b ≡ false
       → Turned-away j b start x (in-a-row C2 calls)
+  pub cut : (b : Bench) → Ready (j .settings) b → Own (j .settings) b x (in-a-row C2 calls)
+      → (n : ℕ) → When-cut j b x (in-a-row C2 calls) n
 
 -- Demand 3: whatever the driver knew before, after an accepted opening, of every list of calls that may
 -- follow it.
@@ -146,6 +151,26 @@ abbrev pub Calls-program : Type 0
 Calls-program = (j : Job) (held : List ℕ) (before : Told) (calls : List Call) → Begins held j
     → May-follow C2 (j .image) (at-opening before held j) calls
     → Whole j (at-opening before held j) (told C2 before (opening-call held j ∷ calls)) calls
+
+-- A new session for a job, on a target (`left`) that an earlier one has left, ends as demand 3 says; and the
+-- flash is then what it would have been on the target before that session (`b`).
+pub record Ends-anew (j : Job) (b left : Bench) (start x : Told) (rs : List ℕ) : Type 0 where
+  pub against : Against j left start x rs
+  pub as-if-first : x .outcome ≡ outcome done → (n : ℕ) → x .taken ≤ n → bench-cut j left x n .flash ≡ programmed j (b .flash)
+
+-- When the battery comes out (document 02, h), the second sentence: after a session's calls, cut after any
+-- number of steps, every list of calls that follows an accepted opening over the same pages, with the same
+-- image or another, ends so where the replies are the target's own.
+abbrev pub Calls-again : Type 0
+Calls-again = (j : Job) (held : List ℕ) (before : Told) (calls : List Call) (b : Bench) (n : ℕ) → Begins held j
+    → May-follow C2 (j .image) (at-opening before held j) calls
+    → let x = told C2 before (opening-call held j ∷ calls) in
+    Ready (j .settings) b → Own (j .settings) b x (in-a-row C2 calls) → prepares j b ≡ true
+    → (image held-anew : List ℕ) (knew : Told) (later : List Call) → Begins held-anew (anew j image)
+    → May-follow C2 image (at-opening knew held-anew (anew j image)) later
+    → let y = told C2 knew (opening-call held-anew (anew j image) ∷ later) in
+    Own (j .settings) (bench-cut j b x n) y (in-a-row C2 later)
+    → Ends-anew (anew j image) b (bench-cut j b x n) (at-opening knew held-anew (anew j image)) y (in-a-row C2 later)
 
 -- Lists with the same replies in a row are alike in all that they tell (`Calls-alike`), a list of a single
 -- call too (`Like-one-call`), where its step buffer has room.

@@ -1,7 +1,8 @@
-//! C2: frames, target, session, calls and records; WAIT limit and pairs.
+//! C2: frames, target, session, calls and records; WAIT limit and pairs; sessions that are cut.
 
 pub mod calls;
 pub mod closed;
+pub mod cut;
 pub mod model;
 pub mod pairs;
 pub mod program;

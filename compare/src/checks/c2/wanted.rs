@@ -331,7 +331,7 @@ fn gone(settings: &Settings, wanted: &Pairs, image: &[u8], flash: &[u8], whole: 
 }
 
 /// Each wanted pair is the last of the settings' pairs with its register.
-fn premise(pairs: &[(u8, u8)], wanted: &[(u8, u8)]) -> bool {
+pub fn premise(pairs: &[(u8, u8)], wanted: &[(u8, u8)]) -> bool {
     wanted.iter().all(|pair| pairs.iter().rfind(|written| written.0 == pair.0) == Some(pair))
 }
 

@@ -1,6 +1,7 @@
 //! C2: calls and steps on lent memory, both sides side by side, and work for them.
 
 pub mod calls;
+pub mod closed_loop;
 pub mod device;
 pub mod driven;
 pub mod driver;

@@ -71,7 +71,7 @@ impl Trouble {
 }
 
 /// Mostly prompt, with a delay at the edges of WAIT and poll now and then.
-fn prompt_delays(random: &mut Random, wait_limit: u8) -> Vec<u8> {
+pub fn prompt_delays(random: &mut Random, wait_limit: u8) -> Vec<u8> {
     let count = random.between(50, 400);
     let mut delays: Vec<u8> = (0..count).map(|_| random.pick(&[0, 0, 0, 1, 2])).collect();
     delays[random.below(count)] = random.pick(&edges_of_waits(wait_limit));

@@ -53,6 +53,7 @@ impl Shown {
     }
 }
 
+#[derive(Clone)]
 pub struct Twins {
     pub settings: Settings,
     pub wanted: Pairs,

@@ -1,5 +1,5 @@
 //! A session (document 01, "Settings and session", "Numbers that come back", "How much is left"; its WAITs by
-//! document 02, d, its pairs of register and value by e).
+//! document 02, d, its pairs of register and value by e, how far its pages have come by h).
 //!
 //! Opening writes the whole session out as a list of operations; a reply moves along that list.
 
@@ -21,6 +21,9 @@ pub const FIRST_STEP: u8 = RESET;
 const BLOCK_SIZE: usize = 256;
 /// The length code of a whole block.
 const WHOLE_BLOCK: u8 = 0;
+/// The act of an erase that puts the last byte, by which the page is erased: after the Address Write and two
+/// bytes, each put with its poll and answered with another poll and a read.
+const LAST_ERASE_PUT: u16 = 1 + 2 * 4;
 
 /// A byte that is fixed at the opening, or the image's at this offset.
 #[derive(Clone, Copy, Debug)]
@@ -88,6 +91,24 @@ pub struct Act {
     pub page: u8,
     pub block: u8,
     pub act: u16,
+}
+
+/// How many of the image's pages, from its first on, have come so far (document 02, h).
+#[derive(Clone, Copy, Debug, PartialEq, Eq)]
+pub struct Progress {
+    /// the first step of the page's first command was asked for
+    pub begun: usize,
+    /// the first step of the put that erases the page was asked for
+    pub erasing: usize,
+    /// the read-back has ended with no byte differing
+    pub read_back: usize,
+}
+
+impl Progress {
+    /// So many pages have come all the way, and no other is begun.
+    pub fn all(pages: usize) -> Progress {
+        Progress { begun: pages, erasing: pages, read_back: pages }
+    }
 }
 
 #[derive(Clone, Copy, Debug)]
@@ -377,6 +398,22 @@ impl Session {
 
     pub fn running(&self) -> bool {
         self.outcome.number == numbers::RUNNING
+    }
+
+    /// How far the pages have come. A session that ended counts by the operation that it ended in.
+    pub fn progress(&self) -> Progress {
+        let Some(Act { stage, page, act, .. }) = self.entries.get(self.at).map(|entry| entry.act) else {
+            return Progress::all(self.pages);
+        };
+        let before = usize::from(page);
+        match stage {
+            Stage::Lead | Stage::Pairs => Progress::all(0),
+            Stage::Erase if act < LAST_ERASE_PUT => Progress { begun: before + 1, ..Progress::all(before) },
+            Stage::Erase | Stage::BlockWrite | Stage::BlockRead => {
+                Progress { read_back: before, ..Progress::all(before + 1) }
+            }
+            Stage::LastReset => Progress::all(self.pages),
+        }
     }
 
     /// The most steps still to come with a reply, by document 01's counting rule as document 02, d and e, has

@@ -1,19 +1,23 @@
--- Request h by replies: each cut of a session whose replies taken are the target's own leaves `Cut`. The steps
--- that they bring lead the target as the run does.
+-- Request h by replies: each cut of a session whose replies taken are the target's own leaves `Cut`, where
+-- the settings' pairs leave the wanted values. The steps that they bring lead the target as the run does.
 use mathlib.Core.Path.{_≡_, refl, sym, ap, _∙_, subst, subst⁻¹}
-use mathlib.Core.List.{List, [], _∷_}
+use mathlib.Core.Bool.{Bool}
+use mathlib.Core.List.{List, [], _∷_, _++_, map}
 use Prim.Native.Nat.{ℕ, zero, suc, _-_, _<_, _≤_}
 use native.Mathlib.Omega.{arith}
 use borrow.Author.Tests.{ltb-true, ltb-false}
 use lib.Dec.{ltb}
-use lib.ListN.{length, take}
-use lib.Seq.{take-all}
+use lib.ListN.{length, take, drop}
+use lib.Seq.{take-all, take-nil}
 use Rattle.laws.proofs.Tests.{by-test}
+use Rattle.c2_wire.specs.Step.{Step}
+use Rattle.c2_wire.specs.Field.{Field}
 use Rattle.c2_wire.specs.Exchange.{Exchange, ended, strobe, ask, at, Outcome, outcome, after, fed, steps, taken}
 use Rattle.c2_wire.proofs.Laws.Exchange.{fed-ended}
 use Rattle.settings.specs.declared.Settings.{Settings}
 use Rattle.settings.proofs.Laws.Accepted.{Facts, facts}
-use Rattle.c2_order.specs.Order.{Page, order}
+use Rattle.c2_order.specs.Acts.{reset-pulse}
+use Rattle.c2_order.specs.Order.{Page, joined, page-acts, order}
 use Rattle.c2_order.specs.Conversation.{Limits, conversation}
 use Rattle.c2_target.specs.declared.Target.{Target}
 use Rattle.c2_target.specs.Delays.{Setup}
@@ -23,6 +27,7 @@ use Rattle.c2_target.proofs.Laws.Known.{Lent, Exists}
 use Rattle.c2_play.specs.Playing.{Played, played}
 use Rattle.c2_play.specs.Pages.{At, up-to}
 use Rattle.c2_play.proofs.Laws.Interface.{Fit}
+use Rattle.c2_play.proofs.Laws.Onto.{onto}
 use Rattle.c2_play.proofs.Laws.Playing.{played-left, ended-duration}
 use Rattle.c2_play.proofs.Laws.Programmed.{Meets, Prepares, exchange-over}
 use Rattle.c2_play.proofs.Laws.Rise.{all-at}
@@ -31,7 +36,7 @@ use Rattle.c2_play.proofs.Laws.OwnReplies.{sent, Own-replies, own-given, own-ta
 use Rattle.c2_play.proofs.Laws.Named.{All-fit}
 use Rattle.c2_cut.specs.Cut.{Over, Cut}
 use Rattle.c2_cut.proofs.Laws.Order.{full-reach, order-stands}
-use Rattle.c2_cut.proofs.Laws.Over.{over-to, over-from, reach-mono, reach-rises, reach-whole}
+use Rattle.c2_cut.proofs.Laws.Over.{whole-is, over-to, over-from, reach-mono, reach-rises, reach-whole}
 use Rattle.c2_cut.proofs.Laws.Cut.{cut-by}
 
 -- replies that are not all taken have ended the exchange
@@ -50,10 +55,30 @@ more-ended (suc m) zero e rs o h q = absurd (omega arith)
 more-ended (suc m) (suc n) e [] o h q = q
 more-ended (suc m) (suc n) e (r ∷ rs) o h q = more-ended m n (after e r) rs o (omega arith) q
 
-pub cuts-by-replies : (l : Limits) (u : Setup) (ps : List Page) (t : Target) (f rs : List ℕ) → Prepares u → Meets l u ps t f
+-- a reply is taken alike by an exchange and by one that goes on with x
+onto-replied : (g : Field) (s : Step) (k : Bool → Exchange) (x : Exchange) (r : ℕ)
+    → after (strobe g s (λ b. onto (k b) x)) r ≡ onto (after (strobe g s k) r) x
+unfolding onto after
+onto-replied g s k x zero = refl
+onto-replied g s k x (suc zero) = refl
+onto-replied g s k x (suc (suc r)) = refl
+
+-- replies past those that e and then x take change nothing of e
+past : (e x : Exchange) (rs : List ℕ) (n : ℕ) → taken (onto e x) rs ≤ n → fed e (take n rs) ≡ fed e (take (taken (onto e x) rs) rs)
+unfolding onto taken steps fed
+past e x [] n h = ap (fed e) (take-nil n)
+past (ended o) x (r ∷ rs) n h = fed-ended o (take n (r ∷ rs)) ∙ sym (fed-ended o (take (taken (onto (ended o) x) (r ∷ rs)) (r ∷ rs)))
+past (ask (at g s) k) x (r ∷ rs) zero h = absurd (omega arith)
+past (ask (at g s) k) x (r ∷ rs) (suc n) h =
+    let y = after (strobe g s (λ b. onto (k b) x)) r in
+    let fewer : taken y rs ≤ n = omega arith in
+    rw (onto-replied g s k x r) (past (after (strobe g s k) r) x rs n (rw (onto-replied g s k x r) at fewer))
+
+-- a cut after no more steps than were sent
+cut-within : (l : Limits) (u : Setup) (ps : List Page) (t : Target) (f rs : List ℕ) → Prepares u → Meets l u ps t f
     → Own-replies u t f (exchange-over l (u .settings) ps) rs → (n : ℕ) → n ≤ suc (taken (exchange-over l (u .settings) ps) rs)
     → Cut l (u .settings) ps rs n f (left-by u t f (take n (sent (exchange-over l (u .settings) ps) rs)) .flash)
-cuts-by-replies l u ps t f rs leaves h own n hn =
+cut-within l u ps t f rs leaves h own n hn =
     subst⁻¹ (λ (z : State). Cut l s ps rs n f (z .flash)) (own-given u n e t f rs own hn)
     (subst⁻¹ (λ (w : Played). Cut l s ps rs n f (w .flash)) (played-stepped u lent (not-refused-by l u ps t f h) n e t f (h .suits .flash) k)
     (cut-by s ps (h .named) f _ R n (k .flash) mono rises l rs (order-stands u (l .wait) (l .reads) fit leaves B (x .size) some (x .bytes) ps t f (h .suits .unmarked) fits (k .flash) n)
@@ -129,3 +154,53 @@ cuts-by-replies l u ps t f rs leaves h own n hn =
         let z = before-says i (subst (λ (qs : List ℕ). Over l s (take i ps) qs) same o) in
         omega (arith, z)))
         (λ b. says n (ltb-false (taken e rs) n b) i o)
+
+-- `Cut` goes by what the replies have brought the order to
+cut-alike : (l : Limits) (s : Settings) (ps : List Page) (rs : List ℕ) (m n : ℕ) (f F : List ℕ)
+    → ((i : ℕ) → let e = conversation l (up-to s (take i ps)) in fed e (take (n - 1) rs) ≡ fed e (take (m - 1) rs))
+    → ((i : ℕ) → let e = conversation l (up-to s (take i ps)) in fed e (take n rs) ≡ fed e (take m rs))
+    → Cut l s ps rs m f F → Cut l s ps rs n f F
+cut-alike l s ps rs m n f F before all c =
+    record {
+      unnamed = c .unnamed;
+      read-back = λ i p a h. c .read-back i p a (sym (all (suc i)) ∙ h);
+      waiting = λ i p a h. c .waiting i p a (λ g. h (before i ∙ g));
+      one = λ i j p q a d hi gi hj gj.
+          c .one i j p q a d (sym (before i) ∙ hi) (λ g. gi (all (suc i) ∙ g)) (sym (before j) ∙ hj) (λ g. gj (all (suc j) ∙ g));
+      each = c .each;
+    }
+
+-- a cut after any number of steps: past those that were sent, it is a cut after the last of them
+pub cuts-by-replies : (l : Limits) (u : Setup) (ps : List Page) (t : Target) (f rs : List ℕ) → Prepares u → Meets l u ps t f
+    → Own-replies u t f (exchange-over l (u .settings) ps) rs → (n : ℕ)
+    → Cut l (u .settings) ps rs n f (left-by u t f (take n (sent (exchange-over l (u .settings) ps) rs)) .flash)
+unfolding taken
+cuts-by-replies l u ps t f rs leaves h own n =
+    by-test (ltb m n)
+    (λ b.
+    let hn : m < n = ltb-true m n b in
+    subst⁻¹ (λ (xs : List ℕ). Cut l s ps rs n f (left-by u t f xs .flash))
+    (take-all n (sent e rs) (omega arith) ∙ sym (take-all m (sent e rs) (omega arith)))
+    (cut-alike l s ps rs m n f _ (λ i. alike i (n - 1) (m - 1) (omega arith) (omega arith)) (λ i. alike i n m (omega arith) (omega arith))
+    (cut-within l u ps t f rs leaves h own m (omega arith))))
+    (λ b. cut-within l u ps t f rs leaves h own n (ltb-false m n b))
+  where
+    s : Settings
+    s = u .settings
+
+    e : Exchange
+    e = exchange-over l s ps
+
+    m : ℕ
+    m = suc (taken e rs)
+
+    before : (i : ℕ) → Exchange
+    before i = conversation l (up-to s (take i ps))
+
+    behind : (i : ℕ) → Exchange
+    behind i = conversation l (joined (map (page-acts s) (drop i ps)) ++ reset-pulse ∷ [])
+
+    alike : (i a b : ℕ) → taken e rs ≤ a → taken e rs ≤ b → fed (before i) (take a rs) ≡ fed (before i) (take b rs)
+    alike i a b ha hb =
+        let q = whole-is u (l .wait) (l .reads) (fit-by l u ps t f h) ps i in
+        past (before i) (behind i) rs a (rw q at ha) ∙ sym (past (before i) (behind i) rs b (rw q at hb))

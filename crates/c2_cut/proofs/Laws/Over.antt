@@ -55,21 +55,30 @@ module _ (u : Setup) (l r : ℕ) (fit : Fit u l r) where
   unfolding page-acts erase conversation frame strobes duration
   page-some p acts t f = omega arith
 
+  -- the order is the order up to some pages, and the rest
+  split-order : (ps : List Page) (i : ℕ)
+      → order (u .settings) ps ≡ up-to (u .settings) (take i ps) ++ (acts-of (drop i ps) ++ reset-pulse ∷ [])
+  unfolding order
+  split-order ps i =
+      ap (λ (x : List Page). preparation (u .settings) ++ acts-of x ++ reset-pulse ∷ []) (sym (take-append-drop i ps))
+      ∙ ap (λ (x : List Act). preparation (u .settings) ++ x ++ reset-pulse ∷ []) (acts-append (u .settings) (take i ps) (drop i ps))
+      ∙ ap (λ (x : List Act). x ++ reset-pulse ∷ [])
+      (sym (append-assoc (preparation (u .settings)) (acts-of (take i ps)) (acts-of (drop i ps))))
+      ∙ append-assoc (up-to (u .settings) (take i ps)) (acts-of (drop i ps)) (reset-pulse ∷ [])
+
+  pub whole-is : (ps : List Page) (i : ℕ)
+      → conv (order (u .settings) ps) ≡ onto (conv (up-to (u .settings) (take i ps))) (conv (acts-of (drop i ps) ++ reset-pulse ∷ []))
+  whole-is ps i =
+      ap conv (split-order ps i)
+      ∙ onto-acts (limits l r) (up-to (u .settings) (take i ps)) (acts-of (drop i ps) ++ reset-pulse ∷ [])
+      (refuses-up-to (u .settings) (take i ps))
+
   module _ (leaves : Prepares u) (B : ℕ) (whole : u .settings .size ≡ 256 * B) (some : 1 ≤ B) (few : u .settings .size * u .settings .count ≤ 65536) where
     abbrev size : ℕ
     size = u .settings .size
 
     abbrev full : List ℕ → Type 0
     full f = length f ≡ size * u .settings .count
-
-    -- the order is the order up to some pages, and the rest
-    split-order : (ps : List Page) (i : ℕ) → order (u .settings) ps ≡ up-to (u .settings) (take i ps) ++ (acts-of (drop i ps) ++ reset-pulse ∷ [])
-    unfolding order
-    split-order ps i =
-        ap (λ (x : List Page). preparation (u .settings) ++ acts-of x ++ reset-pulse ∷ []) (sym (take-append-drop i ps))
-        ∙ ap (λ (x : List Act). preparation (u .settings) ++ x ++ reset-pulse ∷ []) (acts-append (u .settings) (take i ps) (drop i ps))
-        ∙ ap (λ (x : List Act). x ++ reset-pulse ∷ []) (sym (append-assoc (preparation (u .settings)) (acts-of (take i ps)) (acts-of (drop i ps))))
-        ∙ append-assoc (up-to (u .settings) (take i ps)) (acts-of (drop i ps)) (reset-pulse ∷ [])
 
     module _ (ps : List Page) (t : Target) (f : List ℕ) (hm : t .collision ≡ false) (fits : All-fit (u .settings) ps) (ef : full f) where
       abbrev reaches : ℕ → ℕ
@@ -82,22 +91,17 @@ module _ (u : Setup) (l r : ℕ) (fit : Fit u l r) where
       done-by : (i : ℕ) → outcome-of (run (up-to (u .settings) (take i ps)) t f .left) ≡ outcome done
       done-by i = up-to-run u l r fit leaves B whole some few (take i ps) t f hm (all-fit-take (u .settings) i ps fits) ef .ended
 
-      whole-is : (i : ℕ) → conv (order (u .settings) ps) ≡ onto (conv (up-to (u .settings) (take i ps))) (conv (acts-of (drop i ps) ++ reset-pulse ∷ []))
-      whole-is i =
-          ap conv (split-order ps i)
-          ∙ onto-acts (limits l r) (up-to (u .settings) (take i ps)) (acts-of (drop i ps) ++ reset-pulse ∷ []) (refuses-up-to (u .settings) (take i ps))
-
       -- the replies have brought the order to the end of the first i pages exactly if they are as many as its
       -- steps up to there
       pub over-to : (n i : ℕ) → reaches i ≤ n → Over (limits l r) (u .settings) (take i ps) (own n)
       over-to n i h =
-          ap (λ (e : Exchange). fed (conv (up-to (u .settings) (take i ps))) (played (stepped u) n e t f .replies)) (whole-is i)
+          ap (λ (e : Exchange). fed (conv (up-to (u .settings) (take i ps))) (played (stepped u) n e t f .replies)) (whole-is ps i)
           ∙ over-is (stepped u) n (conv (up-to (u .settings) (take i ps))) (conv (acts-of (drop i ps) ++ reset-pulse ∷ [])) t f (done-by i) h
 
       pub over-from : (n i : ℕ) → Over (limits l r) (u .settings) (take i ps) (own n) → reaches i ≤ n
       over-from n i h =
           over-says (stepped u) n (conv (up-to (u .settings) (take i ps))) (conv (acts-of (drop i ps) ++ reset-pulse ∷ [])) t f (outcome done)
-          (ap (λ (e : Exchange). fed (conv (up-to (u .settings) (take i ps))) (played (stepped u) n e t f .replies)) (sym (whole-is i)) ∙ h)
+          (ap (λ (e : Exchange). fed (conv (up-to (u .settings) (take i ps))) (played (stepped u) n e t f .replies)) (sym (whole-is ps i)) ∙ h)
 
       -- more pages take more steps
       more-pages : (i k : ℕ) → up-to (u .settings) (take (i + k) ps) ≡ up-to (u .settings) (take i ps) ++ acts-of (take k (drop i ps))
@@ -129,6 +133,6 @@ module _ (u : Setup) (l r : ℕ) (fit : Fit u l r) where
 
       pub reach-whole : (i : ℕ) → reaches i ≤ duration (stepped u) (conv (order (u .settings) ps)) t f
       reach-whole i =
-          let q = ap (λ (e : Exchange). duration (stepped u) e t f) (whole-is i)
+          let q = ap (λ (e : Exchange). duration (stepped u) e t f) (whole-is ps i)
           ∙ onto-duration (stepped u) (conv (up-to (u .settings) (take i ps))) (conv (acts-of (drop i ps) ++ reset-pulse ∷ [])) t f (done-by i) in
           omega (arith, q)

@@ -49,15 +49,15 @@ reply-again zero h = refl
 reply-again (suc zero) h = refl
 reply-again (suc (suc n)) h = absurd (omega arith)
 
-head-is : (x y : ℕ) (xs ys : List ℕ) → x ∷ xs ≡ y ∷ ys → x ≡ y
+pub head-is : (x y : ℕ) (xs ys : List ℕ) → x ∷ xs ≡ y ∷ ys → x ≡ y
 head-is x y xs ys p = cc
 
-tail-is : (x y : ℕ) (xs ys : List ℕ) → x ∷ xs ≡ y ∷ ys → xs ≡ ys
+pub tail-is : (x y : ℕ) (xs ys : List ℕ) → x ∷ xs ≡ y ∷ ys → xs ≡ ys
 tail-is x y xs ys p = cc
 
 -- the exchange after the target's own reply to its step
-own-after : (u : Setup) (t : Target) (f : List ℕ) (g : Field) (s : Step) (k : Bool → Exchange) (r : ℕ) → r ≡ answer u t f (code s) .reply
-    → after (strobe g s k) r ≡ k (eqb (answer u t f (code s) .reply) 1)
+pub own-after : (u : Setup) (t : Target) (f : List ℕ) (g : Field) (s : Step) (k : Bool → Exchange) (r : ℕ)
+    → r ≡ answer u t f (code s) .reply → after (strobe g s k) r ≡ k (eqb (answer u t f (code s) .reply) 1)
 own-after u t f g s k r same = ap (after (strobe g s k)) same ∙ after-small g s k (answer u t f (code s) .reply) (reply-small u t f (code s))
 
 -- an exchange that has not ended is played on by the target's reply to its step

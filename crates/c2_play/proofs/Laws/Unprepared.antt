@@ -1,15 +1,15 @@
 -- A device that is not prepared turns the first erase away: the session ends with 13, and the flash is as
 -- before.
-use mathlib.Core.Path.{_≡_, refl, ap, _∙_, subst⁻¹}
+use mathlib.Core.Path.{_≡_, refl, _∙_, subst⁻¹}
 use mathlib.Core.Bool.{false}
-use mathlib.Core.List.{List, [], _∷_, _++_, map, append-assoc}
+use mathlib.Core.List.{List, _++_, map}
 use Prim.Native.Nat.{ℕ}
 use native.Mathlib.Omega.{arith}
 use Rattle.numbers.specs.Numbers.{bad-status}
 use Rattle.c2_wire.specs.Exchange.{Exchange, Outcome, outcome}
 use Rattle.settings.specs.Registers.{pairs-of, leave-all}
-use Rattle.c2_order.specs.Acts.{Act, reset-pulse, put, get, status, erase, block-write, block-read}
-use Rattle.c2_order.specs.Order.{Page, joined, page-blocks, preparation, page-acts, order}
+use Rattle.c2_order.specs.Acts.{Act, put, get, status, erase, block-write, block-read}
+use Rattle.c2_order.specs.Order.{Page, joined, page-blocks, preparation, page-acts}
 use Rattle.c2_order.specs.Conversation.{limits, conversation}
 use Rattle.c2_target.specs.declared.Command.the-variants.{Ready}
 use Rattle.c2_target.specs.declared.Output.the-variants.{Empty, Status}
@@ -57,22 +57,21 @@ module _ (u : Setup) (l r : ℕ) (fit : Fit u l r) where
       (get-ends u l r fit m with-13 J Z kept 0x0d _ Ready (Status false) g refl (omega arith) refl e
       (λ t p. record { clean = refl; same = e }))))
 
-  pub order-turned-away : leave-all (pairs-of (u .settings .pairs)) (pairs-of (u .wanted)) ≡ false
-      → (p : Page) (ps : List Page) (t : Target) (f : List ℕ) → t .collision ≡ false
-      → leads u with-13 (λ F. F ≡ f) (Turned f) (conv (order (u .settings) (p ∷ ps))) t f
-  unfolding order page-acts joined erase put status get
-  order-turned-away differs p ps t f hm =
+  -- whatever follows the first page's erase
+  pub lead-turned-away : leave-all (pairs-of (u .settings .pairs)) (pairs-of (u .wanted)) ≡ false
+      → (p : Page) (acts : List Act) (t : Target) (f : List ℕ) → t .collision ≡ false
+      → leads u with-13 (λ F. F ≡ f) (Turned f) (conv (preparation (u .settings) ++ (page-acts (u .settings) p ++ acts))) t f
+  unfolding page-acts erase put status get
+  lead-turned-away differs p acts t f hm =
       let s = u .settings in
       let m : Met = met-by-pairs u in
       let J : List ℕ → Type 0 = λ F. F ≡ f in
       let off : prepared (u .wanted) m ≡ false = prepared-is (s .fpdat) (u .wanted) (pairs-of (s .pairs)) (fit .wanted) ∙ differs in
       let A : List Act = preparation s in
-      let pages : List Act = joined (map (page-acts s) (p ∷ ps)) in
-      let X : List Act = pages ++ reset-pulse ∷ [] in
+      let X : List Act = page-acts s p ++ acts in
       let wr : List Act = joined (map (block-write (s .fpdat)) (page-blocks s p)) in
       let rd : List Act = joined (map (block-read (s .fpdat)) (page-blocks s p)) in
-      let rest : List Act = ((wr ++ rd) ++ joined (map (page-acts s) ps)) ++ reset-pulse ∷ [] in
-      subst⁻¹ (λ (e : Exchange). leads u with-13 J (Turned f) e t f)
-      (ap conv (append-assoc A pages (reset-pulse ∷ [])) ∙ onto-acts (limits l r) A X (refuses-preparation s))
+      let rest : List Act = (wr ++ rd) ++ acts in
+      subst⁻¹ (λ (e : Exchange). leads u with-13 J (Turned f) e t f) (onto-acts (limits l r) A X (refuses-preparation s))
       (onto-leads (stepped u) with-13 J (Led m f) (Turned f) (conv A) (conv X) t f (preparation-leads u l r fit t f hm)
       (λ t₁ f₁ y. begin-leads u l r fit m with-13 J (Turned f) (turned-kept f) _ t₁ f₁ (y .between) (erase-ends m off (p .number) rest f f₁ (y .same))))

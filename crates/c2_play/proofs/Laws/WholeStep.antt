@@ -2,7 +2,7 @@
 -- session is played as against the steps that are not refused.
 use mathlib.Core.Path.{_≡_, refl, ap, _∙_, subst⁻¹}
 use mathlib.Core.Bool.{Bool, true, false}
-use mathlib.Core.List.{List, _∷_}
+use mathlib.Core.List.{List, [], _∷_, _++_, map, append-assoc}
 use Prim.Native.Nat.{ℕ, zero, suc}
 use native.Mathlib.Omega.{arith}
 use lib.Dec.{eqb}
@@ -12,7 +12,8 @@ use Rattle.c2_wire.specs.Bits.{bit}
 use Rattle.c2_wire.specs.Step.{Step, released, driven, reset, pause, off, code}
 use Rattle.c2_wire.specs.Exchange.{Exchange, ended, ask, at, outcome, outcome-of}
 use Rattle.settings.specs.Registers.{pairs-of, leave-all}
-use Rattle.c2_order.specs.Order.{Page, order}
+use Rattle.c2_order.specs.Acts.{Act, reset-pulse}
+use Rattle.c2_order.specs.Order.{Page, joined, preparation, page-acts, order}
 use Rattle.c2_order.specs.Conversation.{Limits, conversation}
 use Rattle.c2_target.specs.declared.Target.{Target}
 use Rattle.c2_target.specs.Delays.{Setup}
@@ -23,7 +24,8 @@ use Rattle.c2_play.specs.Pages.{with-pages}
 use Rattle.c2_play.proofs.Laws.Playing.{duration, played-out}
 use Rattle.c2_play.proofs.Laws.Programmed.{Meets, Prepares, exchange-over, Programmed, Turned-away}
 use Rattle.c2_play.proofs.Laws.Leads.{leads-outcome, leads-end, leads-along}
-use Rattle.c2_play.proofs.Laws.Unprepared.{Turned, order-turned-away}
+use Rattle.c2_play.proofs.Laws.Unprepared.{Turned}
+use Rattle.c2_play.proofs.Laws.Unprepared
 use Rattle.c2_play.proofs.Laws.Interface.{Fit}
 use Rattle.c2_play.proofs.Laws.Run.{order-programs}
 use Rattle.c2_play.proofs.Laws.Rise.{all-at}
@@ -117,16 +119,17 @@ pages-programmed l u ps t f leaves h =
     (order-programs u (l .wait) (l .reads) (fit-by l u ps t f h) leaves (x .blocks) (x .size) (omega (arith, x .some)) (x .bytes) ps t f (h .suits .unmarked)
     (all-at (u .settings) ps (h .named .fits)) (k .flash))
 
--- One whose pairs do not is turned away at its first page.
-pub pages-turned-away : (l : Limits) (u : Setup) (p : Page) (ps : List Page) (t : Target) (f : List ℕ)
-    → leave-all (pairs-of (u .settings .pairs)) (pairs-of (u .wanted)) ≡ false → Meets l u (p ∷ ps) t f
-    → Turned-away u (exchange-over l (u .settings) (p ∷ ps)) t f
-pages-turned-away l u p ps t f differs h =
-    let k = exists-by l u (p ∷ ps) t f h in
-    let lent = lent-by l u (p ∷ ps) t f h in
-    let a = not-refused-by l u (p ∷ ps) t f h in
-    let e = exchange-over l (u .settings) (p ∷ ps) in
-    let way = order-turned-away u (l .wait) (l .reads) (fit-by l u (p ∷ ps) t f h) differs p ps t f (h .suits .unmarked) in
+-- One whose pairs do not is turned away at its first page (`pages-turned-away`), as are the preparation and a
+-- page with any acts behind them (`acts-turned-away`).
+pub acts-turned-away : (l : Limits) (u : Setup) (ps : List Page) (p : Page) (acts : List Act) (t : Target) (f : List ℕ)
+    → leave-all (pairs-of (u .settings .pairs)) (pairs-of (u .wanted)) ≡ false → Meets l u ps t f
+    → Turned-away u (conversation l (preparation (u .settings) ++ (page-acts (u .settings) p ++ acts))) t f
+acts-turned-away l u ps p acts t f differs h =
+    let k = exists-by l u ps t f h in
+    let lent = lent-by l u ps t f h in
+    let a = not-refused-by l u ps t f h in
+    let e : Exchange = conversation l (preparation (u .settings) ++ (page-acts (u .settings) p ++ acts)) in
+    let way = Unprepared.lead-turned-away u (l .wait) (l .reads) (fit-by l u ps t f h) differs p acts t f (h .suits .unmarked) in
     let out = out-stepped u lent a e t f (h .suits .flash) k in
     record {
       ended = ap (λ (x : Played). outcome-of (x .left)) out ∙ leads-outcome (stepped u) (outcome bad-status) (λ F. F ≡ f) (Turned f) e t f way;
@@ -134,3 +137,15 @@ pages-turned-away l u p ps t f differs h =
       same = λ n. ap (λ (x : Played). x .flash) (played-stepped u lent a n e t f (h .suits .flash) k)
           ∙ leads-along (stepped u) (outcome bad-status) (λ F. F ≡ f) (Turned f) (λ t f h. h .same) n e t f way;
     }
+
+pub pages-turned-away : (l : Limits) (u : Setup) (p : Page) (ps : List Page) (t : Target) (f : List ℕ)
+    → leave-all (pairs-of (u .settings .pairs)) (pairs-of (u .wanted)) ≡ false → Meets l u (p ∷ ps) t f
+    → Turned-away u (exchange-over l (u .settings) (p ∷ ps)) t f
+unfolding order joined
+pages-turned-away l u p ps t f differs h =
+    let s = u .settings in
+    let acts : List Act = joined (map (page-acts s) ps) in
+    subst⁻¹ (λ (xs : List Act). Turned-away u (conversation l xs) t f)
+    (append-assoc (preparation s) (page-acts s p ++ acts) (reset-pulse ∷ [])
+    ∙ ap (λ (xs : List Act). preparation s ++ xs) (append-assoc (page-acts s p) acts (reset-pulse ∷ [])))
+    (acts-turned-away l u (p ∷ ps) p (acts ++ reset-pulse ∷ []) t f differs h)

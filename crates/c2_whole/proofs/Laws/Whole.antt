@@ -44,13 +44,14 @@ use Rattle.c2_play.proofs.Laws.Rise.{rising-length}
 use Rattle.c2_play.proofs.Laws.Job.{rising-pages, session-named, session-meets, job-opening, job-programmed, job-turned-away}
 use Rattle.c2_cut.specs.Cut.{Cut}
 use Rattle.c2_cut.proofs.Laws.Again.{numbers, pages-again, same-place}
+use Rattle.c2_cut.proofs.Laws.Unprepared.{cut-turned-away}
 use Rattle.c2_cut.proofs.Laws.ByReplies.{cuts-by-replies}
 use Rattle.c2_calls.specs.Calls.{Call, taking, opening-number, refusal}
 use Rattle.c2_calls.specs.Family.{C2, Told, replies-of, by-replies}
 use Rattle.c2_calls.proofs.Laws.Claims.{refused-keeps}
 use Rattle.c2_calls.proofs.Laws.Family.{c2-lists, accepts}
 use Rattle.c2_calls.proofs.Laws.Family as Lists
-use Rattle.c2_whole.specs.Whole.{opening-call, at-opening, Begins, anew, Bench, replies, bench-after, Ready, prepares, steps-sent, bench-cut, Own, Calls-program, Calls-alike, Like-one-call, Calls-exist, Fresh-ready}
+use Rattle.c2_whole.specs.Whole.{opening-call, at-opening, Begins, anew, Bench, replies, bench-after, Ready, prepares, steps-sent, bench-cut, Own, Calls-program, Calls-again, Calls-alike, Like-one-call, Calls-exist, Fresh-ready}
 use Rattle.c2_whole.proofs.Laws.Target.{stands, bench, ready, replies-alike, given-alike}
 use Rattle.c2_whole.proofs.Laws.Bench.{suits-along, ended-along}
 
@@ -202,71 +203,86 @@ module _ (j : Job) (held : List ℕ) (g : Begins held j) (rs : List ℕ) (b : Be
         ap (λ (l : List ℕ). bench-after (j .settings) b (take n l) .flash) sent-is
         ∙ ap (λ (z : Bench). z .flash) (at-steps (take n (sent e rs)))
 
-    suits-there : out .target .collision ≡ false → (n : ℕ) → Suits (limits-of (j .settings)) u (left-by u y (b .flash) (take n (sent e rs)) .target) (left-by u y (b .flash) (take n (sent e rs)) .flash)
-    suits-there clean n = suits-along (limits-of (j .settings)) u e y (b .flash) rs own-is-own lent m clean n
-
-    pub stays-ready : out .target .collision ≡ false → (n : ℕ) → Ready (j .settings) (bench-cut j b (by-replies (j .settings) (first-of (j .pages)) (j .image) rs) n)
-    stays-ready clean n =
-        rw (sent-is, at-steps (take n (sent e rs))) (ready (j .settings) (b .wanted) (b .delays) _ _ ok (g .proper .settings .wait) (suits-there clean n))
-
     -- where the settings' pairs leave the wanted values
-    module _ (leaves : prepares j b ≡ true) where
-      out-programmed : Programmed (programmed j (b .flash)) out
-      out-programmed = job-programmed j (b .wanted) (b .delays) y (b .flash) leaves (g .proper) (halves j held g .1) m
+    out-programmed : prepares j b ≡ true → Programmed (programmed j (b .flash)) out
+    out-programmed leaves = job-programmed j (b .wanted) (b .delays) y (b .flash) leaves (g .proper) (halves j held g .1) m
 
-      pub holds : x .outcome ≡ outcome Numbers.done → (n : ℕ) → x .taken ≤ n → F n ≡ programmed j (b .flash)
-      unfolding by-replies
-      holds d n l =
-          let z : x .outcome .number ≡ running → ⊥ = λ q. let w : Numbers.done ≡ running = sym (ap (λ (o : Outcome). o .number) d) ∙ q in omega arith in
-          let q = over (fed e rs) z in
-          flash-there n ∙ ap (λ (s : Steps.State). s .flash) (ended-along (limits-of (j .settings)) u e y (b .flash) rs own-is-own (q .0) (q .1) n l) ∙ out-programmed .holds
-
-      flash-sized : (n : ℕ) → length (F n) ≡ j .settings .size * j .settings .count
-      flash-sized n = ap length (flash-there n) ∙ known-says u _ _ (suits-there (out-programmed .clean) n .state) .flash
-
-      cut-there : (n : ℕ) → n ≤ suc (taken e rs)
-          → Cut (limits-of (j .settings)) (j .settings) (rising-pages (j .settings) (first-of (j .pages)) (j .image)) rs n (b .flash) (F n)
-      unfolding session-order
-      cut-there n hn =
-          let ps : List Page = rising-pages (j .settings) (first-of (j .pages)) (j .image) in
-          subst⁻¹ (λ (z : List ℕ). Cut (limits-of (j .settings)) (j .settings) ps rs n (b .flash) z) (flash-there n)
-          (cuts-by-replies (limits-of (j .settings)) u ps y (b .flash) rs leaves (session-meets (limits-of (j .settings)) u (first-of (j .pages)) (j .image) y (b .flash) (opening-of j held g) m) own-is-own n hn)
-
-      pub cut-is : (n : ℕ) → n ≤ suc (by-replies (j .settings) (first-of (j .pages)) (j .image) rs .taken)
-          → Cut (limits-of (j .settings)) (j .settings) (job-pages j) rs n (b .flash) (F n)
-      unfolding by-replies
-      cut-is n hn =
-          subst⁻¹ (λ (ps : List ℕ). Cut (limits-of (j .settings)) (j .settings) (pages (j .settings .size) 0 ps (j .image)) rs n (b .flash) (F n)) (g .proper .rising) (cut-there n hn)
-
-      pub again-is : (n : ℕ) → n ≤ suc (by-replies (j .settings) (first-of (j .pages)) (j .image) rs .taken)
-          → (lent2 image : List ℕ) → Begins lent2 (anew j image) → programmed (anew j image) (F n) ≡ programmed (anew j image) (b .flash)
-      unfolding by-replies
-      again-is n hn lent2 image g2 =
-          let t = j .settings in
-          let first : ℕ = first-of (j .pages) in
-          let c = cut-there n hn in
-          let ps : List Page = rising-pages t first (j .image) in
-          let qs : List Page = rising-pages t first image in
-          let count : length image / t .size ≡ length (j .image) / t .size =
-          sym (rising-length (length image / t .size) first) ∙ ap length (sym (g2 .proper .rising) ∙ g .proper .rising) ∙ rising-length (length (j .image) / t .size) first in
-          let nums : numbers qs ≡ numbers ps =
-          ap (λ (k : ℕ). numbers (pages (t .size) 0 (rising first k) image)) count ∙ same-numbers (t .size) (length (j .image) / t .size) first 0 0 image (j .image) in
-          let here : (f : List ℕ) → programmed (anew j image) f ≡ with-pages (t .size) qs f =
-          λ f. ap (λ (l : List ℕ). with-pages (t .size) (pages (t .size) 0 l image) f) (g2 .proper .rising) in
-          here (F n)
-          ∙ pages-again t qs (b .flash) (F n) (session-named t first image (opening-of (anew j image) lent2 g2)) sized (flash-sized n)
-          (λ q hq off. c .unnamed q hq (λ i p a eq. let z = same-place qs ps nums i p a in off i (z .0) (z .1) (z .2 ∙ eq)))
-          ∙ sym (here (b .flash))
+    pub holds : prepares j b ≡ true → x .outcome ≡ outcome Numbers.done → (n : ℕ) → x .taken ≤ n → F n ≡ programmed j (b .flash)
+    unfolding by-replies
+    holds leaves d n l =
+        let z : x .outcome .number ≡ running → ⊥ =
+        λ q. let w : Numbers.done ≡ running = sym (ap (λ (o : Outcome). o .number) d) ∙ q in omega arith in
+        let q = over (fed e rs) z in
+        let there = ended-along (limits-of (j .settings)) u e y (b .flash) rs own-is-own (q .0) (q .1) n l in
+        flash-there n ∙ ap (λ (s : Steps.State). s .flash) there ∙ out-programmed leaves .holds
 
     -- where they do not
-    module _ (differs : prepares j b ≡ false) where
-      out-turned-away : Play.Turned-away u e y (b .flash)
-      out-turned-away = job-turned-away j (b .wanted) (b .delays) y (b .flash) differs (g .proper) (halves j held g .1) m
+    out-turned-away : prepares j b ≡ false → Play.Turned-away u e y (b .flash)
+    out-turned-away differs = job-turned-away j (b .wanted) (b .delays) y (b .flash) differs (g .proper) (halves j held g .1) m
 
-      pub unchanged : (n : ℕ) → F n ≡ b .flash
-      unchanged n =
-          let k = own-along u n e y (b .flash) rs own-is-own in
-          flash-there n ∙ ap (λ (s : Steps.State). s .flash) (k .1) ∙ out-turned-away .same (k .0)
+    pub unchanged : prepares j b ≡ false → (n : ℕ) → F n ≡ b .flash
+    unchanged differs n =
+        let k = own-along u n e y (b .flash) rs own-is-own in
+        flash-there n ∙ ap (λ (s : Steps.State). s .flash) (k .1) ∙ out-turned-away differs .same (k .0)
+
+    -- either way
+    clean : out .target .collision ≡ false
+    clean = by-test (prepares j b) (λ q. out-programmed q .clean) (λ q. out-turned-away q .clean)
+
+    abbrev left : ℕ → Steps.State
+    left n = left-by u y (b .flash) (take n (sent e rs))
+
+    suits-there : (n : ℕ) → Suits (limits-of (j .settings)) u (left n .target) (left n .flash)
+    suits-there n = suits-along (limits-of (j .settings)) u e y (b .flash) rs own-is-own lent m clean n
+
+    pub stays-ready : (n : ℕ) → Ready (j .settings) (bench-cut j b x n)
+    stays-ready n =
+        rw (sent-is, at-steps (take n (sent e rs)))
+        (ready (j .settings) (b .wanted) (b .delays) _ _ ok (g .proper .settings .wait) (suits-there n))
+
+    pub still-wanted : (n : ℕ) → bench-cut j b x n .wanted ≡ b .wanted
+    still-wanted n = rw (sent-is, at-steps (take n (sent e rs)))
+
+    flash-sized : (n : ℕ) → length (F n) ≡ j .settings .size * j .settings .count
+    flash-sized n = ap length (flash-there n) ∙ known-says u _ _ (suits-there n .state) .flash
+
+    abbrev Cut-of : List Page → (n : ℕ) → (now : List ℕ) → Type 0
+    Cut-of ps n now = Cut (limits-of (j .settings)) (j .settings) ps rs n (b .flash) now
+
+    cut-there : (n : ℕ) → Cut-of (rising-pages (j .settings) (first-of (j .pages)) (j .image)) n (F n)
+    unfolding session-order
+    cut-there n =
+        let l = limits-of (j .settings) in
+        let ps : List Page = rising-pages (j .settings) (first-of (j .pages)) (j .image) in
+        let meets = session-meets l u (first-of (j .pages)) (j .image) y (b .flash) (opening-of j held g) m in
+        by-test (prepares j b)
+        (λ q. subst⁻¹ (Cut-of ps n) (flash-there n) (cuts-by-replies l u ps y (b .flash) rs q meets own-is-own n))
+        (λ q. cut-turned-away l u ps y (b .flash) rs q meets own-is-own n (F n) (unchanged q n))
+
+    pub cut-is : (n : ℕ) → Cut-of (job-pages j) n (F n)
+    cut-is n = subst⁻¹ (λ (ns : List ℕ). Cut-of (pages (j .settings .size) 0 ns (j .image)) n (F n)) (g .proper .rising) (cut-there n)
+
+    pub again-is : (n : ℕ) (lent2 image : List ℕ) → Begins lent2 (anew j image)
+        → programmed (anew j image) (F n) ≡ programmed (anew j image) (b .flash)
+    again-is n lent2 image g2 =
+        let t = j .settings in
+        let first : ℕ = first-of (j .pages) in
+        let c = cut-there n in
+        let ps : List Page = rising-pages t first (j .image) in
+        let qs : List Page = rising-pages t first image in
+        let count : length image / t .size ≡ length (j .image) / t .size =
+        sym (rising-length (length image / t .size) first)
+        ∙ ap length (sym (g2 .proper .rising) ∙ g .proper .rising)
+        ∙ rising-length (length (j .image) / t .size) first in
+        let nums : numbers qs ≡ numbers ps =
+        ap (λ (k : ℕ). numbers (pages (t .size) 0 (rising first k) image)) count
+        ∙ same-numbers (t .size) (length (j .image) / t .size) first 0 0 image (j .image) in
+        let here : (f : List ℕ) → programmed (anew j image) f ≡ with-pages (t .size) qs f =
+        λ f. ap (λ (l : List ℕ). with-pages (t .size) (pages (t .size) 0 l image) f) (g2 .proper .rising) in
+        here (F n)
+        ∙ pages-again t qs (b .flash) (F n) (session-named t first image (opening-of (anew j image) lent2 g2)) sized (flash-sized n)
+        (λ q hq off. c .unnamed q hq (λ i p a eq. let z = same-place qs ps nums i p a in off i (z .0) (z .1) (z .2 ∙ eq)))
+        ∙ sym (here (b .flash))
 
 pub calls-program : Calls-program
 unfolding by-replies reached
@@ -281,21 +297,25 @@ calls-program j held before calls g m =
           let o = rw e at own in
           let p = out-programmed j held g rs b r o leaves in
           rw (e, starts j held g before) (record {
-            ready = stays-ready j held g rs b r o (p .clean);
             ends = λ h. ends j held g rs b r o h ∙ p .ended;
             as-done = λ h. as-ended j held g rs b r o h ∙ p .ended;
             holds = holds j held g rs b r o leaves;
-            cut = cut-is j held g rs b r o leaves;
-            again = again-is j held g rs b r o leaves;
           });
       turned-away = λ b r own differs.
           let o = rw e at own in
           let p = out-turned-away j held g rs b r o differs in
           rw (e, starts j held g before) (record {
-            ready = stays-ready j held g rs b r o (p .clean);
             unchanged = unchanged j held g rs b r o differs;
             ends = λ h. ends j held g rs b r o h ∙ p .ended;
             as-turned-away = λ h. as-ended j held g rs b r o h ∙ p .ended;
+          });
+      cut = λ b r own n.
+          let o = rw e at own in
+          rw e (record {
+            pages = cut-is j held g rs b r o n;
+            ready = stays-ready j held g rs b r o n;
+            wanted = still-wanted j held g rs b r o n;
+            again = again-is j held g rs b r o n;
           });
     }
 
@@ -338,3 +358,11 @@ calls-exist j held before b g r =
           (λ q. rw q (job-programmed j (b .wanted) (b .delays) (s .target) (b .flash) q (g .proper) (halves j held g .1) (s .suits) .ended))
           (λ q. rw q (job-turned-away j (b .wanted) (b .delays) (s .target) (b .flash) q (g .proper) (halves j held g .1) (s .suits) .ended));
     }
+
+-- the target as the first session left it is one to which the whole claim applies again
+pub calls-again : Calls-again
+calls-again j held before calls b n g m r own leaves image held-anew knew later g2 m2 own2 =
+    let x = told C2 before (opening-call held j ∷ calls) in
+    let cut = calls-program j held before calls g m .cut b r own n in
+    let a = calls-program (anew j image) held-anew knew later g2 m2 .against (bench-cut j b x n) (cut .ready) own2 (rw (cut .wanted) leaves) in
+    record { against = a; as-if-first = λ d k h. a .holds d k h ∙ cut .again held-anew image g2 }
