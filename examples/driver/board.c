@@ -3,7 +3,7 @@
 /* What the device makes the driver wait for: zeros in a WAIT, reads of the status. */
 static const uint8_t DELAYS[] = {0, 3, 1, 0, 7, 19, 2};
 
-/* Nobody drives a wire; pull-ups keep both high. */
+/* The host drives no wire; pull-ups keep both high. */
 void board_host_on(board *b) {
     b->c2ck = b->sent = true;
     b->driven = b->high = false;
@@ -34,14 +34,14 @@ static void fault_if(board *b, bool fault) {
 static void target_step(board *b, uint8_t step) {
     if (is_dead(b))
         return;
-    if (b->cut)
-        b->power--;
     c2_replied replied = c2_target_step(DEVICE, DEVICE.pairs, b->target, b->flash, sizeof b->flash, DELAYS,
                                         sizeof DELAYS, step);
     fault_if(b, replied.number != 0);
     b->target = replied.target;
     b->sent = replied.reply == 1;
     b->collision |= replied.target.collision == 1;
+    if (b->cut)
+        b->power--;
 }
 
 /* The length of the pulse tells a strobe from a reset; between the two the device may do anything. */

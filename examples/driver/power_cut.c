@@ -16,7 +16,8 @@ enum { SLEEP_US = 5000, MOST_STEPS = 140, WAKE_EVERY = 101 };
 /* How it is when the driver wakes. */
 typedef enum {
     RECORD_KEPT, /* the power went in a sleep; the device had its own and was not reset */
-    RECORD_LOST, /* the device had its own power and is in the middle of something */
+    RECORD_LOST, /* or older than the wire: the power went in a callback; the device had its own and is in the
+                    middle of something */
     ALL_LOST,    /* the device had no power either */
     WAYS
 } waking;
@@ -45,9 +46,9 @@ static const uint8_t *moved_image(void) {
 static void bar(uint64_t start, uint64_t now) {
     static const char full[] = "##################################################";
     int width = (int)sizeof full - 1;
-    int done = (int)((start - now) * (uint64_t)width / start);
-    if (!isatty(STDOUT_FILENO))
+    if (start == 0 || !isatty(STDOUT_FILENO))
         return;
+    int done = (int)((start - now) * (uint64_t)width / start);
     printf("\r[%.*s%*s]%s", done, full, width - done, "", now == 0 ? "\n" : "");
     fflush(stdout);
 }
@@ -59,7 +60,8 @@ static c2_advanced callback(const pins *pin, uint8_t *record, bool first) {
     return driver_resume(pin, record, moved_image(), IMAGE);
 }
 
-/* Pages of the image that are over, read back with no byte differing. docs/RECORD.md has the bytes. */
+/* Pages of the image that are over, read back with no byte differing; of a record whose number, byte 7, is 0.
+   docs/RECORD.md has the bytes. */
 static unsigned pages_over(const uint8_t *record) {
     switch (record[10]) {
     case 1: /* page erase */
@@ -131,6 +133,7 @@ static void wake(board *b, uint8_t *record, waking how) {
     else
         board_host_on(b);
     if (how != RECORD_KEPT) {
+        /* an older record would be taken: that it is accepted says nothing of the device */
         memset(record, 0xA5, C2_RECORD_BYTES);
         lost_refused &= callback(&pin, record, false).number == C2_BAD_RECORD;
     }

@@ -152,15 +152,17 @@ Calls-program = (j : Job) (held : List ℕ) (before : Told) (calls : List Call) 
     → May-follow C2 (j .image) (at-opening before held j) calls
     → Whole j (at-opening before held j) (told C2 before (opening-call held j ∷ calls)) calls
 
--- A new session for a job, on a target (`left`) that an earlier one has left, ends as demand 3 says; and the
--- flash is then what it would have been on the target before that session (`b`).
+-- A new session for a job, on a target (`left`) that an earlier one has left, ends as demand 3 says, with no
+-- collision marked; and the flash is then what it would have been on the target before that session (`b`).
 pub record Ends-anew (j : Job) (b left : Bench) (start x : Told) (rs : List ℕ) : Type 0 where
   pub against : Against j left start x rs
+  pub unmarked : (n : ℕ) → bench-cut j left x n .target .collision ≡ 0
   pub as-if-first : x .outcome ≡ outcome done → (n : ℕ) → x .taken ≤ n → bench-cut j left x n .flash ≡ programmed j (b .flash)
 
 -- When the battery comes out (document 02, h), the second sentence: after a session's calls, cut after any
 -- number of steps, every list of calls that follows an accepted opening over the same pages, with the same
--- image or another, ends so where the replies are the target's own.
+-- image or another, ends so where the replies are the target's own and the settings' pairs leave the wanted
+-- values.
 abbrev pub Calls-again : Type 0
 Calls-again = (j : Job) (held : List ℕ) (before : Told) (calls : List Call) (b : Bench) (n : ℕ) → Begins held j
     → May-follow C2 (j .image) (at-opening before held j) calls

@@ -15,7 +15,7 @@ use crate::second::settings::{Pairs, Settings};
 /// How many of the last steps a difference is told with.
 const TOLD: usize = 100;
 /// A flash up to this length is lent in fresh memory, and compared, at every step.
-const SMALL: usize = 4_096;
+pub const SMALL: usize = 4_096;
 
 /// Numbers of the state that our own target knows by the same names: the place in the delays, the collision
 /// mark, the address register, the interface on or off, which wanted pairs are met, and what is left of d and

@@ -400,7 +400,8 @@ impl Session {
         self.outcome.number == numbers::RUNNING
     }
 
-    /// How far the pages have come. A session that ended counts by the operation that it ended in.
+    /// How far the pages have come. A session that ended counts by the operation that it ended in; one that was
+    /// resumed as ended does not tell.
     pub fn progress(&self) -> Progress {
         let Some(Act { stage, page, act, .. }) = self.entries.get(self.at).map(|entry| entry.act) else {
             return Progress::all(self.pages);

@@ -364,5 +364,10 @@ pub calls-again : Calls-again
 calls-again j held before calls b n g m r own leaves image held-anew knew later g2 m2 own2 =
     let x = told C2 before (opening-call held j ∷ calls) in
     let cut = calls-program j held before calls g m .cut b r own n in
-    let a = calls-program (anew j image) held-anew knew later g2 m2 .against (bench-cut j b x n) (cut .ready) own2 (rw (cut .wanted) leaves) in
-    record { against = a; as-if-first = λ d k h. a .holds d k h ∙ cut .again held-anew image g2 }
+    let whole = calls-program (anew j image) held-anew knew later g2 m2 in
+    let a = whole .against (bench-cut j b x n) (cut .ready) own2 (rw (cut .wanted) leaves) in
+    record {
+      against = a;
+      unmarked = λ k. whole .cut (bench-cut j b x n) (cut .ready) own2 k .ready .unmarked;
+      as-if-first = λ d k h. a .holds d k h ∙ cut .again held-anew image g2;
+    }
