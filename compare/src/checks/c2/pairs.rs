@@ -1,19 +1,17 @@
 //! Pairs of register and value in the settings (document 02, e): the answers that its words give, literally,
 //! beside those of our own session and record. What a target wants of them is in `wanted`.
 
-use proved::c2::Opened;
-use proved::{c2_target, hex};
+use proved::c2_target;
 
 use crate::harness::c2::calls;
-use crate::harness::c2::driver::{open, Opening};
 use crate::harness::c2::model::{self, Setup};
 use crate::harness::c2::pairs::random_pairs;
+use crate::harness::c2::reasons::{Reasons, OF_PAIRS, TESTS};
 use crate::harness::check::{Check, Run};
-use crate::harness::hex::{read as read_hex, write as write_hex};
 use crate::harness::report::{expect, expect_bytes, hex as hex_of, Checked, Failure};
 use crate::second::c2::record::{self, pack, read, Record, RECORD_LEN};
 use crate::second::c2::session::{Held, Outcome, Session, State};
-use crate::second::c2::steps::{OFF, PAUSE, RESET};
+use crate::second::c2::steps::{OFF, PAUSE};
 use crate::second::numbers;
 use crate::second::settings::{Pairs, Settings};
 
@@ -36,20 +34,6 @@ const SETTINGS: Settings = Settings {
 };
 const IMAGE: [u8; 512] = [0x55; 512];
 
-/// The tests of an opening after that of the record, in their order.
-const TESTS: [u32; 7] = [
-    numbers::BAD_FPDAT,
-    numbers::BAD_PAGE_SIZE,
-    numbers::BAD_PAGE_COUNT,
-    numbers::BAD_WAIT_LIMIT,
-    numbers::BAD_PAIRS,
-    numbers::BAD_IMAGE,
-    numbers::PAST_LAST_PAGE,
-];
-/// How many of them the settings alone decide, and which one the pairs do.
-const OF_SETTINGS: usize = 5;
-const OF_PAIRS: usize = 4;
-
 /// More than four, a register below 3, one that is the FPDAT address.
 const BAD: [Pairs; 5] = [
     Pairs { count: 5, registers: [3, 4, 5, 6], values: [0; 4] },
@@ -66,94 +50,21 @@ const GOOD: [Pairs; 4] = [
     Pairs { count: 4, registers: [SETTINGS.fpdat - 1, SETTINGS.fpdat + 1, 3, 3], values: [0xFF; 4] },
 ];
 
-/// Some of these reasons for a refusal, by the bits of a number, with these pairs.
-struct Reasons {
-    bits: usize,
-    pairs: Pairs,
-}
-
-impl Reasons {
-    fn among(&self, test: usize) -> bool {
-        self.bits >> test & 1 == 1
-    }
-
-    /// The first of so many tests that fails.
-    fn first(&self, tests: usize) -> Option<u32> {
-        (0..tests).find(|&test| self.among(test)).map(|test| TESTS[test])
-    }
-
-    fn settings(&self) -> Settings {
-        let wrong = |test, bad, good| if self.among(test) { bad } else { good };
-        Settings {
-            fpdat: wrong(0, 2, SETTINGS.fpdat.into()) as u8,
-            page_size: wrong(1, 500, SETTINGS.page_size),
-            page_count: wrong(2, 0, SETTINGS.page_count),
-            wait_limit: wrong(3, 0, SETTINGS.wait_limit.into()) as u8,
-            pairs: self.pairs,
-            ..SETTINGS
-        }
-    }
-
-    fn image(&self) -> &'static [u8] {
-        &IMAGE[..if self.among(5) { 511 } else { 512 }]
-    }
-
-    fn first_page(&self) -> u32 {
-        if self.among(6) {
-            SETTINGS.page_count
-        } else {
-            0
-        }
-    }
-}
-
 /// Every call that tests 18, for every choice of reasons.
 fn refusals(_: &mut Run) -> Checked {
     let mut cases = 0;
     for bits in 0..1 << TESTS.len() {
         let lists: &[Pairs] = if bits >> OF_PAIRS & 1 == 1 { &BAD } else { &GOOD };
         for &pairs in lists {
-            let reasons = Reasons { bits, pairs };
-            opening(&reasons)?;
-            hex_writer(&reasons)?;
-            hex_reader(&reasons)?;
+            let reasons = Reasons { bits, good: Settings { pairs, ..SETTINGS } };
+            reasons.opening()?;
+            reasons.hex_writer()?;
+            reasons.hex_reader()?;
             model_step(&reasons)?;
             cases += 4;
         }
     }
     Ok(cases)
-}
-
-fn opening(reasons: &Reasons) -> Result<(), Failure> {
-    let (settings, first_page) = (reasons.settings(), reasons.first_page());
-    for (record_len, number) in
-        [(RECORD_LEN - 1, Some(numbers::BAD_RECORD)), (RECORD_LEN, reasons.first(TESTS.len()))]
-    {
-        let record = vec![0xEE; record_len];
-        open(&Opening { record: &record, image: reasons.image(), settings, first_page })?;
-        let came = calls::open(&record, reasons.image(), &settings, first_page).answer;
-        let step = if number.is_some() { OFF } else { RESET };
-        let expected = Opened { number: number.unwrap_or(0), step: step.into() };
-        expect(expected, came, || format!("{settings:?}, first page {first_page}, record of {record_len}"))?;
-    }
-    Ok(())
-}
-
-/// With too little room (26) besides.
-fn hex_writer(reasons: &Reasons) -> Result<(), Failure> {
-    let (settings, first_page) = (reasons.settings(), reasons.first_page());
-    write_hex(&settings, first_page, reasons.image(), 10)?;
-    let came = hex::write((&settings).into(), first_page, reasons.image(), &mut [0; 10]).number;
-    let expected = reasons.first(TESTS.len()).unwrap_or(numbers::BUFFER_TOO_SMALL);
-    expect(expected, came, || format!("a file written with {settings:?}, first page {first_page}"))
-}
-
-/// With a bad line (20) besides.
-fn hex_reader(reasons: &Reasons) -> Result<(), Failure> {
-    let settings = reasons.settings();
-    let came = read_hex(&settings, b"no colon\n", 512)?;
-    let expected = reasons.first(OF_SETTINGS).map_or((numbers::BAD_LINE, 1), |number| (number, 0));
-    expect(expected, (came.number, came.line), || format!("a file read with {settings:?}"))
 }
 
 /// With wanted pairs that are refused, a flash of another length (17) and a step that is none (16) besides.
@@ -168,7 +79,7 @@ fn model_step(reasons: &Reasons) -> Result<(), Failure> {
     ] {
         let setup = Setup { settings: reasons.settings(), wanted };
         let came = model::step_lent(&setup, &c2_target::fresh(), &vec![0; len], &[], step).replied.number;
-        let expected = reasons.first(OF_SETTINGS).unwrap_or(otherwise);
+        let expected = reasons.of_settings().unwrap_or(otherwise);
         expect(expected, came, || format!("step {step} with {setup:?}, flash of {len}"))?;
     }
     Ok(())

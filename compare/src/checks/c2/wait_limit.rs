@@ -1,20 +1,19 @@
 //! The WAIT limit in the settings (document 02, d): the answers that its words give, literally, beside those
 //! of our own session, record and model.
 
-use proved::c2::{Advanced, Opened};
+use proved::c2::Advanced;
 use proved::c2_target::{self, State};
-use proved::hex;
 
-use crate::harness::c2::driver::{open, take, Opening, Taking};
+use crate::harness::c2::driver::{take, Taking};
 use crate::harness::c2::model::Setup;
+use crate::harness::c2::reasons::{Reasons, OF_PAIRS, TESTS};
 use crate::harness::c2::{calls, model};
 use crate::harness::check::{Check, Run};
-use crate::harness::hex::{read as read_hex, write as write_hex};
 use crate::harness::report::{expect, hex as hex_of, Checked, Failure};
 use crate::second::c2::frames::Place;
 use crate::second::c2::record::{self, pack, read, shape, Record, Shape, RECORD_LEN};
 use crate::second::c2::session::{Act, Held, Outcome, Point, Session, Stage, State as Reached};
-use crate::second::c2::steps::{OFF, RELEASED, RESET};
+use crate::second::c2::steps::RELEASED;
 use crate::second::numbers;
 use crate::second::settings::{Pairs, Settings};
 
@@ -35,100 +34,18 @@ const SETTINGS: Settings = Settings {
     pairs: Pairs::NONE,
 };
 
-/// The tests of an opening after that of the record, in their order.
-const TESTS: [u32; 6] = [
-    numbers::BAD_FPDAT,
-    numbers::BAD_PAGE_SIZE,
-    numbers::BAD_PAGE_COUNT,
-    numbers::BAD_WAIT_LIMIT,
-    numbers::BAD_IMAGE,
-    numbers::PAST_LAST_PAGE,
-];
-/// How many of them the settings alone decide.
-const OF_SETTINGS: usize = 4;
-
-/// Some of these reasons for a refusal, by the bits of a number.
-struct Reasons(usize);
-
-impl Reasons {
-    fn among(&self, test: usize) -> bool {
-        self.0 >> test & 1 == 1
-    }
-
-    /// The first of so many tests that fails.
-    fn first(&self, tests: usize) -> Option<u32> {
-        (0..tests).find(|&test| self.among(test)).map(|test| TESTS[test])
-    }
-
-    fn settings(&self) -> Settings {
-        let wrong = |test, bad, good| if self.among(test) { bad } else { good };
-        Settings {
-            fpdat: wrong(0, 2, SETTINGS.fpdat.into()) as u8,
-            page_size: wrong(1, 500, SETTINGS.page_size),
-            page_count: wrong(2, 0, SETTINGS.page_count),
-            wait_limit: wrong(3, 0, SETTINGS.wait_limit.into()) as u8,
-            ..SETTINGS
-        }
-    }
-
-    fn image(&self) -> &'static [u8] {
-        &[0x55; 512][..if self.among(4) { 511 } else { 512 }]
-    }
-
-    fn first_page(&self) -> u32 {
-        if self.among(5) {
-            SETTINGS.page_count
-        } else {
-            0
-        }
-    }
-}
-
 /// Every call that tests 3, for every choice of reasons.
 fn refusals(_: &mut Run) -> Checked {
     let mut cases = 0;
-    for reasons in (0..1 << TESTS.len()).map(Reasons) {
-        opening(&reasons)?;
-        hex_writer(&reasons)?;
-        hex_reader(&reasons)?;
+    for bits in (0..1 << TESTS.len()).filter(|bits| bits >> OF_PAIRS & 1 == 0) {
+        let reasons = Reasons { bits, good: SETTINGS };
+        reasons.opening()?;
+        reasons.hex_writer()?;
+        reasons.hex_reader()?;
         model_step(&reasons)?;
         cases += 4;
     }
     Ok(cases)
-}
-
-fn opening(reasons: &Reasons) -> Result<(), Failure> {
-    let (settings, first_page) = (reasons.settings(), reasons.first_page());
-    for (record_len, number) in
-        [(RECORD_LEN - 1, Some(numbers::BAD_RECORD)), (RECORD_LEN, reasons.first(TESTS.len()))]
-    {
-        let record = vec![0xEE; record_len];
-        let opening = Opening { record: &record, image: reasons.image(), settings, first_page };
-        open(&opening)?;
-        let came = calls::open(&record, reasons.image(), &settings, first_page).answer;
-        let step = if number.is_some() { OFF } else { RESET };
-        let expected = Opened { number: number.unwrap_or(0), step: step.into() };
-        expect(expected, came, || format!("{settings:?}, first page {first_page}, record of {record_len}"))?;
-    }
-    Ok(())
-}
-
-/// With too little room (26) besides.
-fn hex_writer(reasons: &Reasons) -> Result<(), Failure> {
-    let (settings, first_page) = (reasons.settings(), reasons.first_page());
-    write_hex(&settings, first_page, reasons.image(), 10)?;
-    let came = hex::write((&settings).into(), first_page, reasons.image(), &mut [0; 10]).number;
-    let expected = reasons.first(TESTS.len()).unwrap_or(numbers::BUFFER_TOO_SMALL);
-    expect(expected, came, || format!("a file written with {settings:?}, first page {first_page}"))
-}
-
-/// With a bad line (20) besides.
-fn hex_reader(reasons: &Reasons) -> Result<(), Failure> {
-    let settings = reasons.settings();
-    let came = read_hex(&settings, b"no colon\n", 512)?;
-    let number = reasons.first(OF_SETTINGS);
-    let expected = number.map_or((numbers::BAD_LINE, 1), |number| (number, 0));
-    expect(expected, (came.number, came.line), || format!("a file read with {settings:?}"))
 }
 
 /// With a flash of another length (17) and a step that is none (16) besides, and without either.
@@ -140,7 +57,7 @@ fn model_step(reasons: &Reasons) -> Result<(), Failure> {
         [(511, 1, numbers::NO_POINT), (right_len, 1, numbers::NO_STEP), (right_len, 0, numbers::RUNNING)]
     {
         let came = model::step_lent(&setup, &state, &vec![0; len], &[], step).replied.number;
-        let expected = reasons.first(OF_SETTINGS).unwrap_or(otherwise);
+        let expected = reasons.of_settings().unwrap_or(otherwise);
         expect(expected, came, || format!("step {step} with {setup:?}, flash of {len}"))?;
     }
     Ok(())

@@ -9,6 +9,7 @@ pub mod job;
 pub mod master;
 pub mod model;
 pub mod pairs;
+pub mod reasons;
 pub mod slowest;
 pub mod state;
 pub mod trouble;
