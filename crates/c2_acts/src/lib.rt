@@ -1,4 +1,5 @@
 // The acts of the order by their numbers: what an act of a stage does, and how many acts a stage has.
+#![tactic(auto)]
 ghost use Rattle.std.specs.Prelude.{◌≡◌};
 ghost use Rattle.c2_acts.specs.Code.Acts.{lead_task, put_task, erase_task, write_task, read_task, register_task, task_of, acts_in};
 
@@ -50,7 +51,7 @@ pub const FIRST_COMPARE: u32 = 14;
 
 // The stages of the order: up to the pause (Lead); a register written for each pair (Register); then for each page
 // its erase, its block writes and its block reads; and the last reset.
-#[derive(Drop)]
+#[derive(Clone, Copy)]
 pub enum Stage {
     Lead,
     Erase,
@@ -62,7 +63,7 @@ pub enum Stage {
 
 // What an act does: a step that stands in no frame, a frame that is sent, a poll for InBusy 0 or OutReady 1,
 // or a Data Read that must give the device ID, the status 0x0D or a byte of the image.
-#[derive(Drop)]
+#[derive(Clone, Copy)]
 pub enum Task {
     Reset,
     Pause,

@@ -1,9 +1,10 @@
 // The driver's calls: what each answers. What each answers and leaves, for all inputs, is in specs/; whole lists of
 // calls are claims, in specs/ too, and laws.
+#![tactic(auto)]
 
 // What an opening answers: its number, and the first step, 4, or 6 when refused.
 #[repr(C)]
-#[derive(Drop)]
+#[derive(Clone, Copy)]
 pub struct Opened {
     pub number: u32,
     pub step: u32,
@@ -12,7 +13,7 @@ pub struct Opened {
 // What a call that takes replies answers: the session's number, the image offset for 14, and how many of the
 // replies were taken.
 #[repr(C)]
-#[derive(Drop)]
+#[derive(Clone, Copy)]
 pub struct Advanced {
     pub number: u32,
     pub offset: u32,
@@ -21,7 +22,7 @@ pub struct Advanced {
 
 // What a question is answered: the session's number, and the figure of the most steps to come.
 #[repr(C)]
-#[derive(Drop)]
+#[derive(Clone, Copy)]
 pub struct Remaining {
     pub number: u32,
     pub steps: u64,

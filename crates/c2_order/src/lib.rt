@@ -1,6 +1,7 @@
 // The order of a session: what is said on the wire, act by act, and the figure of the most steps to come.
 // These are definitions, in specs/, and laws of them, in proofs/, and the constants of the maker's note by
 // their names; the code that follows the order is that of c2_session.
+#![tactic(auto)]
 
 // The register that the keys are written to, and the three keys, which turn the Programming Interface on.
 pub const FPCTL: u8 = 0x02;

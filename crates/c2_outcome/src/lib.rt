@@ -1,4 +1,5 @@
 // How a session stands: running, or ended with its outcome.
+#![tactic(auto)]
 ghost use Rattle.std.specs.Prelude.{◌≡◌};
 ghost use Rattle.c2_outcome.specs.Outcome.{is_running, point_outcome};
 
@@ -6,7 +7,7 @@ use c2_session::Point;
 use numbers::RUNNING;
 
 // The session's number, and the image offset for 14.
-#[derive(Drop)]
+#[derive(Clone, Copy)]
 pub struct Outcome {
     pub number: u32,
     pub offset: u32,

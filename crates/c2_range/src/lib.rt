@@ -1,4 +1,5 @@
 // Which sessions are within their ranges (document 01, "What the driver keeps over sleep").
+#![tactic(auto)]
 
 mod bounds;
 mod range;

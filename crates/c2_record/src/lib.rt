@@ -1,5 +1,6 @@
 // The record of a session: 32 bytes that a driver keeps over sleep (docs/RECORD.md), packed, and taken apart: the
 // point that is reached, and the session beside it.
+#![tactic(auto)]
 use c2_session::Point;
 
 mod held;
@@ -76,14 +77,14 @@ const FOURTH_VALUE: usize = 27;
 const STAGES: u8 = 6;
 
 // What a record tells of its session: the point that it has reached, or that it holds none.
-#[derive(Drop)]
+#[derive(Clone, Copy)]
 pub enum Reached {
     At(Point),
     Nowhere,
 }
 
 // The numbers of a record that tell the point reached. Those not in use are 0.
-#[derive(Drop)]
+#[derive(Clone, Copy)]
 struct Fields {
     number: u32,
     offset: u32,

@@ -1,4 +1,5 @@
 // What the program says of an image: a fresh modelled target is programmed with it from page 0.
+#![tactic(auto)]
 ghost use Rattle.std.specs.Prelude.{◌≡◌};
 ghost use Rattle.c2_report.specs.Report.{program_device, reported};
 
@@ -8,7 +9,7 @@ use numbers::{PAST_LAST_PAGE, RUNNING};
 use settings::{Pairs, Settings, opening_refusal};
 
 // The pages that were programmed, the replies that this took, and the outcome.
-#[derive(Drop)]
+#[derive(Clone, Copy)]
 pub struct Report {
     pub pages: usize,
     pub replies: usize,

@@ -1,4 +1,5 @@
 // A session run against a fresh target, over lent buffers.
+#![tactic(auto)]
 mod program;
 
 pub use program::c2_program;
@@ -6,7 +7,7 @@ pub use program::c2_program;
 // The session's number and the image offset for 14, the replies that it took, and whether the target has
 // marked a collision.
 #[repr(C)]
-#[derive(Drop)]
+#[derive(Clone, Copy)]
 pub struct Run {
     pub number: u32,
     pub offset: u32,

@@ -1,5 +1,6 @@
 // A programming session as a value: settings, pages and the point reached in the session's order. A runner
 // takes a session's point through the order, reply by reply.
+#![tactic(auto)]
 use c2_acts::{Stage, Task};
 use settings::Settings;
 
@@ -13,7 +14,7 @@ pub use run::set_off;
 
 // An act of the order: its stage, the page of the image and the block of the page, and its number in the
 // stage. In the stage Register the pair's number stands where others have the page.
-#[derive(Drop)]
+#[derive(Clone, Copy)]
 pub struct At {
     pub stage: Stage,
     pub page: u32,
@@ -23,7 +24,7 @@ pub struct At {
 
 // The point that a session has reached: an act, the strobe in its frame, the zeros seen in a WAIT or the
 // reads done in a poll, and the bits sampled so far; or the outcome, with the image offset for 14.
-#[derive(Drop)]
+#[derive(Clone, Copy)]
 pub enum Point {
     Running {
         stage: Stage,
@@ -43,7 +44,7 @@ pub enum Point {
 // A point with all its numbers side by side, those that are not in use 0. What a reply leads to is told so, and
 // made a point at one place (`way_point`): points made at many places go through memory, a third of the
 // instructions of a strobe.
-#[derive(Drop)]
+#[derive(Clone, Copy)]
 struct Way {
     ended: bool,
     number: u32,
@@ -57,7 +58,7 @@ struct Way {
     bits: u32,
 }
 
-#[derive(Drop)]
+#[derive(Clone, Copy)]
 pub struct Session {
     pub settings: Settings,
     pub first: u16,
@@ -67,7 +68,7 @@ pub struct Session {
 
 // A session's point on its way, what the act there does, and what is left of the act's script; the script is 0
 // as long as it is not known. The session itself stands beside its runner and stays as it is.
-#[derive(Drop)]
+#[derive(Clone, Copy)]
 pub struct Runner {
     pub point: Point,
     pub task: Task,

@@ -1,7 +1,8 @@
 // The modelled target: its parts as types. specs/ has what a step makes of them, c2_target_step the code.
+#![tactic(auto)]
 
 // What a frame does at its STOP.
-#[derive(Drop)]
+#[derive(Clone, Copy)]
 pub enum Effect {
     // a frame with LENGTH not 0
     Nothing,
@@ -17,7 +18,7 @@ pub enum Effect {
 
 // The strobe that comes next, by its field. `heard` bits of a field go with their value so far; bits come and
 // go lowest first.
-#[derive(Drop)]
+#[derive(Clone, Copy)]
 pub enum Point {
     // between two frames: the next strobe is a START
     Start,
@@ -71,7 +72,7 @@ pub enum Point {
 }
 
 // A command that is under way, by the byte that comes next. `write` tells a block write from a block read.
-#[derive(Drop)]
+#[derive(Clone, Copy)]
 pub enum Command {
     // a new command
     Ready,
@@ -92,7 +93,7 @@ pub enum Command {
 }
 
 // Output that waits to be read.
-#[derive(Drop)]
+#[derive(Clone, Copy)]
 pub enum Output {
     Empty,
     // the status 0x0D, or 0x00
@@ -104,7 +105,7 @@ pub enum Output {
 }
 
 // The Programming Interface behind FPDAT. `busy` is what is left of the delay d, `late` of the delay e.
-#[derive(Drop)]
+#[derive(Clone, Copy)]
 pub struct Link {
     pub command: Command,
     pub output: Output,
@@ -114,7 +115,7 @@ pub struct Link {
 
 // Of each of the four pairs that the device may want, in their order: whether the last value written to its
 // register since the reset is the wanted one.
-#[derive(Drop)]
+#[derive(Clone, Copy)]
 pub struct Met {
     pub first: bool,
     pub second: bool,
@@ -124,7 +125,7 @@ pub struct Met {
 
 // The address register, the interface on or off, how many of the three key writes the last Data Writes were,
 // which wanted pairs are met, and the interface.
-#[derive(Drop)]
+#[derive(Clone, Copy)]
 pub struct Device {
     pub address: usize,
     pub on: bool,
@@ -134,7 +135,7 @@ pub struct Device {
 }
 
 // The target: the strobe that comes next, the place in the delay list, the collision mark, and the device.
-#[derive(Drop)]
+#[derive(Clone, Copy)]
 pub struct Target {
     pub point: Point,
     pub place: usize,
@@ -143,7 +144,7 @@ pub struct Target {
 }
 
 // What a step gives: a number, 0 where the step is accepted, the reply, and the target afterwards.
-#[derive(Drop)]
+#[derive(Clone, Copy)]
 pub struct Replied {
     pub number: u32,
     pub reply: u32,

@@ -1,5 +1,6 @@
 // The modelled target for C: its state is a struct of plain numbers, handed in and back by value. Nothing
 // else is kept between steps.
+#![tactic(auto)]
 use c2_target::Target;
 
 mod decode;
@@ -12,7 +13,7 @@ pub use model::step;
 
 // The state of a target between two steps. Numbers that are not in use are 0.
 #[repr(C)]
-#[derive(Drop)]
+#[derive(Clone, Copy)]
 pub struct State {
     // the place in the delay list
     pub place: u64,
@@ -66,7 +67,7 @@ pub struct State {
 
 // What a step gives: a number, 0 where the step is accepted, the reply, and the state afterwards.
 #[repr(C)]
-#[derive(Drop)]
+#[derive(Clone, Copy)]
 pub struct ModelReplied {
     pub number: u32,
     pub reply: u32,
@@ -74,14 +75,14 @@ pub struct ModelReplied {
 }
 
 // What a state holds: a target, or nothing that is one.
-#[derive(Drop)]
+#[derive(Clone, Copy)]
 pub enum Seen {
     Held(Target),
     Nothing,
 }
 
 // The numbers of a point (`PointFields`), of a command (`CommandFields`) and of the output (`OutputFields`).
-#[derive(Drop)]
+#[derive(Clone, Copy)]
 struct PointFields {
     point: u8,
     heard: u8,
@@ -92,7 +93,7 @@ struct PointFields {
     byte: u8,
 }
 
-#[derive(Drop)]
+#[derive(Clone, Copy)]
 struct CommandFields {
     command: u8,
     write: u8,
@@ -102,7 +103,7 @@ struct CommandFields {
     rest: u16,
 }
 
-#[derive(Drop)]
+#[derive(Clone, Copy)]
 struct OutputFields {
     output: u8,
     passed: u8,

@@ -1,5 +1,6 @@
 // The modelled target in code, lent its flash and its delays: one step, a step on the wire in and a reply out;
 // and a session played against it, which hands the target on from step to step.
+#![tactic(auto)]
 use c2_session::Point;
 use c2_target::{Command, Output};
 
@@ -17,7 +18,7 @@ pub use steps::step;
 
 // How far a session was played: the number by which the target refused its first step, or 0; the session's
 // point, the replies that it took, and whether the target has marked a collision.
-#[derive(Drop)]
+#[derive(Clone, Copy)]
 pub struct Ran {
     pub number: u32,
     pub point: Point,
@@ -26,7 +27,7 @@ pub struct Ran {
 }
 
 // What a byte put makes of the command and of the output.
-#[derive(Drop)]
+#[derive(Clone, Copy)]
 struct Taking {
     command: Command,
     output: Output,

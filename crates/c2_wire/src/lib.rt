@@ -1,5 +1,6 @@
 // The four frames with one data byte: a frame as a word, its script; the step at each strobe of a frame, and
 // what a reply makes of the place in it.
+#![tactic(auto)]
 
 mod replies;
 mod script;
@@ -37,7 +38,7 @@ pub const ADDRESS_SAMPLES: u32 = 3;
 
 pub const DATA_SAMPLES: u32 = 6;
 
-#[derive(Drop)]
+#[derive(Clone, Copy)]
 pub enum Frame {
     AddressWrite,
     AddressRead,
@@ -47,7 +48,7 @@ pub enum Frame {
 
 // A place in a frame: the number of its strobe, where a WAIT counts as one; zeros seen in the WAIT, or reads
 // done in a poll; and the bits sampled so far.
-#[derive(Drop)]
+#[derive(Clone, Copy)]
 pub struct Place {
     pub strobe: u32,
     pub count: u32,
@@ -56,7 +57,7 @@ pub struct Place {
 
 // What a reply makes of a place: another place, the byte sampled once the STOP is answered, or the limit of
 // the WAIT.
-#[derive(Drop)]
+#[derive(Clone, Copy)]
 pub enum Moved {
     Within(Place),
     Stopped(u32),

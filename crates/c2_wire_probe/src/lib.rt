@@ -1,5 +1,6 @@
 // The frames for a caller in another language, so that they can be compared with a second implementation:
 // frames by INS code, places and moves as numbers.
+#![tactic(auto)]
 ghost use Rattle.std.specs.Prelude.{◌≡◌, not, ℕ, ◌/◌, ◌^◌, eqb};
 ghost use Rattle.c2_wire.specs.Frames.{frame};
 ghost use Rattle.c2_wire.specs.Place.{place, step_at, followed};
@@ -29,7 +30,7 @@ fn frame_of(ins: u8) -> Frame
 // `Moved` as numbers, for callers in other languages: 0 another place, 1 the byte sampled, 2 the limit of the
 // WAIT; what is not in use is 0.
 #[repr(C)]
-#[derive(Drop)]
+#[derive(Clone, Copy)]
 pub struct Followed {
     pub kind: u32,
     pub strobe: u32,

@@ -1,10 +1,11 @@
 // Two dumps of a flash compared: where they differ. These are definitions, in specs/, and laws of them, in
 // proofs/; the code that compares is that of dump. Here are the answers of its two calls.
+#![tactic(auto)]
 
 // The ranges of bytes that differ: the number; whether there are more than the list buffer takes whole, 1 or
 // 0; how many it holds.
 #[repr(C)]
-#[derive(Drop)]
+#[derive(Clone, Copy)]
 pub struct RangesFound {
     pub number: u32,
     pub more: u32,
@@ -14,7 +15,7 @@ pub struct RangesFound {
 // The first difference: the number; whether there is one, 1 or 0; its page, counted from the dumps'
 // beginning, and its offset in that page.
 #[repr(C)]
-#[derive(Drop)]
+#[derive(Clone, Copy)]
 pub struct DifferenceFound {
     pub number: u32,
     pub differs: u32,

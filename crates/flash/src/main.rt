@@ -1,5 +1,6 @@
 // Reads an image from standard input and writes what is reported of it: how many pages were programmed, how
 // many replies that took, and the outcome.
+#![tactic(auto)]
 use libc::{STDIN_FILENO, STDOUT_FILENO};
 
 fn line(name: &[u8], n: usize) {

@@ -10,14 +10,14 @@ use hex_format::Line;
 use numbers::{BAD_CHECKSUM, BAD_HEX_RECORD, BAD_LINE};
 
 // What a line is, and its length, 0 where it has no record's shape.
-#[derive(Drop)]
+#[derive(Clone, Copy)]
 pub struct Judged {
     pub line: Line,
     pub bytes: usize,
 }
 
 // The length of a line that has a record's shape, else 0; the low byte of its record's sum.
-#[derive(Drop)]
+#[derive(Clone, Copy)]
 struct Shape {
     bytes: usize,
     sum: u8,

@@ -11,7 +11,7 @@ use hex_line::digit::octet;
 
 // A record at the front of what is left of the file: its address, its number of data bytes, and the length of
 // its line.
-#[derive(Drop)]
+#[derive(Clone, Copy)]
 struct Front {
     address: usize,
     count: usize,

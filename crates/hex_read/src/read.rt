@@ -10,7 +10,7 @@ use settings::Settings;
 
 // The answer: number, faulty line, first page and length of the image.
 #[repr(C)]
-#[derive(Drop)]
+#[derive(Clone, Copy)]
 pub struct HexImage {
     pub number: u32,
     pub line: u64,

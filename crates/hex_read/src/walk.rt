@@ -9,7 +9,7 @@ use numbers::{NO_END_RECORD, SET_TWICE};
 
 // After a line: its number or 0, whether the end record has been, the first address set and the address past
 // the last one.
-#[derive(Drop)]
+#[derive(Clone, Copy)]
 struct After {
     number: u32,
     ended: bool,
@@ -18,7 +18,7 @@ struct After {
 }
 
 // After all lines: the number, the faulty line or 0, the first address set and the address past the last one.
-#[derive(Drop)]
+#[derive(Clone, Copy)]
 pub(crate) struct Outcome {
     pub number: u32,
     pub line: u64,

@@ -10,7 +10,7 @@ use settings::Settings;
 
 // The answer: number, and length of the file.
 #[repr(C)]
-#[derive(Drop)]
+#[derive(Clone, Copy)]
 pub struct Written {
     pub number: u32,
     pub bytes: u64,

@@ -1,4 +1,5 @@
 // The numbers that come back from a call (documents 01 and 02), one name for each, with when it is given.
+#![tactic(auto)]
 
 // The session is running.
 pub const RUNNING: u32 = 0;

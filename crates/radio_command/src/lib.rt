@@ -1,4 +1,5 @@
 // The eight-byte commands of the radio module (source document 002, table 1): built and read.
+#![tactic(auto)]
 mod building;
 mod command;
 
@@ -6,7 +7,7 @@ pub use building::build_into;
 pub use command::{build, command_sum, name_of, read_command};
 
 // The thirteen commands of the list. Those that begin with Inf are the module's answers.
-#[derive(Drop)]
+#[derive(Clone, Copy)]
 pub enum CommandName {
     RdSwVersion,
     InfSwVersion,
@@ -24,7 +25,7 @@ pub enum CommandName {
 }
 
 // A command with the three bytes of its parameters, as they stand.
-#[derive(Drop)]
+#[derive(Clone, Copy)]
 pub struct RadioCommand {
     pub name: CommandName,
     pub p0: u8,
@@ -33,14 +34,14 @@ pub struct RadioCommand {
 }
 
 // The command of a command byte, if it has one.
-#[derive(Drop)]
+#[derive(Clone, Copy)]
 pub enum NameFound {
     Of(CommandName),
     Nothing,
 }
 
 // What bytes read as: a command, or none (28).
-#[derive(Drop)]
+#[derive(Clone, Copy)]
 pub enum CommandRead {
     Is(RadioCommand),
     Refused,

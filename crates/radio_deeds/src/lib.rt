@@ -1,4 +1,5 @@
 // What each command does to the modelled radio module, given its flash. Nothing is written here.
+#![tactic(auto)]
 mod commands;
 mod deeds;
 

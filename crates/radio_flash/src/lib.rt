@@ -1,4 +1,5 @@
 // The radio module's flash, 129 pages of 256 bytes, and the changes that are made to it.
+#![tactic(auto)]
 mod blank;
 mod changes;
 mod pages;
@@ -9,7 +10,7 @@ pub use pages::put_page;
 
 // What becomes of the flash: nothing; a byte is programmed; a page is erased; program area and configuration
 // are erased.
-#[derive(Drop)]
+#[derive(Clone, Copy)]
 pub enum FlashChange {
     Nothing,
     Byte { at: usize, to: u8 },

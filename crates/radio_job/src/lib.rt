@@ -1,9 +1,10 @@
 // The radio module's programming job: its types. The order of the job is an exchange, in specs/; its code
 // stands in `radio_point`, `radio_say` and `radio_advance`.
+#![tactic(auto)]
 
 // How a job stands after a reply: with number 0 it goes on; otherwise it has ended, 42 with the module's
 // error code, 43 with the offset of the first byte that differs.
-#[derive(Drop)]
+#[derive(Clone, Copy)]
 pub struct Ending {
     pub number: u32,
     pub code: u32,
@@ -11,7 +12,7 @@ pub struct Ending {
 }
 
 // The point that a job has reached: which message it has sent, so which reply it takes next, or its end.
-#[derive(Drop)]
+#[derive(Clone, Copy)]
 pub enum JobPoint {
     AsksConfiguration,
     TakesConfiguration,

@@ -1,4 +1,5 @@
 // The points of a job: which there are, and the point after a reply.
+#![tactic(auto)]
 mod ending;
 mod fits;
 mod next;

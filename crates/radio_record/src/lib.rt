@@ -1,5 +1,6 @@
 // The record of a job: 520 bytes that a driver keeps over sleep (docs/RADIO_RECORD.md). Page and mask stand
 // in it as they are; its last eight bytes tell image length and point.
+#![tactic(auto)]
 use radio_job::JobPoint;
 
 mod held;
@@ -18,14 +19,14 @@ pub const MASK: usize = 256;
 pub const NUMBERS: usize = 512;
 
 // What a record keeps: a job with an image of so many bytes, at this point; or nothing that is one.
-#[derive(Drop)]
+#[derive(Clone, Copy)]
 pub enum JobKept {
     Keeps { bytes: usize, point: JobPoint },
     KeepsNone,
 }
 
 // The numbers that tell a point. Those not in use are 0.
-#[derive(Drop)]
+#[derive(Clone, Copy)]
 struct JobFields {
     stage: u8,
     page: u8,
@@ -35,7 +36,7 @@ struct JobFields {
 }
 
 // The point that such numbers tell, if they tell one.
-#[derive(Drop)]
+#[derive(Clone, Copy)]
 enum PointRead {
     Point(JobPoint),
     NoPoint,

@@ -1,10 +1,11 @@
 // The modelled radio module: its types. What it does stands in specs/, its code in `radio_target_step`.
+#![tactic(auto)]
 use radio_command::RadioCommand;
 use radio_flash::FlashChange;
 
 // What the module waits for: a command; the data of a page and of those that follow, `left` in all; the data
 // of a program for XRAM; or the clock to send a page and those that follow.
-#[derive(Drop)]
+#[derive(Clone, Copy)]
 pub enum ModulePoint {
     Waits,
     Takes { page: u32, left: u32 },
@@ -13,7 +14,7 @@ pub enum ModulePoint {
 }
 
 // What a command does: its answer, the change of the flash, and the point after it.
-#[derive(Drop)]
+#[derive(Clone, Copy)]
 pub struct Deed {
     pub answer: RadioCommand,
     pub change: FlashChange,
@@ -22,7 +23,7 @@ pub struct Deed {
 
 // The state of a module between two messages, as C has it.
 #[repr(C)]
-#[derive(Drop)]
+#[derive(Clone, Copy)]
 pub struct RadioTarget {
     pub point: u32,
     pub page: u32,
@@ -30,7 +31,7 @@ pub struct RadioTarget {
 }
 
 // The point of a state, if it has one.
-#[derive(Drop)]
+#[derive(Clone, Copy)]
 pub enum PointFound {
     At(ModulePoint),
     Nowhere,
@@ -39,7 +40,7 @@ pub enum PointFound {
 // What a step gives: a number, 0 where the message is taken, the length of the reply, and the state
 // afterwards.
 #[repr(C)]
-#[derive(Drop)]
+#[derive(Clone, Copy)]
 pub struct RadioReplied {
     pub number: u32,
     pub reply: u32,
