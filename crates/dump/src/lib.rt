@@ -1,6 +1,7 @@
 // Two dumps of a flash compared, for C: the ranges of bytes that differ, and a quick form that tells the
 // first difference alone.
 #![tactic(auto)]
+
 ghost use Rattle.std.specs.Prelude.{◌≡◌};
 ghost use Rattle.dump_ranges.specs.Answers.{ranges_answer, ranges_list, first_answer};
 

@@ -16,7 +16,7 @@ use Rattle.settings.specs.Opening.{opening_refusal}
 use Rattle.settings.proofs.Laws.Accepted.{facts}
 use Rattle.settings.proofs.Laws.Opening.{Opened, settings_pass, opened}
 use Rattle.laws.specs.Bytes.{Bytes}
-use Rattle.hex_format.specs.Reading.{unset, all_unset, first_set, past_set, bytes, copied, cut_out, read_answer, hex_read}
+use Rattle.hex_format.specs.Reading.{unset, all_unset, first_set, past_set, copied, cut_out, read_answer, hex_read}
 use Rattle.hex_format.specs.Writing.{hex_file, file_bytes, write_refusal, hex_write}
 use Rattle.hex_format.proofs.Laws.Cells.{cell, kept, stored_set, some_set, first_is, past_is, unset_at, unset_fresh, bytes_are}
 use Rattle.hex_format.proofs.Laws.Writing.{walk_data, unset_drop}
