@@ -68,5 +68,5 @@ pub(crate) fn keep_point(bytes: usize, point: JobPoint, held: &mut [u8])
     ensures { held.new ≡ held_at bytes point held.old }
 {
     let told = radio_record::point_bytes(bytes, point);
-    let _n = bytes::copy(&told, &mut held[NUMBERS..]);
+    held[NUMBERS..].copy_from_slice(&told);
 }

@@ -49,8 +49,8 @@ pub fn open_job(
     if out.len() < ROOM {
         return refused(BUFFER_TOO_SMALL);
     }
-    let _n = bytes::copy(ours, held);
-    let _m = bytes::copy(mask, &mut held[MASK..NUMBERS]);
+    held[..MASK].copy_from_slice(ours);
+    held[MASK..NUMBERS].copy_from_slice(mask);
     keep_point(image.len(), JobPoint::AsksConfiguration, held);
     let said = radio_say::say(JobPoint::AsksConfiguration, image, held, out);
     RadioOpened {

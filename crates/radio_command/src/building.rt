@@ -23,6 +23,6 @@ pub fn build_into(command: u8, p0: u8, p1: u8, p2: u8, out: &mut [u8]) -> u32
         p1: p1,
         p2: p2,
     });
-    let _n = bytes::copy(&bytes, out);
+    out[..8].copy_from_slice(&bytes);
     0
 }

@@ -1,5 +1,6 @@
 // The eight-byte commands of the radio module (source document 002, table 1): built and read.
 #![tactic(auto)]
+
 mod building;
 mod command;
 

@@ -1,5 +1,6 @@
 // What each command does to the modelled radio module, given its flash. Nothing is written here.
 #![tactic(auto)]
+
 mod commands;
 mod deeds;
 

@@ -1,5 +1,6 @@
 // The radio module's flash, 129 pages of 256 bytes, and the changes that are made to it.
 #![tactic(auto)]
+
 mod blank;
 mod changes;
 mod pages;

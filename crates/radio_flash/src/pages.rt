@@ -11,7 +11,7 @@ fn put_part(start: usize, end: usize, bytes: &[u8], flash: &mut [u8])
     requires bytes_value { start + length bytes.now ≡ end }
     ensures { flash.new ≡ take start flash.old ++ (bytes.now ++ drop end flash.old) }
 {
-    let _n = bytes::copy(bytes, &mut flash[start..end]);
+    flash[start..end].copy_from_slice(bytes);
 }
 
 // Sets a page, the configuration's but for its first four bytes.

@@ -143,5 +143,5 @@ pub fn put_page(image: &[u8], page: usize, out: &mut [u8])
     let start = page * PAGE_BYTES;
     let end = page_end(start, image.len());
     blank(out);
-    let _n = bytes::copy(&image[start..end], out);
+    out[..end - start].copy_from_slice(&image[start..end]);
 }

@@ -49,7 +49,7 @@ pub(crate) fn command(name: CommandName, p0: u8, p1: u8, p2: u8, out: &mut [u8])
         p1: p1,
         p2: p2,
     });
-    let _n = bytes::copy(&bytes, out);
+    out[..8].copy_from_slice(&bytes);
     says(8, 8)
 }
 
@@ -72,6 +72,6 @@ pub(crate) fn configuration(held: &[u8], out: &mut [u8]) -> RadioAdvanced
     ensures value { result ≡ asks_for 256 8 }
     ensures out_after { out.new ≡ take 256 held.now ++ drop 256 out.old }
 {
-    let _n = bytes::copy(&held[..PAGE_BYTES], out);
+    out[..PAGE_BYTES].copy_from_slice(&held[..PAGE_BYTES]);
     says(256, 8)
 }

@@ -1,5 +1,6 @@
 // The modelled radio module: its types. What it does stands in specs/, its code in `radio_target_step`.
 #![tactic(auto)]
+
 use radio_command::RadioCommand;
 use radio_flash::FlashChange;
 

@@ -38,7 +38,7 @@ pub(crate) fn waits(m: &[u8], flash: &mut [u8], reply: &mut [u8]) -> RadioReplie
     change(c, flash);
     let answer = d.answer;
     let bytes = build(answer);
-    let _n = bytes::copy(&bytes, reply);
+    reply[..8].copy_from_slice(&bytes);
     let p = d.point;
     taken(8, p)
 }
@@ -54,7 +54,7 @@ fn acknowledge(reply: &mut [u8])
         p1: 0,
         p2: 0,
     });
-    let _n = bytes::copy(&bytes, reply);
+    reply[..8].copy_from_slice(&bytes);
 }
 
 // Data of a page: it is set, and the last one answered.
@@ -126,6 +126,6 @@ pub(crate) fn sends(page: u32, left: u32, flash: &[u8], reply: &mut [u8]) -> Rad
 {
     let start = PAGE_BYTES * (page as usize);
     let end = start + PAGE_BYTES;
-    let _n = bytes::copy(&flash[start..end], reply);
+    reply[..PAGE_BYTES].copy_from_slice(&flash[start..end]);
     taken(256, after_page(page, left))
 }

@@ -20,18 +20,10 @@ take_all n l h =
     sym (append-nil (take n l)) ∙ ap (λ (t : List ℕ). take n l ++ t) (sym (drop_of_length-le l h)) ∙ take-append-drop n l
 
 -- a part that bytes of its length were copied to
-pub part_put : (a e : ℕ) (bs f ys : List ℕ) → e ≤ length f → a + length bs ≡ e
-    → ys ≡ take (length bs) bs ++ drop (length bs) (mid_of a (e - a) f)
-    → put_mid a (e - a) f ys ≡ take a f ++ (bs ++ drop e f)
-part_put a e bs f ys h w q =
+pub part_put : (a e : ℕ) (bs f ys : List ℕ) → a + length bs ≡ e → ys ≡ bs → put_mid a (e - a) f ys ≡ take a f ++ (bs ++ drop e f)
+part_put a e bs f ys w q =
     let l : a ≤ e = omega arith in
-    let m : length (mid_of a (e - a) f) ≡ e - a = mid_len a e f h in
-    let short : length (mid_of a (e - a) f) ≤ length bs = omega arith in
-    let same : length bs ≤ length bs = omega arith in
-    let is : ys ≡ bs =
-    q ∙ ap (λ (t : List ℕ). take (length bs) bs ++ t) (drop_of_length-le (mid_of a (e - a) f) short)
-    ∙ append-nil (take (length bs) bs) ∙ take_all (length bs) bs same in
-    ap (λ (y : List ℕ). put_mid a (e - a) f y) is ∙ ap (λ (z : List ℕ). take a f ++ (bs ++ z)) (Post-is a e f l)
+    ap (λ (y : List ℕ). put_mid a (e - a) f y) q ∙ ap (λ (z : List ℕ). take a f ++ (bs ++ z)) (Post-is a e f l)
 
 -- a page other than the configuration is set whole, the configuration but for its first four bytes
 pub other_page : (p : ℕ) (bs f x : List ℕ) → (p ≡ 127 → ⊥) → x ≡ take (256 * p) f ++ (bs ++ drop (256 * p + 256) f) → x ≡ page_set p bs f
