@@ -1,5 +1,6 @@
 // The states that the modelled target may be in, in code.
 #![tactic(auto)]
+
 ghost use Rattle.std.specs.Prelude.{◌≡◌, List, ℕ, ◌*◌, ◌≤◌};
 ghost use Rattle.c2_target.specs.declared.Point.TheVariants.{LongData, Waiting, Send};
 ghost use Rattle.c2_target.specs.Delays.{setup};

@@ -1,6 +1,7 @@
 // What the modelled target is lent, settings and the pairs that its device wants: whether they are accepted,
 // which pairs are met, and whether the device is prepared.
 #![tactic(auto)]
+
 ghost use Rattle.std.specs.Prelude.{◌≡◌, true, cond, ◌&&◌, List, ℕ, eqb};
 ghost use Rattle.c2_target.specs.Delays.{setup};
 ghost use Rattle.c2_target.specs.Interface.{met_written, prepared};

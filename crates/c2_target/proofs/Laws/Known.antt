@@ -32,7 +32,7 @@ use Rattle.c2_target.specs.declared.Target.{Target}
 use Rattle.c2_target.specs.Delays.{Setup, delay}
 use Rattle.c2_target.specs.Commands.{PutTaken, erased, stored, in_flash, opens, takes_put, first_byte, other_bytes}
 use Rattle.c2_target.specs.Interface.{link, device, Served, Acted, in_busy, out_ready, linked, shown, given, put_byte, get_byte, counted, next_keys, begun, frame_does}
-use Rattle.c2_target.specs.Strobes.{target, Turn, line, strobed_at}
+use Rattle.c2_target.specs.Strobes.{Turn, line, strobed_at}
 use Rattle.c2_target.specs.Known.{hearing, is_byte, known_effect, after_its_wait, known_point, most_keys, is_count, known_block, known_command, known_output, known_link, known}
 use Rattle.c2_target.specs.Target.{cleared, after_reset, after_pause, stepped}
 use Rattle.laws.proofs.Bytes.{getD_byte}
