@@ -127,14 +127,9 @@ pub struct Program {
     pub declared: Vec<(String, Declared)>,
 }
 
-/// The main function that the toolchain adds to a library.
-const ADDED_MAIN: &str = "rt_empty::main";
-
 pub fn program(text: &str) -> Result<Program> {
     let tree = read(text)?;
-    let ("program", [definitions, main]) = tree.parts()? else { refuse!("no program") };
-    let ("fnRef", [main]) = main.parts()? else { refuse!("no main function") };
-    ensure!(main.quoted()? == ADDED_MAIN, "not the program of a library");
+    let ("program", [definitions]) = tree.parts()? else { refuse!("no program") };
     let mut made = Program { functions: Vec::new(), declared: Vec::new() };
     for definition in definitions.items()? {
         let ("fn-def", [symbol, item, declared @ ..]) = definition.parts()? else { refuse!("no function") };
@@ -148,9 +143,7 @@ pub fn program(text: &str) -> Result<Program> {
             "two functions {}",
             function.symbol
         );
-        if function.symbol != ADDED_MAIN {
-            made.functions.push(function);
-        }
+        made.functions.push(function);
     }
     Ok(made)
 }
