@@ -176,7 +176,9 @@ class Function:
         if word == 'Op1':
             return f'(op1 {self.operation(of[0])} {self.operand(of[1])})'
         if word == 'AddrOf' and of['local'] in self.tables:
-            ensure(of['steps'] == [{'Deref': self.tables[of['local']]}], f'a table lent in parts: {of}')
+            # whole, or as a slice, by its first element
+            array = self.tables[of['local']]
+            ensure(of['steps'] in ([{'Deref': array}], [{'Deref': array['Array'][0]}]), f'a table lent in parts: {of}')
             return f'(addrOf {self.bare_place(of["local"], [])})'
         if word == 'AddrOf':
             return f'(addrOf {self.place(of)})'
@@ -231,30 +233,37 @@ class Function:
         return f'(exit {number(of)})'
 
 
-def found(rlibs):
-    """Every function of these libraries by its symbol."""
-    trees = {}
-    for rlib in rlibs:
-        with open(os.path.join(rlib, 'toolchain', 'mir.json'), encoding='utf-8') as file:
-            for symbol, tree in json.load(file):
-                ensure(symbol not in trees, f'two functions {symbol}')
-                trees[symbol] = tree
-    return trees
+class Libraries:
+    """The functions of libraries by their symbols; a library is read when the first of them is wanted."""
+
+    def __init__(self, rlibs):
+        self.rlibs, self.read = {os.path.basename(it).removesuffix('.rlib'): it for it in rlibs}, {}
+        ensure(len(self.rlibs) == len(rlibs), 'two libraries of one name')
+
+    def functions(self, crate):
+        ensure(crate in self.rlibs, f'no library {crate}')
+        if crate not in self.read:
+            with open(os.path.join(self.rlibs[crate], 'toolchain', 'mir.json'), encoding='utf-8') as file:
+                pairs = json.load(file)
+            self.read[crate] = dict(pairs)
+            ensure(len(self.read[crate]) == len(pairs), f'{crate} has two functions of one name')
+        return self.read[crate]
 
 
-def program(crate, names, trees):
+def program(crate, names, libraries):
     todo, made = [], {}
     for name in names:
-        symbols = [it for it in trees if it.split('::')[0] == crate and it.split('::')[-1] == name]
+        symbols = [it for it in libraries.functions(crate) if it.split('::')[-1] == name]
         ensure(len(symbols) == 1, f'{crate} has {len(symbols)} functions {name}')
         todo += symbols
     while todo:
         symbol = todo.pop()
         if symbol in made:
             continue
-        ensure(symbol in trees, f'no library has {symbol}')
+        functions = libraries.functions(symbol.split('::')[0])
+        ensure(symbol in functions, f'no library has {symbol}')
         try:
-            made[symbol] = Function(symbol, trees[symbol])
+            made[symbol] = Function(symbol, functions[symbol])
         except Refused as why:
             raise Refused(f'{symbol}: {why}') from None
         todo += made[symbol].calls
@@ -267,7 +276,7 @@ def main(arguments):
     cut = arguments.index('--')
     sys.setrecursionlimit(100000)
     try:
-        print(program(arguments[0], arguments[1:cut], found(arguments[cut + 1:])))
+        print(program(arguments[0], arguments[1:cut], Libraries(arguments[cut + 1:])))
     except Refused as why:
         sys.exit(f'mir.py: {why}')
 

@@ -63,6 +63,8 @@ pub enum Operand {
 #[derive(Clone, Copy, Debug, PartialEq, Eq)]
 pub enum Op {
     Add,
+    /// A sum that wraps around.
+    WrapAdd,
     Sub,
     Mul,
     Div,
@@ -284,6 +286,7 @@ fn op(tree: &Tree) -> Result<Op> {
         ("shr", ["unsigned"]) => Op::Shr,
         ("lt", ["unsigned"]) => Op::Lt,
         ("le", ["unsigned"]) => Op::Le,
+        ("wrapadd", []) => Op::WrapAdd,
         ("and", []) => Op::And,
         ("or", []) => Op::Or,
         ("xor", []) => Op::Xor,
