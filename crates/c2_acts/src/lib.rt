@@ -1,5 +1,6 @@
 // The acts of the order by their numbers: what an act of a stage does, and how many acts a stage has.
 #![tactic(auto)]
+
 ghost use Rattle.std.specs.Prelude.{◌≡◌};
 ghost use Rattle.c2_acts.specs.Code.Acts.{lead_task, put_task, erase_task, write_task, read_task, register_task, task_of, acts_in};
 

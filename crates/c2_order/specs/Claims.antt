@@ -1,6 +1,6 @@
 -- What is claimed of a session's exchange and of the figure of the most steps to come, document 01's own term
 -- ("How much is left"). Types alone: proofs/Laws/Claims proves each.
-use Rattle.std.specs.Prelude.{◌≡◌, true, List, [], ◌∷◌, ◌++◌, ◌⊎◌, ℕ, ◌+◌, ◌-◌, ◌*◌, ◌/◌, ◌<◌, ◌≤◌, length, replicate}
+use Rattle.std.specs.Prelude.{◌≡◌, true, List, [], ◌∷◌, ◌++◌, ◌⊎◌, ℕ, ◌+◌, ◌-◌, ◌*◌, ◌/◌, ◌≤◌, length, replicate}
 use Rattle.numbers.specs.Numbers.{done, bad_reply, wait_limit_reached, compare_differs}
 use Rattle.laws.specs.Bytes.{Bytes}
 use Rattle.c2_wire.specs.Exchange.{Exchange, Outcome, outcome, fed, steps, taken, own}

@@ -1,6 +1,7 @@
 // The frames for a caller in another language, so that they can be compared with a second implementation:
 // frames by INS code, places and moves as numbers.
 #![tactic(auto)]
+
 ghost use Rattle.std.specs.Prelude.{◌≡◌, not, ℕ, ◌/◌, ◌^◌, eqb};
 ghost use Rattle.c2_wire.specs.Frames.{frame};
 ghost use Rattle.c2_wire.specs.Place.{place, step_at, followed};

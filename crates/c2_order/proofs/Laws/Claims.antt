@@ -9,7 +9,7 @@ use lib.ListN.{length, drop}
 use Rattle.laws.proofs.Tests.{both}
 use Rattle.c2_wire.specs.Step.{drives}
 use Rattle.c2_wire.specs.Field.{master}
-use Rattle.c2_wire.specs.Exchange.{Exchange, fed, taken, own}
+use Rattle.c2_wire.specs.Exchange.{Exchange, fed, taken}
 use Rattle.c2_wire.specs.Frames.{Strobe, plain, sampled, waits, strobes, frame}
 use Rattle.c2_wire.specs.Place.{rest_of, remaining}
 use Rattle.c2_wire.specs.declared.Frame.TheVariants.{AddressRead, DataRead}

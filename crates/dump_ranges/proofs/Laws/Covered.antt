@@ -77,7 +77,7 @@ covered_differs p k (x ∷ a) (y ∷ b) e =
 -- Ranges that rise cover nothing before the place from which they rise.
 pub covered_from : (q k : ℕ) (rs : List Range) → Rising q rs → Covered rs k → q ≤ k
 covered_from q k [] r c = absurd c
-covered_from q k (x ∷ rs) r c = ⊎_elim (λ i. omega arith) (λ l. let h = covered_from _ k rs r.2 l in omega arith) c
+covered_from q k (x ∷ rs) r c = ⊎_elim (λ i. omega arith) (λ l. let h = covered_from (suc (x.start + x.length)) k rs r.2 l in omega arith) c
 
 -- A range among others that rise: it has a first place, and the places right before and right behind it are
 -- not covered.
@@ -107,7 +107,7 @@ each_among q (x ∷ rs) s = (
     before = λ k e. ⊎_elim (λ i. omega arith) (λ l. let h = covered_from _ k rs s.2 l in omega arith);
     behind = ⊎_elim (λ i. omega arith) (λ l. let h = covered_from _ (x.start + x.length) rs s.2 l in omega arith);
   },
-  each_of (Among rs) (Among (x ∷ rs)) (among_more x rs s.2) rs (each_among _ rs s.2),
+  each_of (Among rs) (Among (x ∷ rs)) (among_more x rs s.2) rs (each_among (suc (x.start + x.length)) rs s.2),
 )
 
 -- Two lists of ranges that rise and cover the same are equal: their first ranges start and end together, and
@@ -129,7 +129,7 @@ end_below q p x y rs qs r s f e = by_cases (dec_lt y.length x.length) longer (λ
 rest_covered : (q : ℕ) (x : Range) (rs qs : List Range) → Rising q (x ∷ rs)
     → ((k : ℕ) → Covered (x ∷ rs) k → Covered (x ∷ qs) k) → (k : ℕ) → Covered rs k → Covered qs k
 rest_covered q x rs qs r f k l =
-    let h = covered_from _ k rs r.2 l in
+    let h = covered_from (suc (x.start + x.length)) k rs r.2 l in
     ⊎_elim (λ i. absurd (omega arith)) (λ c. c) (f k (inr l))
 
 same_range : (x y : Range) → x.start ≡ y.start → x.length ≡ y.length → x ≡ y
@@ -146,4 +146,4 @@ same_covered q p (x ∷ rs) (y ∷ qs) r s f g =
     let e = same_range x y h l in
     let on = rest_covered q x rs qs r (subst (λ (z : Range). (k : ℕ) → Covered (x ∷ rs) k → Covered (z ∷ qs) k) (sym e) f) in
     let back = rest_covered p y qs rs s (subst (λ (z : Range). (k : ℕ) → Covered (y ∷ qs) k → Covered (z ∷ rs) k) e g) in
-    ap (λ (t : List Range). x ∷ t) (same_covered _ _ rs qs r.2 s.2 on back) ∙ ap (λ (z : Range). z ∷ qs) e
+    ap (λ (t : List Range). x ∷ t) (same_covered (suc (x.start + x.length)) (suc (y.start + y.length)) rs qs r.2 s.2 on back) ∙ ap (λ (z : Range). z ∷ qs) e

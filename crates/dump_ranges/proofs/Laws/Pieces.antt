@@ -107,7 +107,7 @@ pub record Parts (q : ℕ) (rs : List Range) (r : Range) (qs : List Range) : Typ
 parts : (q : ℕ) (rs : List Range) (r : Range) (qs : List Range) → Rising q (rs ++ (r ∷ qs)) → Parts q rs r qs
 parts q [] r qs s = record { from = omega arith; some = s.1; ended = (omega arith, tt); later = s.2 }
 parts q (x ∷ rs) r qs s =
-    let i = parts _ rs r qs s.2 in
+    let i = parts (suc (x.start + x.length)) rs r qs s.2 in
     let h = i.from in
     record { from = omega arith; some = i.some; ended = (omega arith, i.ended); later = i.later }
 

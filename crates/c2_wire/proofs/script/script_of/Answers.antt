@@ -7,30 +7,26 @@ use Rattle.c2_wire.proofs.script.script_of.Goals as goal
 
 pub returns-then-weight-eq0 : goal.returns-then-weight-eq0
 returns-then-weight-eq0 c =
-    let asked = c.before in
-    let given = asked.before.args in
-    let weightless : asked.byte_weight.result ≡ 0 = c.if-weight-eq0.true in
-    rw (frame_word given.kind given.byte, sym asked.byte_weight.ensures.0, weightless, c.around.ensures.value)
+    let given = c.args in
+    let weightless : c.byte_weight-weight.result ≡ 0 = c.if-weight-eq0.true in
+    rw (frame_word given.kind given.byte, sym c.byte_weight-weight.ensures.value, weightless, c.around.ensures.value)
     (omega arith)
 
 pub overflow_mul-result : goal.overflow_mul-result
 overflow_mul-result c =
-    let asked = c.before in
-    record { fits = omega (arith, mul-le-mul c.driven.ensures.upper_bound asked.byte_weight.ensures.1) }
+    record { fits = omega (arith, mul-le-mul c.driven.ensures.upper_bound c.byte_weight-weight.ensures.upper_bound) }
 
 pub overflow_add-result : goal.overflow_add-result
 overflow_add-result c =
-    let asked = c.before in
-    let product = mul-le-mul c.driven.ensures.upper_bound asked.byte_weight.ensures.1 in
+    let product = mul-le-mul c.driven.ensures.upper_bound c.byte_weight-weight.ensures.upper_bound in
     record { fits = omega (arith, c.around-2.ensures.upper_bound, product) }
 
 pub returns : goal.returns
 returns c =
-    let asked = c.before in
-    let given = asked.before.args in
+    let given = c.args in
     rw (
       frame_word given.kind given.byte,
       c.around-2.ensures.value,
       c.driven.ensures.value,
-      asked.byte_weight.ensures.0,
+      c.byte_weight-weight.ensures.value,
     )

@@ -4,9 +4,6 @@ use Rattle.c2_wire.proofs.table.word.Goals as goal
 
 pub returns : goal.returns
 returns c =
-    let third = c.before in
-    let second = third.before.before.before in
-    let first = second.before.before.before in
-    let given = first.before.before.before.before.args in
-    rw (first.two.ensures.0, second.two2.ensures.0, third.two3.ensures.0, c.two-4.ensures.value)
+    let given = c.args in
+    rw (c.two.ensures.value, c.two-2.ensures.value, c.two-3.ensures.value, c.two-4.ensures.value)
     (pairs given.table.now given.byte)

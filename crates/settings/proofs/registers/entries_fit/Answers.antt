@@ -3,7 +3,6 @@ use borrow.Author.Tests.{le-leb, lt-leb}
 use native.Mathlib.Omega.{arith}
 use Rattle.settings.specs.Registers.{are_pairs}
 use Rattle.settings.proofs.Laws.Registers.{entry_by_entry}
-use Rattle.settings.proofs.registers.may_be_named.Reads as may-be-named-reads
 use Rattle.settings.proofs.registers.entries_fit.Goals as goal
 
 pub returns-then-p-gt-MOST_PAIRS : goal.returns-then-p-gt-MOST_PAIRS

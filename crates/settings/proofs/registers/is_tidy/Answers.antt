@@ -1,6 +1,5 @@
 use mathlib.Core.Path.{sym, ◌∙◌}
 use Rattle.settings.specs.Registers.{is_tidy}
-use Rattle.settings.proofs.registers.named_or_0.Reads as named-or-0-reads
 use Rattle.settings.proofs.registers.is_tidy.Goals as goal
 
 pub returns-then-named_or_0-3 : goal.returns-then-named_or_0-3

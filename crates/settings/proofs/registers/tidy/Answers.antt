@@ -1,5 +1,4 @@
 use Rattle.settings.specs.Registers.{tidy}
-use Rattle.settings.proofs.registers.if_named.Reads as if-named-reads
 use Rattle.settings.proofs.registers.tidy.Goals as goal
 
 pub returns : goal.returns
