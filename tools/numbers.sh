@@ -28,9 +28,9 @@ within() {
     sed 's/^/> /' $work/diff >&2
 }
 
-# `BadReply` and `bad-reply` as BAD_REPLY.
+# `BadReply` and `bad_reply` as BAD_REPLY.
 upper() {
-    sed 's/\([a-z]\)\([A-Z]\)/\1_\2/g' | tr 'a-z-' 'A-Z_'
+    sed 's/\([a-z]\)\([A-Z]\)/\1_\2/g' | tr a-z A-Z
 }
 
 # A row of the list: its name with the number, and with the words. C2 and the radio module have tables of
@@ -61,7 +61,7 @@ file=compare/src/second/numbers.rs
 sed -n "$constants" $file >$there
 same numbers
 file=crates/numbers/specs/Numbers.antt
-sed -n 's/^\([a-z-]*\) = \([0-9]*\)$/\1 \2/p' $file crates/radio_command/specs/Numbers.antt | upper >$there
+sed -n 's/^\([a-z_]*\) = \([0-9]*\)$/\1 \2/p' $file crates/radio_command/specs/Numbers.antt | upper >$there
 same numbers
 file=include/c2.h
 sed -n '/C2_STEP_/d;s/^ *C2_\([A-Z_]*\) = \([0-9]*\).*/\1 \2/p' $file >$there
@@ -72,7 +72,7 @@ same radio.numbers
 sed -n 's/^ *RADIO_ERR_\([A-Z_]*\) = \([0-9]*\)\([, ].*\)*$/\1 \2/p' $file >$there
 same codes
 file=crates/radio_target/specs/Deeds.antt
-sed -n 's/^err-\([a-z-]*\) = \([0-9]*\)$/\1 \2/p' $file | upper >$there
+sed -n 's/^err_\([a-z_]*\) = \([0-9]*\)$/\1 \2/p' $file | upper >$there
 within codes
 worded() {
     file=include/$2_text.h

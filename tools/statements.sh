@@ -17,7 +17,7 @@ fail() {
 stands() {
     text=$1
     shift
-    grep -qE -e "(^|[^A-Za-z0-9_-])$text(\$|[^A-Za-z0-9_-])" "$@" 2>/dev/null
+    grep -qE -e "(^|[^A-Za-z0-9_-])$text(\$|[^A-Za-z0-9_-])" "$@" /dev/null 2>/dev/null
 }
 
 # A function of a crate, a definition of a module, or a crate, an edit or a name anywhere.
@@ -25,12 +25,13 @@ exists() {
     case $1 in
     */*) true ;;
     *::*) stands "fn ${1##*::}" "crates/${1%%::*}/src" -r ;;
-    [A-Z]*.*) stands "pub (record |data )?${1#*.}" $(find crates -path "*/specs/${1%%.*}.antt") ;;
+    [A-Z]*.*) stands "pub (record |data )?${1#*.}" $(grep -E "/specs/(.*/)?${1%%.*}\.antt$" $work/sources) ;;
     *) test -d "crates/$1" || ls crates/*/must-fail/"$1".edit >/dev/null 2>&1 || stands "$1" $(cat $work/sources) ;;
     esac
 }
 
-find crates -name '*.antt' -o -name '*.rt' >$work/sources
+# What rt leaves in out/ is no source.
+find crates -path 'crates/*/out' -prune -o \( -name '*.antt' -o -name '*.rt' \) -print >$work/sources
 grep -o '`[^`]*`' $page | tr -d '`' | sort -u >$work/names
 while read -r name; do
     exists "$name" || fail "$page names $name, which is nowhere"
@@ -42,7 +43,7 @@ sed -n '/^| Crate /,/^$/p' $page | sed 1,2d | while IFS='|' read -r _ crate modu
     before=${crate:-$before}
     for module in $(echo "$modules" | tr -d ',;'); do echo "$before $module"; done
 done | sort >$work/map
-find crates -path '*/specs/[A-Z]*.antt' ! -path '*/Code/*' ! -name Lib.antt ! -name Code.antt |
+grep '/specs/[A-Z].*\.antt$' $work/sources | grep -v -e /Code/ -e '/Lib\.antt$' -e '/Code\.antt$' |
     sed 's|crates/\(.*\)/specs/\(.*\).antt|\1 \2|' | grep -v '^c2_wire_probe ' | sort >$work/modules
 diff $work/map $work/modules >$work/diff || {
     fail "the map of $page (<) has other modules than crates/ (>)"

@@ -207,6 +207,8 @@ def op2(name, a, b):
     width, x, y = same_width(a, b, name)
     if name in ('add', 'sub', 'mul'):
         return fits(width, x + y if name == 'add' else x - y if name == 'sub' else x * y, name)
+    if name == 'wrapadd':
+        return width, (x + y) % (1 << width)
     if name in ('div', 'rem'):
         check(y > 0, name)
         return width, x // y if name == 'div' else x % y

@@ -1,6 +1,6 @@
 //! The proved MIR of a crate as C99, one file for each of the crate's headers.
 //!
-//! `translate CRATE MIR DIR HEADER..` reads what `rt mir CRATE` printed and writes DIR/NAME.c for each
+//! `translate CRATE MIR DIR HEADER..` reads what `mir.py CRATE` printed and writes DIR/NAME.c for each
 //! NAME.h. The headers declare the exported functions, all of them between them, and name the structs.
 //! Whatever this program does not know, it refuses: nothing is passed over, and every place, operand and call
 //! is typed again. Nothing is narrowed: a number has in C the width that it has in the proof.

@@ -63,6 +63,8 @@ pub enum Operand {
 #[derive(Clone, Copy, Debug, PartialEq, Eq)]
 pub enum Op {
     Add,
+    /// A sum that wraps around.
+    WrapAdd,
     Sub,
     Mul,
     Div,
@@ -127,14 +129,9 @@ pub struct Program {
     pub declared: Vec<(String, Declared)>,
 }
 
-/// The main function that the toolchain adds to a library.
-const ADDED_MAIN: &str = "rt_empty::main";
-
 pub fn program(text: &str) -> Result<Program> {
     let tree = read(text)?;
-    let ("program", [definitions, main]) = tree.parts()? else { refuse!("no program") };
-    let ("fnRef", [main]) = main.parts()? else { refuse!("no main function") };
-    ensure!(main.quoted()? == ADDED_MAIN, "not the program of a library");
+    let ("program", [definitions]) = tree.parts()? else { refuse!("no program") };
     let mut made = Program { functions: Vec::new(), declared: Vec::new() };
     for definition in definitions.items()? {
         let ("fn-def", [symbol, item, declared @ ..]) = definition.parts()? else { refuse!("no function") };
@@ -148,9 +145,7 @@ pub fn program(text: &str) -> Result<Program> {
             "two functions {}",
             function.symbol
         );
-        if function.symbol != ADDED_MAIN {
-            made.functions.push(function);
-        }
+        made.functions.push(function);
     }
     Ok(made)
 }
@@ -291,6 +286,7 @@ fn op(tree: &Tree) -> Result<Op> {
         ("shr", ["unsigned"]) => Op::Shr,
         ("lt", ["unsigned"]) => Op::Lt,
         ("le", ["unsigned"]) => Op::Le,
+        ("wrapadd", []) => Op::WrapAdd,
         ("and", []) => Op::And,
         ("or", []) => Op::Or,
         ("xor", []) => Op::Xor,

@@ -33,7 +33,7 @@ const MIR: &str = r#"program
       (lcons (copy (place 3 (lcons (variant 1) (lcons (field 1) lnil)))) lnil)))) return) noDefault)))))
   (lcons (pair "toy::Answer" (fields (tcons tyBool (tcons (tyInt 8) tnil))))
   (lcons (pair "toy::Found" (variants (ttcons tnil (ttcons (tcons (tyInt 8) tnil) ttnil)))) lnil)))
-lnil)) (fnRef "rt_empty::main")"#;
+lnil))"#;
 
 const HEADER: &str = "
 #include <stdint.h>
@@ -69,7 +69,7 @@ const EDITS: [Edit; 16] = [
         "(lcons (copy (place 5 lnil)) lnil)))) skip))))",
         "without a return",
     ),
-    ("rt_empty::main", "toy::toy_at", "not the program of a library"),
+    ("program\n", "library\n", "no program"),
 ];
 
 const HEADER_EDITS: [Edit; 11] = [
@@ -109,7 +109,7 @@ const ARRAYS: &str = r#"program
   (seq (assign (place 0 lnil) (rvOpd (copy (place 4 lnil)))) return)))))
   (lcons (pair "toy::Settings" (fields (tcons (tyInt 8) (tcons (tyNamed (pair "toy::Pairs" lnil)) tnil))))
   (lcons (pair "toy::Pairs" (fields (tcons (tyInt 8) (tcons (tyArray (tyInt 8) (lenLit 4)) tnil)))) lnil)))
-lnil) (fnRef "rt_empty::main")"#;
+lnil)"#;
 
 const ARRAYS_HEADER: &str = "
 #include <stdint.h>
@@ -209,7 +209,7 @@ const MORE: &str = r#"program
 
 #[test]
 fn a_function_that_no_header_declares_is_refused() {
-    let mir = MIR.replacen("program", MORE, 1).replacen("lnil)) (fnRef", "lnil))) (fnRef", 1);
+    let mir = MIR.replacen("program", MORE, 1) + ")";
     assert!(
         reason(&mir, HEADER).contains("no header declares [\"toy::toy_more\"]"),
         "{}",

@@ -199,7 +199,7 @@ impl Writer<'_> {
             Op::Ne => "!=",
             Op::Lt => "<",
             Op::Le => "<=",
-            Op::Add => "+",
+            Op::Add | Op::WrapAdd => "+",
             Op::Sub => "-",
             Op::Mul => "*",
             Op::Div => "/",
@@ -219,6 +219,8 @@ impl Writer<'_> {
             }
             (Op::Eq | Op::Ne | Op::Lt | Op::Le, of) => refuse!("{op:?} of {of:?}"),
             (_, of) if of != want => refuse!("{op:?} of {of:?} where a {want:?} goes"),
+            // C wraps these around by the cast; a wider sum would wrap by itself, and look like a mistake.
+            (Op::WrapAdd, of) if !matches!(of, Type::Int(8 | 16)) => refuse!("{op:?} of {of:?}"),
             (_, Type::Bool) if logical => Ok(format!("(_Bool)({x} {sign} {y})")),
             (_, Type::Int(64)) => Ok(format!("{x} {sign} {y}")),
             (_, Type::Int(32)) => Ok(format!("(uint32_t)({x} {sign} {y})")),

@@ -1,19 +1,37 @@
 // Reads an image from standard input and writes what is reported of it: how many pages were programmed, how
 // many replies that took, and the outcome.
 #![tactic(auto)]
-use libc::{STDIN_FILENO, STDOUT_FILENO};
 
-fn line(name: &[u8], n: usize) {
-    io::write_all(STDOUT_FILENO, name);
-    io::print_decimal(STDOUT_FILENO, n as u64);
-    io::write_all(STDOUT_FILENO, &[b'\n']);
+ghost use Rattle.std.specs.Prelude.{◌≤◌, length, IfOk};
+
+use c2_report::report_of;
+use std::io;
+use std::io::Read;
+
+// No more of the input is looked at than the largest flash holds.
+const MOST: usize = 65536;
+
+// Fills the buffer from its start, as far as there is input, and gives how many bytes that are.
+fn read_full(input: &mut impl Read, buffer: &mut [u8]) -> io::Result<usize>
+    ensures { IfOk result (λ n. n ≤ length buffer.new) }
+{
+    let mut done = 0;
+    while done < buffer.len() {
+        let more = input.read(&mut buffer[done..])?;
+        if more == 0 {
+            break;
+        }
+        done += more;
+    }
+    Ok(done)
 }
 
-fn main() {
-    let mut input = io::large_buffer();
-    let n = io::read_full(STDIN_FILENO, &mut input);
-    let report = c2_report::report_of(&input[..n]);
-    line(b"pages ", report.pages);
-    line(b"replies ", report.replies);
-    line(b"outcome ", report.outcome as usize);
+fn main(rt: HostRuntime) -> io::Result<()> {
+    let mut image = [0u8; MOST];
+    let count = read_full(&mut rt.reader(), &mut image)?;
+    let report = report_of(&image[..count]);
+    let pages = report.pages;
+    let replies = report.replies;
+    let outcome = report.outcome;
+    println!(rt; "pages {pages}\nreplies {replies}\noutcome {outcome}")
 }
