@@ -1,13 +1,13 @@
 #!/usr/bin/env python3
 """The MIR of a crate's exported functions and of all that they reach, as text.
 
-usage: mir.py CRATE NAME.. -- RLIB.. >MIR
+usage: mir.py CRATE NAME.. -- MIR.. >TEXT
 
-Each RLIB is the folder of a proved library as the toolchain builds it: its MIR is the file toolchain/mir.json there,
-the one that the toolchain itself links into a static library. CRATE is one of them, and has the exported functions
-NAME... What is written has one construct for each of theirs. A table of constants, which MIR lends as a reference to
-an array that lies outside of the function, is here an array of the function's own that nothing writes. Whatever this
-program does not know, it refuses; translate and machine.py, which read the text, refuse more.
+Each MIR is NAME.json, or the folder NAME.rlib of a proved library as the toolchain builds it, whose MIR is
+toolchain/mir.json: what the toolchain itself links into a static library. CRATE is one of these names, and has the
+exported functions NAME... What is written has one construct for each of theirs. A table of constants, which MIR lends
+as a reference to an array that lies outside of the function, is here an array of the function's own that nothing
+writes. Whatever this program does not know, it refuses; translate and machine.py, which read the text, refuse more.
 """
 import json
 import os
@@ -236,14 +236,17 @@ class Function:
 class Libraries:
     """The functions of libraries by their symbols; a library is read when the first of them is wanted."""
 
-    def __init__(self, rlibs):
-        self.rlibs, self.read = {os.path.basename(it).removesuffix('.rlib'): it for it in rlibs}, {}
-        ensure(len(self.rlibs) == len(rlibs), 'two libraries of one name')
+    def __init__(self, paths):
+        self.files, self.read = {}, {}
+        for path in paths:
+            crate, kind = os.path.splitext(os.path.basename(path))
+            ensure(crate not in self.files, f'two libraries {crate}')
+            self.files[crate] = path if kind == '.json' else os.path.join(path, 'toolchain', 'mir.json')
 
     def functions(self, crate):
-        ensure(crate in self.rlibs, f'no library {crate}')
+        ensure(crate in self.files, f'no library {crate}')
         if crate not in self.read:
-            with open(os.path.join(self.rlibs[crate], 'toolchain', 'mir.json'), encoding='utf-8') as file:
+            with open(self.files[crate], encoding='utf-8') as file:
                 pairs = json.load(file)
             self.read[crate] = dict(pairs)
             ensure(len(self.read[crate]) == len(pairs), f'{crate} has two functions of one name')
@@ -272,7 +275,7 @@ def program(crate, names, libraries):
 
 def main(arguments):
     if arguments.count('--') != 1 or arguments.index('--') < 2:
-        sys.exit('usage: mir.py CRATE NAME.. -- RLIB..')
+        sys.exit('usage: mir.py CRATE NAME.. -- MIR..')
     cut = arguments.index('--')
     sys.setrecursionlimit(100000)
     try:
