@@ -235,7 +235,7 @@ class Function:
         """A statement with those in it, which follow it. One after another: a body can be longer than Python nests."""
         texts, open_ = [], 0
         while True:
-            word, of = one(next(rest, 'End'), 'a statement')
+            word, of = one(next(rest, 'end of the MIR'), 'a statement')
             if word != 'Seq':
                 break
             texts.append(f'(seq {self.statement(rest)} ')

@@ -57,6 +57,7 @@ dist-refusals:
 	@mkdir -p target/dist
 	@cargo test --quiet --offline --manifest-path translate/Cargo.toml --target-dir target/translate >target/dist/refusals
 	@echo "ok     translator: refuses every edit of its tests"
+	@python3 -B translate/mir_test.py
 
 STRICTEST := -std=c99 -Wall -Wextra -Wpedantic -Wconversion -Wsign-conversion -Wshadow -Wcast-qual -Wcast-align \
     -Wmissing-prototypes -Wstrict-prototypes -Wundef -Werror -Iinclude
