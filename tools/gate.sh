@@ -9,6 +9,10 @@ mkdir -p target
 # A checkout where rt check or rt lib has worked gets its own libraries back from rt ci, and with them what was kept,
 # over which rt lib proves what has changed: MAKE does that. Elsewhere rt ci's own are left, for the files NAME.. alone.
 earlier=$(ls -d crates/*/out/rlib crates/*/out/incremental 2>/dev/null)
+if [ -z "$earlier" ]; then
+    trap 'rm -rf crates/*/out/rlib' EXIT
+    trap 'exit 1' HUP INT TERM
+fi
 { rt ci; echo $?; } | {
     n=0 bad=
     while IFS= read -r line; do
@@ -28,6 +32,4 @@ rm -rf target/staticlib target/bin target/mir
 mkdir -p target/bin
 cp crates/flash/out/flash target/bin/flash || exit
 test -z "$earlier" || exit 0
-trap 'rm -rf crates/*/out/rlib' EXIT
-trap 'exit 1' HUP INT TERM
 printf '%s\n' "$@" | xargs -n 1 -P 2 "$make" --no-print-directory OVER_CI=1
