@@ -26,7 +26,6 @@ use Rattle.c2_position.proofs.Laws.Range.{advanced_in_range}
 use Rattle.c2_position.proofs.Laws.Exchange.{position_valid, exchange_advances}
 use Rattle.c2_opening.specs.Opened.{image_length, exchange_at, session_fed}
 use Rattle.c2_outcome.specs.Outcome.{is_running, number_of, offset_of}
-use Rattle.c2_wire.specs.Exchange
 use Rattle.c2_order.specs.Point
 use Rattle.exchange.specs.Exchange as Shared
 

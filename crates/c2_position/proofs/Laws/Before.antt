@@ -1,13 +1,12 @@
 -- The acts from a point of a session on are the end of its order: some acts of the order stand before them.
-use mathlib.Core.Path.{◌≡◌, refl, sym, ap, ◌∙◌}
-use mathlib.Core.List.{List, [], ◌++◌, map, append_assoc}
-use Prim.Native.Nat.{ℕ, zero, suc, ◌+◌, ◌/◌, ◌<◌, ◌≤◌}
+use mathlib.Core.Path.{◌≡◌, sym, ap, ◌∙◌}
+use mathlib.Core.List.{List, [], ◌++◌, append_assoc}
+use Prim.Native.Nat.{ℕ, zero, suc, ◌/◌, ◌<◌, ◌≤◌}
 use native.Mathlib.Nat.{mul-div_cancel}
 use native.Mathlib.Omega.{arith}
 use lib.ListN.{length, take, drop, take-append-drop}
 use Rattle.c2_order.specs.Acts.{Act}
-use Rattle.settings.specs.Registers.{pairs_of}
-use Rattle.c2_order.specs.Order.{joined, lead, pair_acts, preparation, order, session_order}
+use Rattle.c2_order.specs.Order.{lead, preparation, order, session_order}
 use Rattle.c2_acts.specs.declared.Stage.{Stage}
 use Rattle.c2_acts.specs.declared.Stage.TheVariants.{Lead, Erase, Write, Read, Close, Register}
 use Rattle.c2_session.specs.declared.Session.{Session}

@@ -14,7 +14,7 @@ use lib.Seq.{get_or-take, get_or-drop, length-take-le}
 use Rattle.settings.specs.Registers.{pair_at}
 use Rattle.settings.proofs.Laws.Accepted.{Facts}
 use Rattle.c2_order.specs.Acts.{Act, Block, length_code}
-use Rattle.c2_order.specs.Order.{Page, pages, blocks}
+use Rattle.c2_order.specs.Order.{Page, blocks}
 use Rattle.c2_acts.specs.declared.Stage.{Stage}
 use Rattle.c2_acts.specs.declared.Stage.TheVariants.{Lead, Erase, Write, Read, Close, Register}
 use Rattle.c2_session.specs.declared.At.{At}
