@@ -1,5 +1,5 @@
 -- What the code keeps while it judges the lines. For the code alone: a map, the first address set and the
--- address past the last one stand for the cells of hex_format; `walk_on`, `walk_stops` and `Walk-Ends` of
+-- address past the last one stand for the cells of hex_format; `walk_on`, `walk_stops` and `walk_ends` of
 -- Judging in proofs/Laws/ join them to `lines_taken`.
 use Rattle.std.specs.Prelude.{◌≡◌, Bool, cond, List, ℕ, ◌+◌, ◌≤◌, ◌<◌, eqb, length, get_or}
 use Rattle.hex_format.specs.declared.Line.{Line}
