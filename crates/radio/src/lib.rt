@@ -2,6 +2,7 @@
 // opened and taken on by one reply at a time, and nothing is kept between the calls but its record; the
 // modelled module's state is handed in and back.
 #![tactic(auto)]
+
 mod command;
 mod job;
 mod target;

@@ -1,5 +1,6 @@
 // A job opened, and taken on by one reply: what is answered, the record afterwards, and the next message.
 #![tactic(auto)]
+
 mod advance;
 mod keep;
 mod open;

@@ -1,5 +1,5 @@
 -- The flash that a job leaves, and the flash after each of its messages.
-use Rattle.std.specs.Prelude.{List, [], ◌∷◌, ◌++◌, ℕ, zero, suc, ◌+◌, ◌*◌, ◌-◌, take, drop, replicate}
+use Rattle.std.specs.Prelude.{List, [], ◌∷◌, ◌++◌, ℕ, zero, suc, ◌*◌, ◌-◌, take, drop, replicate}
 use Rattle.radio_command.specs.Command.{message_byte}
 use Rattle.radio_flash.specs.Flash.{erased_bytes, flash_page}
 use Rattle.radio_job.specs.Image.{JobInput, page_count, padded, merged}

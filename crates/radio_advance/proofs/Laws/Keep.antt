@@ -7,7 +7,7 @@ use native.Mathlib.Numerals.{add-one}
 use native.Mathlib.Omega.{arith}
 use lib.Dec.{eqb}
 use lib.ListN.{length, take, drop, get_or, set, length-take, length-drop, drop_of_length-le}
-use lib.Seq.{take_all, take-length, take-suc, drop-cons, set_at, get_or-append-add, get_or-drop, get_or-take, length-take-le, append_snoc}
+use lib.Seq.{take_all, take-suc, drop-cons, set_at, get_or-append-add, get_or-drop, get_or-take, length-take-le, append_snoc}
 use borrow.Author.Tests.{eq-eqb, ne_eqb}
 use borrow.Rule.Slice.PartMut.{mid_of, put_mid}
 use Rattle.radio_job.specs.declared.JobPoint.{JobPoint}
@@ -19,17 +19,21 @@ use Rattle.radio_advance.specs.Code.Kept.{merged_held, held_after, held_at}
 
 -- The last eight bytes of a record, put in place.
 pub put_numbers : (n : ℕ) (q : JobPoint) (h t p : List ℕ) → length h ≡ 520 → t ≡ point_bytes n q
-    → p ≡ take (length t) t ++ drop (length t) (mid_of 512 (length h - 512) h) → put_mid 512 (length h - 512) h p ≡ held_at n q h
+    → p ≡ t → put_mid 512 (length h - 512) h p ≡ held_at n q h
 unfolding held_at
 put_numbers n q h t p l e k =
+    let d = length-drop 512 h in
+    let b : length (drop 512 h) ≤ length h - 512 = omega arith in
+    ap (λ (x : List ℕ). take 512 h ++ (p ++ x)) (drop_of_length-le (drop 512 h) {i = length h - 512} b)
+    ∙ ap (λ (x : List ℕ). take 512 h ++ x) (append-nil p ∙ k ∙ e)
+
+-- There is room for these eight bytes, and for no more.
+pub numbers_room : (n : ℕ) (q : JobPoint) (h t : List ℕ) → length h ≡ 520 → t ≡ point_bytes n q → length (mid_of 512 (length h - 512) h) ≡ length t
+numbers_room n q h t l e =
     let w : length t ≡ 8 = ap length e ∙ point_bytes_long n q in
     let d = length-drop 512 h in
     let m = length-take (length h - 512) (drop 512 h) in
-    let a : length (mid_of 512 (length h - 512) h) ≤ length t = omega arith in
-    let b : length (drop 512 h) ≤ length h - 512 = omega arith in
-    let s : p ≡ t = k ∙ ap (λ (x : List ℕ). take (length t) t ++ x) (drop_of_length-le (mid_of 512 (length h - 512) h) {i = length t} a) ∙ append-nil (take (length t) t) ∙ take-length t in
-    ap (λ (x : List ℕ). take 512 h ++ (p ++ x)) (drop_of_length-le (drop 512 h) {i = length h - 512} b)
-    ∙ ap (λ (x : List ℕ). take 512 h ++ x) (append-nil p ∙ s ∙ e)
+    omega arith
 
 -- The old configuration merged byte by byte.
 merged_at : (ms ds os : List ℕ) (i : ℕ) → i < length ms → i < length ds → i < length os

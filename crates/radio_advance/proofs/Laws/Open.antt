@@ -1,11 +1,11 @@
 -- An opening, by what it writes.
 use mathlib.Core.Path.{◌≡◌, refl, sym, ap, ◌∙◌}
 use mathlib.Core.Bool.{true}
-use mathlib.Core.List.{List, ◌++◌, append_assoc, append-nil}
-use Prim.Native.Nat.{ℕ, ◌+◌, ◌≤◌, ◌<◌}
+use mathlib.Core.List.{List, ◌++◌, append_assoc}
+use Prim.Native.Nat.{ℕ, ◌≤◌, ◌<◌}
 use native.Mathlib.Omega.{arith}
-use lib.ListN.{length, take, drop, length-append, length-take, length-drop, drop_of_length-le}
-use lib.Seq.{take_at, take-length}
+use lib.ListN.{length, take, drop, length-append, length-take, length-drop}
+use lib.Seq.{take_at}
 use borrow.Author.Tests.{eq-eqb, ne_eqb, lt-ltb, le-ltb, le-leb}
 use borrow.Rule.Slice.PartMut.{mid_of, put_mid}
 use Rattle.exchange.specs.Exchange.{said}
@@ -66,21 +66,34 @@ module _ (h im m d out : List ℕ) where
         accepted : job_refusal call ≡ 0
         accepted = first ∙ rw (eq-eqb number 0 z, eq-eqb (length h) 520 l, le-ltb (length out) 256 o)
 
-        module _ (h₁ : List ℕ) (e₁ : h₁ ≡ take (length d) d ++ drop (length d) h) where
+        -- there is room for the data
+        pub ours_room : length (take 256 h) ≡ length d
+        ours_room =
+            let a = length-take 256 h in
+            let w = ours_long in
+            omega arith
+
+        long_with_data : (now : List ℕ) → now ≡ d ++ drop 256 h → length now ≡ 520
+        long_with_data now e =
+            let a : length now ≡ length (d ++ drop 256 h) = ap length e in
+            let b = length-append d (drop 256 h) in
+            let c = length-drop 256 h in
+            let w = ours_long in
+            omega arith
+
+        module _ (first_part : List ℕ) (e₀ : first_part ≡ d) where
+          abbrev h₁ : List ℕ
+          h₁ = first_part ++ drop 256 h
+
           -- the data stand first
           one : h₁ ≡ d ++ drop 256 h
-          one = e₁ ∙ ap (λ (x : List ℕ). x ++ drop (length d) h) (take-length d) ∙ ap (λ (n : ℕ). d ++ drop n h) ours_long
+          one = ap (λ (x : List ℕ). x ++ drop 256 h) e₀
 
           one_long : length h₁ ≡ 520
-          one_long =
-              let a = ap length one in
-              let b = length-append d (drop 256 h) in
-              let c = length-drop 256 h in
-              let w = ours_long in
-              omega arith
+          one_long = long_with_data h₁ one
 
           -- there is room for the mask
-          pub mask_room : length m ≤ length (mid_of 256 256 h₁)
+          pub mask_room : length (mid_of 256 256 h₁) ≡ length m
           mask_room =
               let a = length-take 256 (drop 256 h₁) in
               let b = length-drop 256 h₁ in
@@ -89,20 +102,12 @@ module _ (h im m d out : List ℕ) where
               omega arith
 
         -- the record: data, mask, then the numbers
-        module _ (h₁ part h₂ h₃ : List ℕ) (e₁ : h₁ ≡ take (length d) d ++ drop (length d) h)
-            (e : part ≡ take (length m) m ++ drop (length m) (mid_of 256 256 h₁)) (e₂ : h₂ ≡ put_mid 256 256 h₁ part)
+        module _ (h₁ part h₂ h₃ : List ℕ) (e₁ : h₁ ≡ d ++ drop 256 h) (e : part ≡ m) (e₂ : h₂ ≡ put_mid 256 256 h₁ part)
             (e₃ : h₃ ≡ held_at (length im) AsksConfiguration h₂) where
-          middle : part ≡ m
-          middle =
-              let a = length-take 256 (drop 256 h₁) in
-              let w = masks_long in
-              let b : length (mid_of 256 256 h₁) ≤ length m = omega arith in
-              e ∙ ap (λ (x : List ℕ). take (length m) m ++ x) (drop_of_length-le (mid_of 256 256 h₁) {i = length m} b) ∙ append-nil (take (length m) m) ∙ take-length m
-
           two : h₂ ≡ d ++ (m ++ drop 256 (drop 256 h₁))
           two =
-              e₂ ∙ ap (λ (x : List ℕ). take 256 h₁ ++ (x ++ drop 256 (drop 256 h₁))) middle
-              ∙ ap (λ (x : List ℕ). x ++ (m ++ drop 256 (drop 256 h₁))) (ap (λ (x : List ℕ). take 256 x) (one h₁ e₁) ∙ take_at d (drop 256 h) 256 ours_long)
+              e₂ ∙ ap (λ (x : List ℕ). take 256 h₁ ++ (x ++ drop 256 (drop 256 h₁))) e
+              ∙ ap (λ (x : List ℕ). x ++ (m ++ drop 256 (drop 256 h₁))) (ap (λ (x : List ℕ). take 256 x) e₁ ∙ take_at d (drop 256 h) 256 ours_long)
 
           pub two_long : length h₂ ≡ 520
           two_long =
@@ -113,7 +118,7 @@ module _ (h im m d out : List ℕ) where
               let g = length-drop 256 h₁ in
               let w = ours_long in
               let v = masks_long in
-              let u = one_long h₁ e₁ in
+              let u = long_with_data h₁ e₁ in
               omega arith
 
           three : h₃ ≡ packed_job (opened_job (input_of im m d))

@@ -10,7 +10,6 @@ use borrow.Author.Tests.{eqb-true, eq-eqb, ne_eqb}
 use Rattle.laws.proofs.Tests.{by_test}
 use Rattle.exchange.specs.Exchange.{said, ended, ask, after, fed}
 use Rattle.exchange.specs.Machine.{after_replies}
-use Rattle.exchange.specs.Machine as Machines
 use Rattle.exchange.specs.Calls.{call_done, call_heard, told, in_a_row, MayFollow}
 use Rattle.exchange.proofs.Laws.Exchange.{fed_append, fed_ended}
 use Rattle.radio_command.specs.Command.{built}
