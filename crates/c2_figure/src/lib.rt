@@ -1,6 +1,7 @@
 // The most steps still to come with a reply, from a session's numbers: each WAIT counts to its limit and each
 // poll to its reads, less those done. The order is not walked.
 #![tactic(auto)]
+
 use c2_acts::{BLOCK_ACTS, ERASE_ACTS};
 use c2_session::Session;
 use c2_wire::{ADDRESS_STROBES, DATA_STROBES, READ_WAIT, WRITE_WAIT};

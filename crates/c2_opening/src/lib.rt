@@ -1,5 +1,6 @@
 // The session that an opening begins.
 #![tactic(auto)]
+
 ghost use Rattle.std.specs.Prelude.{◌≡◌, cond, ◌/◌, ◌%◌, eqb};
 ghost use Rattle.settings.specs.Accepted.{tidied};
 ghost use Rattle.c2_opening.specs.Code.Started.{started};

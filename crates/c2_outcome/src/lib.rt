@@ -1,5 +1,6 @@
 // How a session stands: running, or ended with its outcome.
 #![tactic(auto)]
+
 ghost use Rattle.std.specs.Prelude.{◌≡◌};
 ghost use Rattle.c2_outcome.specs.Outcome.{is_running, point_outcome};
 

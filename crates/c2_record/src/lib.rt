@@ -1,6 +1,7 @@
 // The record of a session: 32 bytes that a driver keeps over sleep (docs/RECORD.md), packed, and taken apart: the
 // point that is reached, and the session beside it.
 #![tactic(auto)]
+
 use c2_session::Point;
 
 mod held;

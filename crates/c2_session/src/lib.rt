@@ -1,6 +1,7 @@
 // A programming session as a value: settings, pages and the point reached in the session's order. A runner
 // takes a session's point through the order, reply by reply.
 #![tactic(auto)]
+
 use c2_acts::{Stage, Task};
 use settings::Settings;
 
