@@ -4,12 +4,13 @@ CARGO := cargo run --quiet --offline --manifest-path compare/Cargo.toml --target
 BENCH := --quiet --release --offline --manifest-path bench/Cargo.toml --target-dir target/bench
 
 # The crates that something is made of: libraries for users; libraries that the comparison and the benchmark
-# link besides (proved/build.rs has both); the program; and those that stand right below them, proved in one
-# go.
+# link besides (proved/build.rs has both); and the program. A library has its crate's name, but for these two.
 USERS := c2 dump hex radio
 INSIDE := c2_wire_probe c2_run
 PROGRAM := flash
-BELOW := c2_record c2_figure c2_target_state dump_ranges hex_read hex_write radio_target_step radio_advance
+hex_CRATE := hex_calls
+c2_run_CRATE := c2_run_c
+crate_of = $(or $($(1)_CRATE),$(1))
 
 LIBRARY := $(USERS:%=target/staticlib/lib%.a)
 LIBRARIES := $(LIBRARY) $(INSIDE:%=target/staticlib/lib%.a)
@@ -29,7 +30,7 @@ WARNINGS := -Wall -Wextra -Wpedantic -Iinclude
 STRICT := $(WARNINGS) -Werror
 HEADERS := $(wildcard include/*.h)
 
-.PHONY: help library install flash test below compare compare-long numbers devices statements examples headers installed waves dumps bench bench-count prove clean
+.PHONY: help library install flash test compare compare-long numbers devices statements examples headers installed waves dumps bench bench-count prove clean
 .NOTPARALLEL:
 
 help:
@@ -39,7 +40,7 @@ help:
 	@echo "make examples      build and run the C examples: first, driver, limit, pairs, waves, hex, dumps and radio"
 	@echo "make waves         write a session's strobes as a waveform, $(WAVES), for gtkwave or PulseView"
 	@echo "make dumps         tell where two dumps of a flash differ: A=file B=file; P=1024 for its page size"
-	@echo "make test          prove everything from nothing, then compare, and run the examples"
+	@echo "make test          prove everything (rt ci), then compare, and run the examples"
 	@echo "make compare       the comparison with a second implementation in Rust, half a minute"
 	@echo "make compare-long  the comparison over many more cases"
 	@echo "make numbers       compare every list of the numbers that come back with docs/NUMBERS.md"
@@ -68,23 +69,17 @@ flash: target/examples/flash
 	@lines=$$($< $(if $(IMAGE),<'$(IMAGE)')) && echo "$$lines" && number=$${lines##*outcome } && \
 	    { test "$$number" = 32 || { sed -n "s/^| $$number | [^|]* | \(.*\) | \(.*\) |$$/\1: \2/p" docs/NUMBERS.md >&2; false; }; }
 
-# First everything is proved from nothing; the comparison and the examples then run on what that leaves in
-# target/. The count comes last, and only if they pass.
+# First everything is proved by rt ci; the comparison and the examples then run on libraries and a program that
+# are made anew from what it proved. The count comes last, and only if they pass.
 test:
-	@{ rt ci; echo $$?; } | { n=0; \
-	    while IFS= read -r line; do [ $$n -lt 2 ] || printf '%s\n' "$$a"; a=$$b b=$$line n=$$((n + 1)); done; \
-	    if [ "$$b" = 0 ]; then echo "$$a" >target/count; else echo "$$a"; exit 1; fi; }
+	@sh tools/gate.sh $(MAKE) $(MIR) $(INSIDE:%=target/staticlib/lib%.a)
 	@$(MAKE) --no-print-directory compare numbers statements headers installed examples dist-test
 	@cat target/count
 
-# Everything below the program and the libraries, level by level.
-below:
-	@sh tools/prove.sh check $(PROGRAM) $(BELOW) >&2
-
-compare: below $(FLASH) $(LIBRARIES)
+compare: $(FLASH) $(LIBRARIES)
 	@$(CARGO) --program $(FLASH)
 
-compare-long: below $(FLASH) $(LIBRARIES)
+compare-long: $(FLASH) $(LIBRARIES)
 	@$(CARGO) --long --program $(FLASH)
 
 # The numbers that come back stand once, in docs/NUMBERS.md.
@@ -187,17 +182,26 @@ $(OBJECTS): target/c/%.o: dist/%.c $(HEADERS)
 	@mkdir -p target/c
 	@$(CC) -std=c99 -O2 $(WARNINGS) -c $< -o $@
 
-# What is proved goes to the error stream, so that only the program writes to standard output.
+# What is proved goes to the error stream, so that only the program writes to standard output. OVER_CI is set where
+# rt ci has just proved the crates below, and left their libraries.
 target/staticlib/lib%.a: $(SOURCES)
-	@sh tools/prove.sh staticlib $* >&2
+	@mkdir -p $(@D)
+ifdef OVER_CI
+	@sh tools/build.sh staticlib $(call crate_of,$*) $@
+else
+	@sh tools/prove.sh lib $(call crate_of,$*) >&2
+	@cp crates/$(call crate_of,$*)/out/lib$(call crate_of,$*).a $@
+endif
 
 $(FLASH): $(SOURCES)
-	@sh tools/prove.sh check $(PROGRAM) >&2
+	@mkdir -p $(@D)
+	@sh tools/prove.sh run $(PROGRAM) >&2
+	@cp crates/$(PROGRAM)/out/$(PROGRAM) $@
 
 prove:
-	@rt check
+	@rt all check
 
 clean:
-	@rm -rf target
+	@rm -rf target crates/*/out
 
 include translate/rules.mk

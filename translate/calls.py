@@ -110,15 +110,15 @@ def hex(machine, rng):
                     (8, rng.choice((20, 1, 255, 0))), pairs)
         image, room = rng.choices(range(256), k=size), rng.choice((0, 511, size, size * count))
         file = [0] * (size // 16 * 44 + rng.choice((11, 12, 20)))
-        call(machine, 'c2_hex_write', [settings, (32, rng.randrange(3)), lent(image), lent(file)], 'hex')
-        call(machine, 'c2_hex_read', [settings, lent(file), lent([0] * room)], 'hex')
+        call(machine, 'c2_hex_write', [settings, (32, rng.randrange(3)), lent(image), lent(file)], 'hex_calls')
+        call(machine, 'c2_hex_read', [settings, lent(file), lent([0] * room)], 'hex_calls')
         scattered = []
         for _ in range(rng.randrange(1, 12)):
             scattered += record(rng.randrange(size * count), rng.choices(range(256), k=rng.choice((0, 1, 3, 16))))
         scattered += record(0, [], 1)
-        call(machine, 'c2_hex_read', [settings, lent(scattered), lent([0] * room)], 'hex')
+        call(machine, 'c2_hex_read', [settings, lent(scattered), lent([0] * room)], 'hex_calls')
         scattered[rng.randrange(len(scattered))] ^= 1 << rng.randrange(8)
-        call(machine, 'c2_hex_read', [settings, lent(scattered[:rng.randrange(len(scattered) + 1)]), lent([0] * room)], 'hex')
+        call(machine, 'c2_hex_read', [settings, lent(scattered[:rng.randrange(len(scattered) + 1)]), lent([0] * room)], 'hex_calls')
 
 
 COMMANDS = (0x4B, 0x8C, 0x6B, 0x6C, 0x69, 0x6A, 0x6D, 0x6E, 0x58, 0x99, 0x70, 0x71, 0x6F)
@@ -179,4 +179,4 @@ def beside_radio(machine, rng, held, image, reply):
         call(machine, 'radio_advance', [lent(record), lent(lent_image), lent(answer), lent([0] * room)], 'radio')
 
 
-CALLS = {'c2': c2, 'dump': dump, 'hex': hex, 'radio': radio}
+CALLS = {'c2': c2, 'dump': dump, 'hex_calls': hex, 'radio': radio}

@@ -1,13 +1,13 @@
 #!/usr/bin/env python3
 """The MIR of a crate's exported functions and of all that they reach, as text.
 
-usage: mir.py CRATE NAME.. -- RLIB.. >MIR
+usage: mir.py CRATE NAME.. -- MIR.. >TEXT
 
-Each RLIB is the folder of a proved library as the toolchain builds it: its MIR is the file toolchain/mir.json there,
-the one that the toolchain itself links into a static library. CRATE is one of them, and has the exported functions
-NAME... What is written has one construct for each of theirs. A table of constants, which MIR lends as a reference to
-an array that lies outside of the function, is here an array of the function's own that nothing writes. Whatever this
-program does not know, it refuses; translate and machine.py, which read the text, refuse more.
+Each MIR is NAME.json, or the folder NAME.rlib of a proved library as the toolchain builds it, whose MIR is
+toolchain/mir.json: what the toolchain itself links into a static library. CRATE is one of these names, and has the
+exported functions NAME... What is written has one construct for each of theirs. A table of constants, which MIR lends
+as a reference to an array that lies outside of the function, is here an array of the function's own that nothing
+writes. Whatever this program does not know, it refuses; translate and machine.py, which read the text, refuse more.
 """
 import json
 import os
@@ -102,6 +102,40 @@ def declared(tree):
 
 # ---- functions
 
+# The one generic function of the toolchain's library that is known, at bytes: its own MIR goes about it by closures
+# over the slots of a slice. It copies a slice to another of the same length, as its contract says; these are its
+# symbol, its types and what it is given of them, and the function that stands for it.
+COPY = ['core::slice::edits::slice+T::copy_from_slice',
+        {'types': [{'Int': 8}], 'dicts': [{'Impl': ['core::clone::U8Clone', [], []]}]}]
+COPIED = 'core::slice::copy_from_slice'
+
+
+def copied():
+    def at(local, *steps):
+        return f'(place {local} {listed(steps)})'
+
+    def copy(local, *steps):
+        return f'(copy {at(local, *steps)})'
+
+    def slice_(lifetime_, mutable):
+        return f'(tyStruct "&[]" (tcons (tyRef (named {lifetime_}) {mutable} (tyInt 8)) (tcons (tyInt 64) tnil)))'
+
+    of = ['tyUnit', slice_(0, 'mut'), slice_(1, 'imm'), '(tyInt 64)', '(tyInt 64)', 'tyBool', 'tyPtr', '(tyInt 8)', 'tyPtr']
+    byte = '(deref (tyInt 8))'
+    turn = [f'(assign {at(4)} (rvOpd {copy(2, "(field 1)")}))',
+            f'(assign {at(5)} (op2 (lt unsigned) {copy(3)} {copy(4)}))',
+            f'(if {copy(5)} skip (exit 1))',
+            f'(assign {at(6)} (op2 offset {copy(2, "(field 0)")} {copy(3)}))',
+            f'(assign {at(7)} (rvOpd {copy(6, byte)}))',
+            f'(assign {at(8)} (op2 offset {copy(1, "(field 0)")} {copy(3)}))',
+            f'(assign {at(8, byte)} (rvOpd {copy(7)}))',
+            f'(assign {at(3)} (op2 (add unsigned) {copy(3)} (int 64 1)))']
+    body = [f'(assign {at(3)} (rvOpd (int 64 0)))',
+            f'(block (loop {listed(turn[:-1], "seq", turn[-1])}))',
+            f'(assign {at(0)} (rvOpd unit))']
+    locals_ = listed([f'(local {it} valueLocal)' for it in of])
+    return f'(fn-def {quoted(COPIED)} (fnItem 2 lnil 2 {locals_} {listed(body, "seq", "return")}) lnil)'
+
 
 class Function:
     """A function's text and the symbols that it calls."""
@@ -111,7 +145,9 @@ class Function:
         ensure(set(tree) == {'lifetimes', 'outlives', 'params', 'generics', 'types', 'locals', 'body'},
                f'{symbol} has {sorted(tree)}')
         generics = tree['generics']
-        ensure(tree['outlives'] == [] and all(not of for of in generics.values()), f'{symbol}: {generics}')
+        # impls tells of what generic functions are given, and those are refused where they are called
+        ensure(tree['outlives'] == [] and not any(of for key, of in generics.items() if key != 'impls'),
+               f'{symbol}: {generics}')
         for statement in tree['body']:
             if one(statement, 'a statement')[0] == 'LendStatic':
                 self.table(tree['locals'], statement['LendStatic'])
@@ -199,7 +235,7 @@ class Function:
         """A statement with those in it, which follow it. One after another: a body can be longer than Python nests."""
         texts, open_ = [], 0
         while True:
-            word, of = one(next(rest, 'End'), 'a statement')
+            word, of = one(next(rest, 'end of the MIR'), 'a statement')
             if word != 'Seq':
                 break
             texts.append(f'(seq {self.statement(rest)} ')
@@ -217,9 +253,11 @@ class Function:
             return f'(assign {self.bare_place(of[0]["local"], [])} (aggregate {parts}))'
         if word == 'Call':
             to_what, callee = one(of[0], 'a call')
-            ensure(to_what == 'Fn' and callee[1] == {'types': [], 'dicts': []}, f'a call of {of[0]}')
-            self.calls.append(callee[0])
-            return f'(call (direct (fnRef {quoted(callee[0])})) {self.operands(of[1])} {self.place(of[2])})'
+            is_plain = to_what == 'Fn' and callee[1] == {'types': [], 'dicts': []}
+            ensure(is_plain or callee == COPY, f'a call of {of[0]}')
+            symbol = callee[0] if is_plain else COPIED
+            self.calls.append(symbol)
+            return f'(call (direct (fnRef {quoted(symbol)})) {self.operands(of[1])} {self.place(of[2])})'
         if word == 'If':
             return f'(if {self.operand(of)} {self.statement(rest)} {self.statement(rest)})'
         if word == 'Switch':
@@ -236,14 +274,17 @@ class Function:
 class Libraries:
     """The functions of libraries by their symbols; a library is read when the first of them is wanted."""
 
-    def __init__(self, rlibs):
-        self.rlibs, self.read = {os.path.basename(it).removesuffix('.rlib'): it for it in rlibs}, {}
-        ensure(len(self.rlibs) == len(rlibs), 'two libraries of one name')
+    def __init__(self, paths):
+        self.files, self.read = {}, {}
+        for path in paths:
+            crate, kind = os.path.splitext(os.path.basename(path))
+            ensure(crate not in self.files, f'two libraries {crate}')
+            self.files[crate] = path if kind == '.json' else os.path.join(path, 'toolchain', 'mir.json')
 
     def functions(self, crate):
-        ensure(crate in self.rlibs, f'no library {crate}')
+        ensure(crate in self.files, f'no library {crate}')
         if crate not in self.read:
-            with open(os.path.join(self.rlibs[crate], 'toolchain', 'mir.json'), encoding='utf-8') as file:
+            with open(self.files[crate], encoding='utf-8') as file:
                 pairs = json.load(file)
             self.read[crate] = dict(pairs)
             ensure(len(self.read[crate]) == len(pairs), f'{crate} has two functions of one name')
@@ -251,28 +292,32 @@ class Libraries:
 
 
 def program(crate, names, libraries):
-    todo, made = [], {}
+    todo, texts = [], {}
     for name in names:
         symbols = [it for it in libraries.functions(crate) if it.split('::')[-1] == name]
         ensure(len(symbols) == 1, f'{crate} has {len(symbols)} functions {name}')
         todo += symbols
     while todo:
         symbol = todo.pop()
-        if symbol in made:
+        if symbol in texts:
+            continue
+        if symbol == COPIED:
+            texts[symbol] = copied()
             continue
         functions = libraries.functions(symbol.split('::')[0])
         ensure(symbol in functions, f'no library has {symbol}')
         try:
-            made[symbol] = Function(symbol, functions[symbol])
+            function = Function(symbol, functions[symbol])
         except Refused as why:
             raise Refused(f'{symbol}: {why}') from None
-        todo += made[symbol].calls
-    return f'program {listed([made[symbol].text for symbol in sorted(made)])}'
+        texts[symbol] = function.text
+        todo += function.calls
+    return f'program {listed([texts[symbol] for symbol in sorted(texts)])}'
 
 
 def main(arguments):
     if arguments.count('--') != 1 or arguments.index('--') < 2:
-        sys.exit('usage: mir.py CRATE NAME.. -- RLIB..')
+        sys.exit('usage: mir.py CRATE NAME.. -- MIR..')
     cut = arguments.index('--')
     sys.setrecursionlimit(100000)
     try:

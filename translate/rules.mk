@@ -16,18 +16,22 @@ DIST := $(foreach face,$(FACES),$(patsubst include/%.h,dist/%.c,$($(face)_HEADER
 .PHONY: c proved-faces dist-test dist-same dist-refusals dist-strict dist-symbols dist-cases dist-replay dist-compare \
     dist-examples
 
-# `rt mir` also prints what is not proved: so the library is proved first, from the same files.
+# The MIR of a face's exported functions and of what they reach: the crate's own, and that of the libraries below and
+# of the toolchain's, as the library is linked of it.
 target/mir/%.mir: target/staticlib/lib%.a
 	@mkdir -p $(@D)
-	@rt mir $* </dev/null >$@.part 2>target/rt.log || { tail target/rt.log; exit 1; }
+	@sh tools/build.sh mir $(call crate_of,$*) target/mir/$(call crate_of,$*).json
+	@python3 -B translate/mir.py $(call crate_of,$*) $$(nm -g --defined-only $< | awk 'NF == 3 { print $$3 }') -- \
+	    target/mir/$(call crate_of,$*).json $$(dirname $$(rt doc))/rlibs/core.rlib \
+	    $$(sh tools/below.sh $(call crate_of,$*) | sed '$$d;s|.*|crates/&/out/rlib/&.rlib|') >$@.part
 	@mv $@.part $@
 
 # Not by the files' times: what is stated may have changed, and not the code.
 proved-faces:
-	@for face in $(FACES); do sh tools/prove.sh staticlib $$face >&2 || exit 1; done
+	@for face in $(foreach face,$(FACES),$(call crate_of,$(face))); do sh tools/prove.sh lib $$face >&2 || exit 1; done
 
 # Makes the C files of every face in that folder.
-translated = $(foreach face,$(FACES),$(TRANSLATE) $(face) target/mir/$(face).mir $(1) $($(face)_HEADERS) &&) true
+translated = $(foreach face,$(FACES),$(TRANSLATE) $(call crate_of,$(face)) target/mir/$(face).mir $(1) $($(face)_HEADERS) &&) true
 
 c: proved-faces $(MIR)
 	@rm -rf target/dist/made
@@ -53,6 +57,7 @@ dist-refusals:
 	@mkdir -p target/dist
 	@cargo test --quiet --offline --manifest-path translate/Cargo.toml --target-dir target/translate >target/dist/refusals
 	@echo "ok     translator: refuses every edit of its tests"
+	@python3 -B translate/mir_test.py
 
 STRICTEST := -std=c99 -Wall -Wextra -Wpedantic -Wconversion -Wsign-conversion -Wshadow -Wcast-qual -Wcast-align \
     -Wmissing-prototypes -Wstrict-prototypes -Wundef -Werror -Iinclude
@@ -66,7 +71,7 @@ dist-strict:
 
 # The machine's answers, function by function: for each file of a face, and for the zoo, which has the
 # constructs that the translator knows and no face uses.
-cases = python3 -B translate/cases.py $(1) target/mir/$(1).mir $(2) $($(1)_HEADERS) >target/dist/cases_$(notdir $(2)) && \
+cases = python3 -B translate/cases.py $(call crate_of,$(1)) target/mir/$(1).mir $(2) $($(1)_HEADERS) >target/dist/cases_$(notdir $(2)) && \
     $(CC) -std=c99 -O1 $(STRICT) -Wno-unused-function -Idist target/dist/cases_$(notdir $(2)) -o target/dist/cases_$(basename $(notdir $(2))) && \
     timeout 60 target/dist/cases_$(basename $(notdir $(2)))
 

@@ -1,5 +1,6 @@
 // The C face of reading and writing Intel HEX files; include/c2_hex.h declares it.
 #![tactic(auto)]
+
 ghost use Rattle.std.specs.Prelude.{◌≡◌, length};
 ghost use Rattle.hex_format.specs.Reading.{reading_done, image_in_buffer, hex_read};
 ghost use Rattle.hex_format.specs.Writing.{writing_done, file_in_buffer};

@@ -1,5 +1,6 @@
 // Writing an Intel HEX file (document 02, a).
 #![tactic(auto)]
+
 mod digit;
 mod line;
 pub mod write;

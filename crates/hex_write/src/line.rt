@@ -38,7 +38,7 @@ fn put_record(out: &mut [u8], high: u8, low: u8, s: &[u8])
     out[1] = high;
     out[2] = low;
     out[3] = 0;
-    bytes::copy(s, &mut out[4..20]);
+    out[4..20].copy_from_slice(s);
     let k = check(&out[..20]);
     out[20] = k;
 }
@@ -60,5 +60,5 @@ pub(crate) fn put_end(out: &mut [u8])
     requires { length out.old ≡ 12 }
     ensures { out.new ≡ last_line }
 {
-    bytes::copy(b":00000001FF\n", out);
+    out.copy_from_slice(b":00000001FF\n");
 }

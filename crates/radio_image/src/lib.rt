@@ -1,5 +1,6 @@
 // What an opening asks of mask, data and image, and two pages compared.
 #![tactic(auto)]
+
 ghost use Rattle.std.specs.Prelude.{◌≡◌, ◌||◌, ◌+◌, ◌≤◌, eqb, length, replicate};
 ghost use Rattle.radio_job.specs.Image.{is_mask, mask_fits, image_fits, input_number, pages_for};
 ghost use Rattle.radio_job.specs.Job.{shared};

@@ -1,5 +1,6 @@
 // The points of a job: which there are, and the point after a reply.
 #![tactic(auto)]
+
 mod ending;
 mod fits;
 mod next;

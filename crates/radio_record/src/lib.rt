@@ -1,6 +1,7 @@
 // The record of a job: 520 bytes that a driver keeps over sleep (docs/RADIO_RECORD.md). Page and mask stand
 // in it as they are; its last eight bytes tell image length and point.
 #![tactic(auto)]
+
 use radio_job::JobPoint;
 
 mod held;

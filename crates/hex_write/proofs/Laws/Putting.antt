@@ -1,7 +1,7 @@
 -- Laws of the loops that write digits, a record, a line and the lines of a file.
-use Rattle.std.proofs.Common.{◌≡◌, ℕ, zero, suc, ◌+◌, ◌*◌, ◌/◌, ◌%◌, ◌<◌, ◌≤◌, List, [], ◌∷◌, ◌++◌, length, get_or, take, drop, set, sym, refl, ap, ◌∙◌, append_assoc, append-nil, add-one, arith, length-append, length-drop, length-set, drop_of_length-le, length-take-le, take_all, drop-cons, drop-drop, take_at, drop_at}
+use Rattle.std.proofs.Common.{◌≡◌, ℕ, zero, suc, ◌+◌, ◌*◌, ◌/◌, ◌%◌, ◌<◌, ◌≤◌, List, [], ◌∷◌, ◌++◌, length, get_or, take, drop, set, sym, refl, ap, ◌∙◌, append_assoc, append-nil, add-one, arith, length-append, length-drop, length-set, drop_of_length-le, length-take-le, drop-cons, drop-drop, take_at, drop_at}
 use lib.Seq.{set_at}
-use borrow.Rule.Slice.PartMut.{put_mid, mid_of, mid_len}
+use borrow.Rule.Slice.PartMut.{put_mid}
 use Rattle.hex_format.specs.Lines.{sum}
 use Rattle.hex_write.specs.Code.Firsts.{firsts}
 use Rattle.hex_format.specs.Digits.{upper, text}
@@ -28,10 +28,6 @@ pub sum_more : (s : List ℕ) (i : ℕ) → i < length s → sum (drop i s) ≡ 
 unfolding sum
 sum_more s i h = rw (add-one i, drop-cons s i 0 h)
 
--- a copy of all
-pub copied_all : (s d c : List ℕ) → c ≡ take (length s) s ++ drop (length s) d → length d ≤ length s → c ≡ s
-copied_all s d c e h = e ∙ rw (take_all (length s) s (omega arith), drop_of_length-le d {i = length s} h) (append-nil s)
-
 -- a record's bytes as they are put
 abbrev pub head : (out : List ℕ) (h w : ℕ) → List ℕ
 head out h w = set (set (set (set out 0 16) 1 h) 2 w) 3 0
@@ -39,15 +35,12 @@ head out h w = set (set (set (set out 0 16) 1 h) 2 w) 3 0
 pub head_long : (out : List ℕ) (h w : ℕ) → length (head out h w) ≡ length out
 head_long out h w = simp length-set
 
-pub middle : (out s c : List ℕ) (h w : ℕ) → length s ≡ 16 → length out ≡ 21 → c ≡ take (length s) s ++ drop (length s) (mid_of 4 16 (head out h w))
+pub middle : (out s c : List ℕ) (h w : ℕ) → length s ≡ 16 → length out ≡ 21 → c ≡ s
     → put_mid 4 16 (head out h w) c ≡ 16 ∷ h ∷ w ∷ 0 ∷ (s ++ (get_or out 20 0 ∷ []))
 middle out s c h w long all e =
-    ap (λ x. put_mid 4 16 (head out h w) x) (copied_all s (mid_of 4 16 (head out h w)) c e (rw (long) (le (mid_len 4 20 (head out h w) (rw (head_long out h w) (omega arith))))))
+    ap (λ x. put_mid 4 16 (head out h w) x) e
     ∙ go out all
   where
-    le : {n m : ℕ} → n ≡ m → n ≤ m
-    le p = omega arith
-
     tail : (r : List ℕ) → length r ≡ 17 → drop 16 r ≡ get_or r 16 0 ∷ []
     tail r k = drop-cons r 16 0 (omega arith) ∙ ap (λ x. get_or r 16 0 ∷ x) (drop_of_length-le r {i = 17} (omega arith))
 

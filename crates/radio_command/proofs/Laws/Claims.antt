@@ -1,5 +1,5 @@
 -- Building and reading are inverse both ways (`Claims`), and what the contracts' proofs cite.
-use Rattle.std.proofs.Common.{◌≡◌, ℕ, suc, ◌+◌, ◌%◌, ◌^◌, Bool, true, false, cond, eqb, List, [], ◌∷◌, ◌++◌, length, take, drop, refl, ap, ◌∙◌, arith, eq-eqb, eqb-true}
+use Rattle.std.proofs.Common.{◌≡◌, ℕ, suc, ◌+◌, ◌%◌, ◌^◌, Bool, true, false, cond, eqb, List, [], ◌∷◌, ◌++◌, length, drop, refl, ap, ◌∙◌, arith, eq-eqb, eqb-true}
 use Rattle.laws.proofs.Tests.{by_test}
 use Rattle.radio_command.specs.declared.CommandName.{CommandName}
 use Rattle.radio_command.specs.declared.CommandName.TheVariants.{RdSwVersion, InfSwVersion, RdFlashByte, WrFlashByte, RdFlashPage}
@@ -40,8 +40,7 @@ unfolding read_command built read_named
 built_reads c = rw (name_of_code c.name, eq-eqb _ _ (refl {a = command_sum 0xA5 (command_byte c.name) c.p0 c.p1 c.p2}))
 
 -- eight bytes copied to a buffer's begin
-pub copied : (c : RadioCommand) (b old : List ℕ) → b ≡ built c → take (length b) b ++ drop (length b) old ≡ built c ++ drop 8 old
-unfolding built
+pub copied : (c : RadioCommand) (b old : List ℕ) → b ≡ built c → b ++ drop 8 old ≡ built c ++ drop 8 old
 copied c b old e = rw e
 
 -- the name in what a command byte names; the command in what bytes read as

@@ -1,11 +1,11 @@
 -- A page of the padded image: bytes of the image, and 0xFF behind them.
 use mathlib.Core.Path.{◌≡◌, sym, ap, ◌∙◌}
 use mathlib.Core.List.{List, ◌++◌, append-nil}
-use Prim.Native.Nat.{ℕ, zero, suc, ◌+◌, ◌*◌, ◌-◌, ◌≤◌, ◌<◌}
+use Prim.Native.Nat.{ℕ, zero, suc, ◌*◌, ◌-◌, ◌≤◌, ◌<◌}
 use native.Mathlib.Omega.{arith}
 use lib.Dec.{ltb}
-use lib.ListN.{length, take, drop, replicate, length-append, length-take, length-drop, length-replicate}
-use lib.Seq.{take_all, take-length, take-append-le, drop-append-le}
+use lib.ListN.{length, take, drop, replicate, length-append, length-drop, length-replicate}
+use lib.Seq.{take_all, take-append-le, drop-append-le}
 use borrow.Author.Tests.{eq-eqb, ne_eqb, lt-ltb, le-ltb, ltb-true, ltb-false}
 use Rattle.laws.proofs.Tests.{by_test}
 use Rattle.radio_job.specs.Image.{page_count, padded, image_page}
@@ -80,18 +80,15 @@ module _ (im : List ℕ) (p : ℕ) (h : p < page_count im) where
   -- the buffer after it was filled and the image's bytes were copied into it
   pub put_is : (out bytes now : List ℕ) (stop : ℕ) → length out ≡ 256 → bytes ≡ replicate (length out) 0xFF
       → stop ≡ page_stop (p * 256) (length im) → stop ≤ length im
-      → (let src = take (stop - p * 256) (drop (p * 256) im) in now ≡ take (length src) src ++ drop (length src) bytes) → now ≡ image_page_put im p out
+      → now ≡ take (stop - p * 256) (drop (p * 256) im) → now ++ drop (stop - p * 256) bytes ≡ image_page_put im p out
   unfolding image_page_put
   put_is out bytes now stop l b e m q =
       let z : p * 256 ≡ start = omega arith in
       let n = stop - start in
       let src = take n (drop start im) in
       let f : n ≡ page_stop start (length im) - start = ap (λ (x : ℕ). x - start) (e ∙ ap (λ (x : ℕ). page_stop x (length im)) z) in
-      let k : length src ≡ n = let x = length-take n (drop start im) in let y = length-drop start im in omega arith in
       let w : bytes ≡ replicate 256 0xFF = b ∙ ap (λ (x : ℕ). replicate x 0xFF) l in
-      let v : now ≡ src ++ drop n (replicate 256 0xFF) =
-      q
-      ∙ ap (λ (x : ℕ). take (length (take (stop - x) (drop x im))) (take (stop - x) (drop x im)) ++ drop (length (take (stop - x) (drop x im))) bytes) z
-      ∙ ap (λ (x : List ℕ). x ++ drop (length src) bytes) (take-length src)
-      ∙ ap (λ (x : ℕ). src ++ drop x bytes) k ∙ ap (λ (x : List ℕ). src ++ drop n x) w in
+      let v : now ++ drop (stop - p * 256) bytes ≡ src ++ drop n (replicate 256 0xFF) =
+      ap (λ (x : List ℕ). x ++ drop (stop - p * 256) bytes) q
+      ∙ ap (λ (x : ℕ). take (stop - x) (drop x im) ++ drop (stop - x) bytes) z ∙ ap (λ (x : List ℕ). src ++ drop n x) w in
       rw (eq-eqb (length out) 256 l, lt-ltb p (page_count im) h) (v ∙ page_parts n f)

@@ -7,7 +7,7 @@ use native.Mathlib.Numerals.{add-one}
 use native.Mathlib.Omega.{arith}
 use lib.Dec.{ltb}
 use lib.ListN.{length, take, drop, get_or}
-use lib.Seq.{get_or-take, take-length, length-take-le}
+use lib.Seq.{get_or-take}
 use borrow.Author.Tests.{ltb-true, ltb-false, lt-leb, le-leb, eq-eqb, ne_eqb}
 use Rattle.laws.proofs.Tests.{by_test}
 use Rattle.exchange.specs.Exchange.{Said, asks, ends, said}
@@ -143,11 +143,8 @@ pub page_byte : (h : List ℕ) (i : ℕ) → i < 256 → get_or h i 0 ≡ messag
 page_byte h i l = sym (get_or-take 256 h i 0 l)
 
 -- the page of a record copied
-pub copies_page : (h out : List ℕ) → length h ≡ 520
-    → take (length (take 256 h)) (take 256 h) ++ drop (length (take 256 h)) out ≡ take 256 h ++ drop 256 out
-copies_page h out l =
-    let w : length (take 256 h) ≡ 256 = length-take-le 256 h (omega arith) in
-    ap (λ (x : List ℕ). x ++ drop (length (take 256 h)) out) (take-length (take 256 h)) ∙ ap (λ (n : ℕ). take 256 h ++ drop n out) w
+pub copies_page : (h out page : List ℕ) → page ≡ take 256 h → page ++ drop 256 out ≡ take 256 h ++ drop 256 out
+copies_page h out page e = ap (λ (x : List ℕ). x ++ drop 256 out) e
 
 -- Nothing is said without room, with another record, or at no point of the job.
 abbrev NothingSaid : (p : JobPoint) (im h out : List ℕ) (r : RadioAdvanced) → Type 0

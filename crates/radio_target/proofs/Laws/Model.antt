@@ -1,5 +1,5 @@
 -- What a message that is not refused says of point, flash, message and room; and what is then written.
-use mathlib.Core.Path.{◌≡◌, refl}
+use mathlib.Core.Path.{◌≡◌, refl, ap}
 use mathlib.Core.Bool.{Bool, true, false, cond, ◌&&◌}
 use mathlib.Core.List.{List, ◌++◌}
 use Prim.Native.Nat.{ℕ, ◌+◌, ◌-◌, ◌*◌, ◌≤◌, ◌<◌}
@@ -9,7 +9,6 @@ use lib.ListN.{length, take, drop, length-take, length-drop}
 use borrow.Author.Tests.{eqb-true, ltb-false, leb-true}
 use Rattle.laws.proofs.Tests.{passes, both}
 use Rattle.radio_flash.specs.Flash.{flash_bytes, flash_page}
-use Rattle.radio_flash.proofs.Laws.Flash.{take_all}
 use Rattle.radio_command.specs.declared.RadioCommand.{RadioCommand}
 use Rattle.radio_command.specs.Command.{built}
 use Rattle.radio_command.proofs.Laws.Claims.{copied}
@@ -54,18 +53,20 @@ page_long p f w h =
     omega arith
 
 -- a page copied to a buffer's begin; its length told
-pub page_copied : (p : ℕ) (f out : List ℕ) → (let s = take (256 * p + 256 - 256 * p) (drop (256 * p) f) in take (length s) s ++ drop (length s) out) ≡ reply_put (flash_page p f) out
+pub page_copied : (p : ℕ) (f out s : List ℕ) → length f ≡ 33024 → p < 129 → s ≡ take (256 * p + 256 - 256 * p) (drop (256 * p) f)
+    → s ++ drop 256 out ≡ reply_put (flash_page p f) out
 unfolding flash_page
-page_copied p f out =
+page_copied p f out s w h q =
     let e : 256 * p + 256 - 256 * p ≡ 256 = omega arith in
-    let same : length (take 256 (drop (256 * p) f)) ≤ length (take 256 (drop (256 * p) f)) = omega arith in
-    rw e (rw (take_all (length (take 256 (drop (256 * p) f))) (take 256 (drop (256 * p) f)) same))
+    let is : s ≡ take 256 (drop (256 * p) f) = rw e at q in
+    let l : length (take 256 (drop (256 * p) f)) ≡ 256 = page_long p f w h in
+    rw l (ap (λ (z : List ℕ). z ++ drop 256 out) is)
 
 pub page_told : (p : ℕ) (f : List ℕ) (t : RadioTarget) (r : RadioReplied) → length f ≡ 33024 → p < 129 → r ≡ replied_with 0 256 t → r ≡ replied_with 0 (length (flash_page p f)) t
 page_told p f t r w h e = rw (page_long p f w h) e
 
 -- a command copied to a buffer's begin
-pub built_put : (c : RadioCommand) (b out : List ℕ) → b ≡ built c → take (length b) b ++ drop (length b) out ≡ reply_put (built c) out
+pub built_put : (c : RadioCommand) (b out : List ℕ) → b ≡ built c → b ++ drop 8 out ≡ reply_put (built c) out
 unfolding built
 built_put c b out e = copied c b out e
 

@@ -1,6 +1,7 @@
 -- `radio_command::building::build_into` meets its contract: by the tests on the way and what the calls give.
 use Rattle.radio_command.specs.Building.{building_number, buffer_built}
-use Rattle.std.proofs.Common.{◌++◌, drop, ap, sym, ◌∙◌, le-ltb, lt-ltb}
+use Rattle.std.proofs.Common.{sym, ◌∙◌, le-ltb, lt-ltb}
+use Rattle.radio_command.proofs.Laws.Claims.{copied}
 use Rattle.radio_command.proofs.building.build_into.Goals as goal
 
 pub returns-in_default : goal.returns-in_default
@@ -14,4 +15,4 @@ returns-then-out-lt8 c = record { value = rw (sym c.name_of.ensures ∙ c.in-Of.
 
 pub returns : goal.returns
 unfolding building_number buffer_built
-returns c = record { value = rw (sym c.name_of.ensures ∙ c.in-Of.is, le-ltb _ _ c.if-out-lt8.false); out_after = rw (sym c.name_of.ensures ∙ c.in-Of.is, le-ltb _ _ c.if-out-lt8.false) (ap (λ z. z ++ drop 8 c.args.out.now) (c.copy_from_slice.ensures.after ∙ c.build-bytes.ensures)) }
+returns c = record { value = rw (sym c.name_of.ensures ∙ c.in-Of.is, le-ltb _ _ c.if-out-lt8.false); out_after = rw (sym c.name_of.ensures ∙ c.in-Of.is, le-ltb _ _ c.if-out-lt8.false) (copied _ _ c.args.out.now (c.copy_from_slice.ensures.after ∙ c.build-bytes.ensures)) }

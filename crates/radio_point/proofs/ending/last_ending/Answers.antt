@@ -1,0 +1,10 @@
+-- `radio_point::ending::last_ending` meets its contract: each return by the tests on its way and what
+-- the calls give.
+use borrow.Author.Tests.{eq-eqb, ne_eqb}
+use Rattle.radio_point.proofs.ending.last_ending.Goals as goal
+
+pub returns-then-e-eq0 : goal.returns-then-e-eq0
+returns-then-e-eq0 c = rw (← c.answer_ending-e.ensures, eq-eqb _ _ c.if-e-eq0.true) c.ends.ensures
+
+pub returns : goal.returns
+returns c = rw (← c.answer_ending-e.ensures, ne_eqb _ _ c.if-e-eq0.false)
