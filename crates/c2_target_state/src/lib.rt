@@ -1,6 +1,7 @@
 // The modelled target for C: its state is a struct of plain numbers, handed in and back by value. Nothing
 // else is kept between steps.
 #![tactic(auto)]
+
 use c2_target::Target;
 
 mod decode;

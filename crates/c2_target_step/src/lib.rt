@@ -1,6 +1,7 @@
 // The modelled target in code, lent its flash and its delays: one step, a step on the wire in and a reply out;
 // and a session played against it, which hands the target on from step to step.
 #![tactic(auto)]
+
 use c2_session::Point;
 use c2_target::{Command, Output};
 

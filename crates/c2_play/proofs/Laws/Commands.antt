@@ -14,7 +14,7 @@ use lib.Seq.{set_at, get_or_at, append_snoc}
 use Rattle.numbers.specs.Numbers.{bad_status}
 use Rattle.laws.specs.Bytes.{Bytes}
 use Rattle.c2_wire.specs.Exchange.{Outcome, outcome}
-use Rattle.c2_order.specs.Acts.{Act, put, get, status, puts, compares, length_code, coded_length, Block, erase, block_command, block_write, block_read}
+use Rattle.c2_order.specs.Acts.{Act, put, get, status, puts, compares, length_code, coded_length, erase, block_command, block_write, block_read}
 use Rattle.c2_target.specs.declared.Command.{Command}
 use Rattle.c2_target.specs.declared.Command.TheVariants.{Ready, Byte}
 use Rattle.c2_target.specs.declared.Output.{Output}

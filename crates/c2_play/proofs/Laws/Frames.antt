@@ -21,7 +21,7 @@ use Rattle.c2_target.specs.declared.Point.TheVariants.{Start, Wait}
 use Rattle.c2_target.specs.declared.Device.{Device}
 use Rattle.c2_target.specs.declared.Target.{Target}
 use Rattle.c2_target.specs.Delays.{Setup, delay, next_place}
-use Rattle.c2_target.specs.Interface.{Acted, device, shown, given, begun, frame_does}
+use Rattle.c2_target.specs.Interface.{Acted, shown, given, begun, frame_does}
 use Rattle.c2_target.specs.Strobes.{target, line, marked, sending, frame_begins, after_ins, after_write_length, after_read_length, after_address, after_data, value_sent, after_wait, strobed_at}
 use Rattle.c2_target.specs.Target.{stepped}
 use Rattle.c2_play.proofs.Laws.Leads.{Leads}

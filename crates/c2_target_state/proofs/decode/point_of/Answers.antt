@@ -1,0 +1,31 @@
+use borrow.Author.Tests.{eq-eqb, ne_eqb}
+use Rattle.c2_target_state.specs.State.{state_point}
+use Rattle.c2_target_state.proofs.decode.point_of.Goals as goal
+
+pub returns-then-s-eq0 : goal.returns-then-s-eq0
+unfolding state_point
+returns-then-s-eq0 c = rw (eq-eqb _ _ c.if-s-eq0.true)
+
+pub returns-then-s-eq1 : goal.returns-then-s-eq1
+unfolding state_point
+returns-then-s-eq1 c = rw (ne_eqb _ _ c.if-s-eq0.false, eq-eqb _ _ c.if-s-eq1.true, c.wide-then-s-eq1.ensures, c.wide.ensures)
+
+pub returns-then-s-eq2 : goal.returns-then-s-eq2
+unfolding state_point
+returns-then-s-eq2 c = rw (ne_eqb _ _ c.if-s-eq0.false, ne_eqb _ _ c.if-s-eq1.false, eq-eqb _ _ c.if-s-eq2.true, c.wide-then-s-eq2-2.ensures, c.wide-then-s-eq2.ensures)
+
+pub returns-then-s-eq3 : goal.returns-then-s-eq3
+unfolding state_point
+returns-then-s-eq3 c = rw (ne_eqb _ _ c.if-s-eq0.false, ne_eqb _ _ c.if-s-eq1.false, ne_eqb _ _ c.if-s-eq2.false, eq-eqb _ _ c.if-s-eq3.true, c.wide-then-s-eq3-2.ensures, c.wide-then-s-eq3.ensures)
+
+pub returns-then-s-eq4 : goal.returns-then-s-eq4
+unfolding state_point
+returns-then-s-eq4 c = rw (ne_eqb _ _ c.if-s-eq0.false, ne_eqb _ _ c.if-s-eq1.false, ne_eqb _ _ c.if-s-eq2.false, ne_eqb _ _ c.if-s-eq3.false, eq-eqb _ _ c.if-s-eq4.true, c.wide-then-s-eq4-2.ensures, c.wide-then-s-eq4.ensures)
+
+pub returns-then-s-eq5 : goal.returns-then-s-eq5
+unfolding state_point
+returns-then-s-eq5 c = rw (ne_eqb _ _ c.if-s-eq0.false, ne_eqb _ _ c.if-s-eq1.false, ne_eqb _ _ c.if-s-eq2.false, ne_eqb _ _ c.if-s-eq3.false, ne_eqb _ _ c.if-s-eq4.false, eq-eqb _ _ c.if-s-eq5.true, c.wide-then-s-eq5-2.ensures, c.wide-then-s-eq5.ensures)
+
+pub returns : goal.returns
+unfolding state_point
+returns c = rw (ne_eqb _ _ c.if-s-eq0.false, ne_eqb _ _ c.if-s-eq1.false, ne_eqb _ _ c.if-s-eq2.false, ne_eqb _ _ c.if-s-eq3.false, ne_eqb _ _ c.if-s-eq4.false, ne_eqb _ _ c.if-s-eq5.false, c.later_point.ensures)
