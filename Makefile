@@ -72,7 +72,7 @@ flash: target/examples/flash
 # First everything is proved by rt ci; the comparison and the examples then run on libraries and a program that
 # are made anew from what it proved. The count comes last, and only if they pass.
 test:
-	@sh tools/gate.sh $(MAKE) $(MIR) $(INSIDE:%=target/staticlib/lib%.a)
+	@sh tools/gate.sh $(MIR) $(INSIDE:%=target/staticlib/lib%.a)
 	@$(MAKE) --no-print-directory compare numbers statements headers installed examples dist-test
 	@cat target/count
 

@@ -1,4 +1,4 @@
-/* Made from the MIR of crate dump, sha256 61c5db85eb09c62d6e7316489301972a90393f160ad4ec9935bab9c6802f725c. */
+/* Made from the MIR of crate dump, sha256 b4d6a22727be8ecc85906db8a8d9c8c0a2e7b925855f88fa2dbc72432f3313b5. */
 /*
  * Made by `make c`, not to be edited. A function stands under its path in the proved code. Its result is
  * called result, its parameters a1, a2 .. and its other locals v.., by their numbers in the MIR. A statement

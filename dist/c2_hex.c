@@ -1,4 +1,4 @@
-/* Made from the MIR of crate hex, sha256 0847ebc1973e2b6a054ae20d94f91f25c7b57cf394b5563ed824a743b9e5741e. */
+/* Made from the MIR of crate hex_calls, sha256 6985433f9acf2bfffeeaf312061ede5529bec3a06ccc6ceb20de9c7b652de661. */
 /*
  * Made by `make c`, not to be edited. A function stands under its path in the proved code. Its result is
  * called result, its parameters a1, a2 .. and its other locals v.., by their numbers in the MIR. A statement
@@ -487,25 +487,11 @@ static uint64_t hex_line__line__end_bytes(slice_u8 a1)
     return result;
 }
 
-/* std::num::wrapping_add_u8 */
-static uint8_t std__num__wrapping_add_u8(uint8_t a1, uint8_t a2)
+/* core::num::wrapping_add_u8 */
+static uint8_t core__num__wrapping_add_u8(uint8_t a1, uint8_t a2)
 {
     uint8_t result;
-    uint8_t v3;
-    _Bool v4;
-    uint8_t v5;
-    uint8_t v6;
-    uint8_t v7;
-    v3 = (uint8_t)((unsigned)255u - a2);
-    v4 = a1 <= v3;
-    if (v4) {
-        v5 = (uint8_t)((unsigned)a1 + a2);
-    } else {
-        v6 = (uint8_t)((unsigned)255u - a2);
-        v7 = (uint8_t)((unsigned)a1 - v6);
-        v5 = (uint8_t)((unsigned)v7 - 1u);
-    }
-    result = v5;
+    result = (uint8_t)((unsigned)a1 + a2);
     return result;
 }
 
@@ -552,7 +538,7 @@ static uint16_t hex_line__line__weigh(slice_u8 a1)
         }
         v10 = (uint8_t)((unsigned)v4 * 16u);
         v12 = (uint8_t)((unsigned)v10 + v5);
-        v2 = std__num__wrapping_add_u8(v2, v12);
+        v2 = core__num__wrapping_add_u8(v2, v12);
         v3 = v3 + UINT64_C(2);
     }
     result = (uint16_t)v2;
@@ -1293,8 +1279,8 @@ static c2_hex_image hex_read__read__read(const c2_settings *a1, slice_u8 a2, sli
     return result;
 }
 
-/* hex::c2_hex_read */
-static c2_hex_image hex__c2_hex_read(const c2_settings *a1, slice_u8 a2, slice_mut_u8 a3)
+/* hex_calls::c2_hex_read */
+static c2_hex_image hex_calls__c2_hex_read(const c2_settings *a1, slice_u8 a2, slice_mut_u8 a3)
 {
     c2_hex_image result;
     uint8_t *v4;
@@ -1306,10 +1292,9 @@ static c2_hex_image hex__c2_hex_read(const c2_settings *a1, slice_u8 a2, slice_m
     return result;
 }
 
-/* bytes::copy */
-static uint64_t bytes__copy(slice_u8 a1, slice_mut_u8 a2)
+/* core::slice::copy_from_slice */
+static void core__slice__copy_from_slice(slice_mut_u8 a1, slice_u8 a2)
 {
-    uint64_t result;
     uint64_t v3;
     uint64_t v4;
     _Bool v5;
@@ -1318,36 +1303,35 @@ static uint64_t bytes__copy(slice_u8 a1, slice_mut_u8 a2)
     uint8_t *v8;
     v3 = UINT64_C(0);
     for (;;) {
-        v4 = a1.length;
+        v4 = a2.length;
         v5 = v3 < v4;
         if (!v5) {
             break;
         }
-        v6 = a1.at + (size_t)v3;
+        v6 = a2.at + (size_t)v3;
         v7 = *v6;
-        v8 = a2.at + (size_t)v3;
+        v8 = a1.at + (size_t)v3;
         *v8 = v7;
         v3 = v3 + UINT64_C(1);
     }
-    result = a1.length;
-    return result;
+    return;
 }
 
 /* hex_write::line::put_end */
 static void hex_write__line__put_end(slice_mut_u8 a1)
 {
-    static const array_12_u8 v2 = {{58u, 48u, 48u, 48u, 48u, 48u, 48u, 48u, 49u, 70u, 70u, 10u}};
-    const uint8_t *v4;
-    slice_u8 v5;
-    uint8_t *v6;
-    slice_mut_u8 v7;
-    v4 = v2.at;
-    v5.at = v4;
-    v5.length = UINT64_C(12);
-    v6 = a1.at;
+    uint8_t *v3;
+    slice_mut_u8 v4;
+    static const array_12_u8 v5 = {{58u, 48u, 48u, 48u, 48u, 48u, 48u, 48u, 49u, 70u, 70u, 10u}};
+    const uint8_t *v6;
+    slice_u8 v7;
+    v3 = a1.at;
+    v4.at = v3;
+    v4.length = a1.length;
+    v6 = v5.at;
     v7.at = v6;
-    v7.length = a1.length;
-    (void)bytes__copy(v5, v7);
+    v7.length = UINT64_C(12);
+    core__slice__copy_from_slice(v4, v7);
     return;
 }
 
@@ -1424,7 +1408,7 @@ static uint8_t hex_write__line__total(slice_u8 a1)
         }
         v6 = a1.at + (size_t)v3;
         v7 = *v6;
-        v2 = std__num__wrapping_add_u8(v2, v7);
+        v2 = core__num__wrapping_add_u8(v2, v7);
         v3 = v3 + UINT64_C(1);
     }
     result = v2;
@@ -1477,7 +1461,7 @@ static void hex_write__line__put_record(slice_mut_u8 a1, uint8_t a2, uint8_t a3,
     v13 = v11;
     v14.at = v13;
     v14.length = v12;
-    (void)bytes__copy(a4, v14);
+    core__slice__copy_from_slice(v14, a4);
     v15 = a1.at;
     v16.at = v15;
     v16.length = UINT64_C(20);
@@ -1745,8 +1729,8 @@ static c2_written hex_write__write__write(const c2_settings *a1, uint32_t a2, sl
     return result;
 }
 
-/* hex::c2_hex_write */
-static c2_written hex__c2_hex_write(const c2_settings *a1, uint32_t a2, slice_u8 a3, slice_mut_u8 a4)
+/* hex_calls::c2_hex_write */
+static c2_written hex_calls__c2_hex_write(const c2_settings *a1, uint32_t a2, slice_u8 a3, slice_mut_u8 a4)
 {
     c2_written result;
     uint8_t *v5;
@@ -1768,7 +1752,7 @@ c2_hex_image c2_hex_read(c2_settings settings, const uint8_t *file, size_t file_
     slice_mut_u8 image_slice;
     image_slice.at = image_len != 0 ? image : &none8;
     image_slice.length = image_len;
-    return hex__c2_hex_read(&settings, file_slice, image_slice);
+    return hex_calls__c2_hex_read(&settings, file_slice, image_slice);
 }
 
 c2_written c2_hex_write(c2_settings settings, uint32_t first_page, const uint8_t *image, size_t image_len,
@@ -1781,5 +1765,5 @@ c2_written c2_hex_write(c2_settings settings, uint32_t first_page, const uint8_t
     slice_mut_u8 file_slice;
     file_slice.at = file_len != 0 ? file : &none8;
     file_slice.length = file_len;
-    return hex__c2_hex_write(&settings, first_page, image_slice, file_slice);
+    return hex_calls__c2_hex_write(&settings, first_page, image_slice, file_slice);
 }

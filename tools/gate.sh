@@ -1,13 +1,11 @@
 #!/bin/sh
-# gate.sh MAKE NAME..: runs rt ci, with nothing changed before it, and fails where it fails, and where a must-fail edit
+# gate.sh NAME..: runs rt ci, with nothing changed before it, and fails where it fails, and where a must-fail edit
 # is bad, which rt ci only tells. Its last line, the count, goes to target/count and is not shown. What rt ci has proved
-# then stands in crates/*/out: the program is taken from there, and the files NAME.. are made over it by MAKE.
+# then stands in crates/*/out: the program is taken from there, and make makes the files NAME.. over it.
 
-make=$1
-shift
 mkdir -p target
 # A checkout where rt check or rt lib has worked gets its own libraries back from rt ci, and with them what was kept,
-# over which rt lib proves what has changed: MAKE does that. Elsewhere rt ci's own are left, for the files NAME.. alone.
+# over which rt lib proves what has changed: make does that. Elsewhere rt ci's own are left, for the files NAME.. alone.
 earlier=$(ls -d crates/*/out/rlib crates/*/out/incremental 2>/dev/null)
 if [ -z "$earlier" ]; then
     trap 'rm -rf crates/*/out/rlib' EXIT
@@ -32,4 +30,4 @@ rm -rf target/staticlib target/bin target/mir
 mkdir -p target/bin
 cp crates/flash/out/flash target/bin/flash || exit
 test -z "$earlier" || exit 0
-printf '%s\n' "$@" | xargs -n 1 -P 2 "$make" --no-print-directory OVER_CI=1
+printf '%s\n' "$@" | xargs -n 1 -P 2 make --no-print-directory OVER_CI=1
