@@ -1,5 +1,6 @@
 // A session run against a fresh target, over lent buffers.
 #![tactic(auto)]
+
 mod program;
 
 pub use program::c2_program;

@@ -1,4 +1,4 @@
-// A session run whole against a fresh target, by its C name.
+// A session run whole against a fresh target.
 ghost use Rattle.std.specs.Prelude.{◌≡◌, false};
 ghost use Rattle.c2_run.specs.Run.{run_answer, run_flash};
 
@@ -22,9 +22,8 @@ fn refused(number: u32) -> Run
 // Programs a fresh target that wants no pairs, with these settings, flash and delays: opens a session for the
 // image from the first page on, and runs it for at most so many replies. Refused by 1 to 5, 18 and 19 as an
 // opening is, and by 17 for a flash that is not size times count bytes; the flash is then unchanged. The
-// program calls it, and by its C name the benchmark.
-#[unsafe(no_mangle)]
-pub extern "C" fn c2_program(
+// program calls it, and by its C name (c2_run_c) the benchmark.
+pub fn c2_program(
     t: Settings,
     first: u32,
     image: &[u8],

@@ -31,7 +31,6 @@ use Rattle.c2_target.specs.declared.Target.{Target}
 use Rattle.c2_target.specs.Delays.{Setup, setup}
 use Rattle.c2_target.specs.Known.{is_byte, known_point, most_keys, known_command, known_output, known_link, known}
 use Rattle.c2_target.specs.Target.{cleared, fresh, is_step, setup_refusal, step_refusal, answer, flash_after}
-use Rattle.c2_target.specs.Target as target
 use Rattle.c2_play.specs.Playing.{Played, then_played, played, play}
 use Rattle.c2_play.proofs.Laws.OwnReplies.{reply_small, play_on}
 use Rattle.c2_opening.specs.Opened.{opened_session, exchange_at}
