@@ -1,5 +1,6 @@
 // What the program says of an image: a fresh modelled target is programmed with it from page 0.
 #![tactic(auto)]
+
 ghost use Rattle.std.specs.Prelude.{◌≡◌};
 ghost use Rattle.c2_report.specs.Report.{program_device, reported};
 
