@@ -1,6 +1,7 @@
 // The calls in C. The driver's three: a session is opened, takes replies, and tells how much is left; nothing
 // is kept between them but the record. The modelled target's two: its state is handed in and back.
 #![tactic(auto)]
+
 use c2_session::Point;
 
 mod advance;

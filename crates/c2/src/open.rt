@@ -36,7 +36,7 @@ pub extern "C" fn c2_open(held: &mut [u8], image: &[u8], t: Settings, first: u32
         };
     }
     let fresh = c2_record::pack(c2_opening::start(t, first, image.len()));
-    bytes::copy(&fresh, held);
+    held.copy_from_slice(&fresh);
     Opened {
         number: RUNNING,
         step: FIRST_STEP,

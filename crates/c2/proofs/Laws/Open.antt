@@ -1,16 +1,13 @@
 -- What an opening answers and leaves, at each of its returns, as c2_calls says it (`done C2`).
-use mathlib.Core.Path.{◌≡◌, refl, sym, ap, ◌∙◌}
-use mathlib.Core.List.{List, ◌++◌, append-nil}
-use Prim.Native.Nat.{ℕ, ◌≤◌}
-use native.Mathlib.Omega.{arith}
+use mathlib.Core.Path.{◌≡◌, refl, sym, ◌∙◌}
+use mathlib.Core.List.{List}
+use Prim.Native.Nat.{ℕ}
 use borrow.Author.Tests.{eq-eqb, ne_eqb}
-use lib.ListN.{length, take, drop, drop_of_length-le}
-use lib.Seq.{take_all}
+use lib.ListN.{length}
 use Rattle.c2_wire.specs.Step.{code}
 use Rattle.settings.specs.declared.Settings.{Settings}
 use Rattle.settings.specs.Opening.{opening_refusal}
 use Rattle.c2_record.specs.Record.{packed}
-use Rattle.c2_record.proofs.Laws.Claims.{packed_whole}
 use Rattle.exchange.specs.Calls.{call_done}
 use Rattle.c2_calls.specs.declared.Opened.{Opened}
 use Rattle.c2_opening.specs.Opened.{opened_session}
@@ -31,12 +28,7 @@ module _ (t : Settings) (first : ℕ) (image r : List ℕ) where
     unfolding call_done refusal untouched opening_number code
     refuses_opening g = rw (eq-eqb (length r) 32 h, sym e, ne_eqb k 0 g) (refl, refl)
 
-    pub opens : k ≡ 0 → (p r₁ : List ℕ) → p ≡ packed (opened_session t first (length image)) → r₁ ≡ take (length p) p ++ drop (length p) r
+    pub opens : k ≡ 0 → (p r₁ : List ℕ) → p ≡ packed (opened_session t first (length image)) → r₁ ≡ p
         → Opens t first image r (record { number = 0; step = 4 }) r₁
     unfolding call_done refusal does opening_number code
-    opens g p r₁ q f =
-        let short : length r ≤ length p = omega (arith, ap length q ∙ (packed_whole (opened_session t first (length image))).size) in
-        rw (eq-eqb (length r) 32 h, sym e, g) (refl, f ∙ whole p short ∙ q)
-      where
-        whole : (p : List ℕ) → length r ≤ length p → take (length p) p ++ drop (length p) r ≡ p
-        whole p short = rw (take_all (length p) p (omega arith), drop_of_length-le r short, append-nil) refl
+    opens g p r₁ q f = rw (eq-eqb (length r) 32 h, sym e, g) (refl, f ∙ q)

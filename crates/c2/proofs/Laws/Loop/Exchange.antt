@@ -14,8 +14,6 @@ use Rattle.c2_opening.specs.Opened.{exchange_at, session_fed}
 use Rattle.c2_opening.proofs.Laws.Follows.{Lent, advanced_ended, after_ended, lent_advances, still_asks, ended_over}
 use Rattle.c2_outcome.specs.Outcome.{is_running}
 use Rattle.c2.specs.Code.Loop.{ran, wrote}
-use Rattle.c2_wire.specs.Exchange
-use Rattle.c2_order.specs.Point
 
 pub ran_is : (image : List ℕ) (s : Session) (rs : List ℕ) → ran image s rs ≡ session_fed s image rs
 unfolding session_fed
