@@ -1,4 +1,4 @@
-/* Made from the MIR of crate radio, sha256 7eaf95cc7062ef1d430486f512ac97d3a4014e8b1fdca42e6301da423010a6a4. */
+/* Made from the MIR of crate radio, sha256 8e49efb70ea79dc15ce7d89304f3bf8d4331c1b356a92f30ad7f57cda4d199c9. */
 /*
  * Made by `make c`, not to be edited. A function stands under its path in the proved code. Its result is
  * called result, its parameters a1, a2 .. and its other locals v.., by their numbers in the MIR. A statement
@@ -273,25 +273,11 @@ static uint8_t radio_command__command__command_byte(radio_command__CommandName a
     return result;
 }
 
-/* std::num::wrapping_add_u8 */
-static uint8_t std__num__wrapping_add_u8(uint8_t a1, uint8_t a2)
+/* core::num::wrapping_add_u8 */
+static uint8_t core__num__wrapping_add_u8(uint8_t a1, uint8_t a2)
 {
     uint8_t result;
-    uint8_t v3;
-    _Bool v4;
-    uint8_t v5;
-    uint8_t v6;
-    uint8_t v7;
-    v3 = (uint8_t)((unsigned)255u - a2);
-    v4 = a1 <= v3;
-    if (v4) {
-        v5 = (uint8_t)((unsigned)a1 + a2);
-    } else {
-        v6 = (uint8_t)((unsigned)255u - a2);
-        v7 = (uint8_t)((unsigned)a1 - v6);
-        v5 = (uint8_t)((unsigned)v7 - 1u);
-    }
-    result = v5;
+    result = (uint8_t)((unsigned)a1 + a2);
     return result;
 }
 
@@ -302,10 +288,10 @@ static uint8_t radio_command__command__command_sum(uint8_t a1, uint8_t a2, uint8
     uint8_t v6;
     uint8_t v7;
     uint8_t v8;
-    v6 = std__num__wrapping_add_u8(a1, a2);
-    v7 = std__num__wrapping_add_u8(v6, a3);
-    v8 = std__num__wrapping_add_u8(v7, a4);
-    result = std__num__wrapping_add_u8(v8, a5);
+    v6 = core__num__wrapping_add_u8(a1, a2);
+    v7 = core__num__wrapping_add_u8(v6, a3);
+    v8 = core__num__wrapping_add_u8(v7, a4);
+    result = core__num__wrapping_add_u8(v8, a5);
     return result;
 }
 
@@ -468,10 +454,9 @@ static radio_command radio__command__radio_read(slice_u8 a1)
     return result;
 }
 
-/* bytes::copy */
-static uint64_t bytes__copy(slice_u8 a1, slice_mut_u8 a2)
+/* core::slice::copy_from_slice */
+static void core__slice__copy_from_slice(slice_mut_u8 a1, slice_u8 a2)
 {
-    uint64_t result;
     uint64_t v3;
     uint64_t v4;
     _Bool v5;
@@ -480,19 +465,18 @@ static uint64_t bytes__copy(slice_u8 a1, slice_mut_u8 a2)
     uint8_t *v8;
     v3 = UINT64_C(0);
     for (;;) {
-        v4 = a1.length;
+        v4 = a2.length;
         v5 = v3 < v4;
         if (!v5) {
             break;
         }
-        v6 = a1.at + (size_t)v3;
+        v6 = a2.at + (size_t)v3;
         v7 = *v6;
-        v8 = a2.at + (size_t)v3;
+        v8 = a1.at + (size_t)v3;
         *v8 = v7;
         v3 = v3 + UINT64_C(1);
     }
-    result = a1.length;
-    return result;
+    return;
 }
 
 /* radio_command::command::build */
@@ -523,43 +507,43 @@ static uint32_t radio_command__building__build_into(uint8_t a1, uint8_t a2, uint
     uint32_t result;
     radio_command__CommandName v6;
     array_8_u8 v7;
-    radio_command__NameFound v9;
-    uint64_t v10;
-    _Bool v11;
-    array_8_u8 v12;
-    radio_command__RadioCommand v13;
-    const uint8_t *v14;
-    slice_u8 v15;
-    uint8_t *v16;
-    slice_mut_u8 v17;
-    v9 = radio_command__command__name_of(a1);
-    switch (v9.tag) {
+    radio_command__NameFound v8;
+    uint64_t v9;
+    _Bool v10;
+    array_8_u8 v11;
+    radio_command__RadioCommand v12;
+    uint8_t *v14;
+    slice_mut_u8 v15;
+    const uint8_t *v16;
+    slice_u8 v17;
+    v8 = radio_command__command__name_of(a1);
+    switch (v8.tag) {
     case 0u:
-        v6 = v9.radio_command__CommandName_0;
+        v6 = v8.radio_command__CommandName_0;
         break;
     default: /* 1 */
         result = UINT32_C(28);
         return result;
     }
-    v10 = a5.length;
-    v11 = v10 < UINT64_C(8);
-    if (v11) {
+    v9 = a5.length;
+    v10 = v9 < UINT64_C(8);
+    if (v10) {
         result = UINT32_C(26);
         return result;
     }
-    v13.f0 = v6;
-    v13.f1 = a2;
-    v13.f2 = a3;
-    v13.f3 = a4;
-    v12 = radio_command__command__build(&v13);
-    v7 = v12;
-    v14 = v7.at;
+    v12.f0 = v6;
+    v12.f1 = a2;
+    v12.f2 = a3;
+    v12.f3 = a4;
+    v11 = radio_command__command__build(&v12);
+    v7 = v11;
+    v14 = a5.at;
     v15.at = v14;
     v15.length = UINT64_C(8);
-    v16 = a5.at;
+    v16 = v7.at;
     v17.at = v16;
-    v17.length = a5.length;
-    (void)bytes__copy(v15, v17);
+    v17.length = UINT64_C(8);
+    core__slice__copy_from_slice(v15, v17);
     result = UINT32_C(0);
     return result;
 }
@@ -724,24 +708,24 @@ static array_8_u8 radio_record__write__point_bytes(uint64_t a1, const radio_job_
 static void radio_advance__keep__keep_point(uint64_t a1, const radio_job__JobPoint *a2, slice_mut_u8 a3)
 {
     array_8_u8 v4;
-    array_8_u8 v6;
-    const uint8_t *v7;
-    slice_u8 v8;
+    array_8_u8 v5;
+    uint8_t *v7;
+    uint64_t v8;
     uint8_t *v9;
-    uint64_t v10;
-    uint8_t *v11;
-    slice_mut_u8 v12;
-    v6 = radio_record__write__point_bytes(a1, a2);
-    v4 = v6;
-    v7 = v4.at;
-    v8.at = v7;
-    v8.length = UINT64_C(8);
-    v9 = a3.at + (size_t)UINT64_C(512);
-    v10 = a3.length - UINT64_C(512);
-    v11 = v9;
+    slice_mut_u8 v10;
+    const uint8_t *v11;
+    slice_u8 v12;
+    v5 = radio_record__write__point_bytes(a1, a2);
+    v4 = v5;
+    v7 = a3.at + (size_t)UINT64_C(512);
+    v8 = a3.length - UINT64_C(512);
+    v9 = v7;
+    v10.at = v9;
+    v10.length = v8;
+    v11 = v4.at;
     v12.at = v11;
-    v12.length = v10;
-    (void)bytes__copy(v8, v12);
+    v12.length = UINT64_C(8);
+    core__slice__copy_from_slice(v10, v12);
     return;
 }
 
@@ -1034,25 +1018,25 @@ static radio_advanced radio_say__message__command(radio_command__CommandName a1,
 {
     radio_advanced result;
     array_8_u8 v6;
-    array_8_u8 v8;
-    radio_command__RadioCommand v9;
-    const uint8_t *v10;
-    slice_u8 v11;
-    uint8_t *v12;
-    slice_mut_u8 v13;
-    v9.f0 = a1;
-    v9.f1 = a2;
-    v9.f2 = a3;
-    v9.f3 = a4;
-    v8 = radio_command__command__build(&v9);
-    v6 = v8;
-    v10 = v6.at;
+    array_8_u8 v7;
+    radio_command__RadioCommand v8;
+    uint8_t *v10;
+    slice_mut_u8 v11;
+    const uint8_t *v12;
+    slice_u8 v13;
+    v8.f0 = a1;
+    v8.f1 = a2;
+    v8.f2 = a3;
+    v8.f3 = a4;
+    v7 = radio_command__command__build(&v8);
+    v6 = v7;
+    v10 = a5.at;
     v11.at = v10;
     v11.length = UINT64_C(8);
-    v12 = a5.at;
+    v12 = v6.at;
     v13.at = v12;
-    v13.length = a5.length;
-    (void)bytes__copy(v11, v13);
+    v13.length = UINT64_C(8);
+    core__slice__copy_from_slice(v11, v13);
     result = radio_say__message__says(UINT32_C(8), UINT32_C(8));
     return result;
 }
@@ -1061,17 +1045,17 @@ static radio_advanced radio_say__message__command(radio_command__CommandName a1,
 static radio_advanced radio_say__message__configuration(slice_u8 a1, slice_mut_u8 a2)
 {
     radio_advanced result;
-    const uint8_t *v4;
-    slice_u8 v5;
-    uint8_t *v6;
-    slice_mut_u8 v7;
-    v4 = a1.at;
+    uint8_t *v4;
+    slice_mut_u8 v5;
+    const uint8_t *v6;
+    slice_u8 v7;
+    v4 = a2.at;
     v5.at = v4;
     v5.length = UINT64_C(256);
-    v6 = a2.at;
+    v6 = a1.at;
     v7.at = v6;
-    v7.length = a2.length;
-    (void)bytes__copy(v5, v7);
+    v7.length = UINT64_C(256);
+    core__slice__copy_from_slice(v5, v7);
     result = radio_say__message__says(UINT32_C(256), UINT32_C(8));
     return result;
 }
@@ -1130,43 +1114,44 @@ static void radio_image__put_page(slice_u8 a1, uint64_t a2, slice_mut_u8 a3)
 {
     uint64_t v4;
     uint64_t v5;
-    uint64_t v7;
-    _Bool v8;
-    uint64_t v9;
-    uint8_t *v11;
-    slice_mut_u8 v12;
-    const uint8_t *v13;
+    uint64_t v6;
+    _Bool v7;
+    uint64_t v8;
+    uint8_t *v10;
+    slice_mut_u8 v11;
+    uint8_t *v12;
+    slice_mut_u8 v13;
     const uint8_t *v14;
-    slice_u8 v15;
-    uint8_t *v16;
-    slice_mut_u8 v17;
-    v7 = a3.length;
-    v8 = v7 != UINT64_C(256);
-    if (v8) {
+    const uint8_t *v15;
+    slice_u8 v16;
+    v6 = a3.length;
+    v7 = v6 != UINT64_C(256);
+    if (v7) {
         return;
     }
-    v9 = a1.length;
-    v7 = radio_image__pages_for(v9);
-    v8 = v7 <= a2;
-    if (v8) {
+    v8 = a1.length;
+    v6 = radio_image__pages_for(v8);
+    v7 = v6 <= a2;
+    if (v7) {
         return;
     }
     v4 = a2 * UINT64_C(256);
-    v7 = a1.length;
-    v5 = radio_image__page_end(v4, v7);
-    v11 = a3.at;
-    v12.at = v11;
-    v12.length = a3.length;
-    radio_image__blank(v12);
-    v13 = a1.at + (size_t)v4;
-    v9 = v5 - v4;
-    v14 = v13;
-    v15.at = v14;
-    v15.length = v9;
-    v16 = a3.at;
-    v17.at = v16;
-    v17.length = a3.length;
-    (void)bytes__copy(v15, v17);
+    v6 = a1.length;
+    v5 = radio_image__page_end(v4, v6);
+    v10 = a3.at;
+    v11.at = v10;
+    v11.length = a3.length;
+    radio_image__blank(v11);
+    v8 = v5 - v4;
+    v12 = a3.at;
+    v13.at = v12;
+    v13.length = v8;
+    v14 = a1.at + (size_t)v4;
+    v6 = v5 - v4;
+    v15 = v14;
+    v16.at = v15;
+    v16.length = v6;
+    core__slice__copy_from_slice(v13, v16);
     return;
 }
 
@@ -1364,77 +1349,77 @@ static radio_opened radio_advance__open__open_job(slice_mut_u8 a1, slice_u8 a2, 
 {
     radio_opened result;
     uint32_t v6;
-    radio_advanced v9;
-    uint64_t v10;
-    uint64_t v11;
-    _Bool v12;
-    uint8_t *v13;
-    slice_mut_u8 v14;
+    radio_advanced v7;
+    uint64_t v8;
+    uint64_t v9;
+    _Bool v10;
+    uint8_t *v12;
+    slice_mut_u8 v13;
+    uint8_t *v14;
     uint8_t *v15;
-    uint8_t *v16;
-    slice_mut_u8 v17;
-    radio_job__JobPoint v19;
-    uint8_t *v20;
-    slice_mut_u8 v21;
-    const uint8_t *v22;
-    slice_u8 v23;
-    uint8_t *v24;
-    slice_mut_u8 v25;
-    v10 = a4.length;
-    v11 = a2.length;
-    v6 = radio_image__input_refusal(a3, v10, v11);
-    v12 = v6 != UINT32_C(0);
-    if (v12) {
+    slice_mut_u8 v16;
+    radio_job__JobPoint v17;
+    uint8_t *v18;
+    slice_mut_u8 v19;
+    const uint8_t *v20;
+    slice_u8 v21;
+    uint8_t *v22;
+    slice_mut_u8 v23;
+    v8 = a4.length;
+    v9 = a2.length;
+    v6 = radio_image__input_refusal(a3, v8, v9);
+    v10 = v6 != UINT32_C(0);
+    if (v10) {
         result = radio_advance__open__refused(v6);
         return result;
     }
-    v10 = a1.length;
-    v12 = v10 != UINT64_C(520);
-    if (v12) {
+    v8 = a1.length;
+    v10 = v8 != UINT64_C(520);
+    if (v10) {
         result = radio_advance__open__refused(UINT32_C(6));
         return result;
     }
-    v11 = a5.length;
-    v12 = v11 < UINT64_C(256);
-    if (v12) {
+    v9 = a5.length;
+    v10 = v9 < UINT64_C(256);
+    if (v10) {
         result = radio_advance__open__refused(UINT32_C(26));
         return result;
     }
-    v13 = a1.at;
-    v14.at = v13;
-    v14.length = a1.length;
-    (void)bytes__copy(a4, v14);
-    v15 = a1.at + (size_t)UINT64_C(256);
-    v10 = UINT64_C(512) - UINT64_C(256);
-    v16 = v15;
-    v17.at = v16;
-    v17.length = v10;
-    (void)bytes__copy(a3, v17);
-    v11 = a2.length;
-    v19.tag = 0u;
-    v19.u64_0 = 0;
-    v19.radio_job__Ending_0.f0 = 0;
-    v19.radio_job__Ending_0.f1 = 0;
-    v19.radio_job__Ending_0.f2 = 0;
+    v12 = a1.at;
+    v13.at = v12;
+    v13.length = UINT64_C(256);
+    core__slice__copy_from_slice(v13, a4);
+    v14 = a1.at + (size_t)UINT64_C(256);
+    v8 = UINT64_C(512) - UINT64_C(256);
+    v15 = v14;
+    v16.at = v15;
+    v16.length = v8;
+    core__slice__copy_from_slice(v16, a3);
+    v9 = a2.length;
+    v17.tag = 0u;
+    v17.u64_0 = 0;
+    v17.radio_job__Ending_0.f0 = 0;
+    v17.radio_job__Ending_0.f1 = 0;
+    v17.radio_job__Ending_0.f2 = 0;
+    v18 = a1.at;
+    v19.at = v18;
+    v19.length = a1.length;
+    radio_advance__keep__keep_point(v9, &v17, v19);
+    v17.tag = 0u;
+    v17.u64_0 = 0;
+    v17.radio_job__Ending_0.f0 = 0;
+    v17.radio_job__Ending_0.f1 = 0;
+    v17.radio_job__Ending_0.f2 = 0;
     v20 = a1.at;
     v21.at = v20;
     v21.length = a1.length;
-    radio_advance__keep__keep_point(v11, &v19, v21);
-    v19.tag = 0u;
-    v19.u64_0 = 0;
-    v19.radio_job__Ending_0.f0 = 0;
-    v19.radio_job__Ending_0.f1 = 0;
-    v19.radio_job__Ending_0.f2 = 0;
-    v22 = a1.at;
+    v22 = a5.at;
     v23.at = v22;
-    v23.length = a1.length;
-    v24 = a5.at;
-    v25.at = v24;
-    v25.length = a5.length;
-    v9 = radio_say__point__say(&v19, a2, v23, v25);
+    v23.length = a5.length;
+    v7 = radio_say__point__say(&v17, a2, v21, v23);
     result.number = UINT32_C(0);
-    result.send = v9.send;
-    result.expect = v9.expect;
+    result.send = v7.send;
+    result.expect = v7.expect;
     return result;
 }
 
@@ -3031,25 +3016,25 @@ static radio_replied radio_target_step__messages__sends(uint32_t a1, uint32_t a2
     radio_replied result;
     uint64_t v5;
     uint64_t v6;
-    uint64_t v8;
-    const uint8_t *v9;
-    const uint8_t *v10;
-    slice_u8 v11;
-    uint8_t *v12;
-    slice_mut_u8 v13;
+    uint64_t v7;
+    uint8_t *v9;
+    slice_mut_u8 v10;
+    const uint8_t *v11;
+    const uint8_t *v12;
+    slice_u8 v13;
     radio_target__ModulePoint v14;
-    v8 = (uint64_t)a1;
-    v5 = UINT64_C(256) * v8;
+    v7 = (uint64_t)a1;
+    v5 = UINT64_C(256) * v7;
     v6 = v5 + UINT64_C(256);
-    v9 = a3.at + (size_t)v5;
-    v8 = v6 - v5;
-    v10 = v9;
-    v11.at = v10;
-    v11.length = v8;
-    v12 = a4.at;
+    v9 = a4.at;
+    v10.at = v9;
+    v10.length = UINT64_C(256);
+    v11 = a3.at + (size_t)v5;
+    v7 = v6 - v5;
+    v12 = v11;
     v13.at = v12;
-    v13.length = a4.length;
-    (void)bytes__copy(v11, v13);
+    v13.length = v7;
+    core__slice__copy_from_slice(v10, v13);
     v14 = radio_target_step__messages__after_page(a1, a2);
     result = radio_target_step__messages__taken(UINT32_C(256), &v14);
     return result;
@@ -3067,7 +3052,7 @@ static void radio_flash__pages__put_part(uint64_t a1, uint64_t a2, slice_u8 a3, 
     v8 = v6;
     v9.at = v8;
     v9.length = v7;
-    (void)bytes__copy(a3, v9);
+    core__slice__copy_from_slice(v9, a3);
     return;
 }
 
@@ -3143,27 +3128,27 @@ static void radio_flash__pages__put_page(uint64_t a1, slice_u8 a2, slice_mut_u8 
 static void radio_target_step__messages__acknowledge(slice_mut_u8 a1)
 {
     array_8_u8 v2;
-    array_8_u8 v4;
-    radio_command__CommandName v5;
-    radio_command__RadioCommand v6;
-    const uint8_t *v7;
-    slice_u8 v8;
-    uint8_t *v9;
-    slice_mut_u8 v10;
-    v5 = 8u;
-    v6.f0 = v5;
-    v6.f1 = 0u;
-    v6.f2 = 0u;
-    v6.f3 = 0u;
-    v4 = radio_command__command__build(&v6);
-    v2 = v4;
-    v7 = v2.at;
+    array_8_u8 v3;
+    radio_command__CommandName v4;
+    radio_command__RadioCommand v5;
+    uint8_t *v7;
+    slice_mut_u8 v8;
+    const uint8_t *v9;
+    slice_u8 v10;
+    v4 = 8u;
+    v5.f0 = v4;
+    v5.f1 = 0u;
+    v5.f2 = 0u;
+    v5.f3 = 0u;
+    v3 = radio_command__command__build(&v5);
+    v2 = v3;
+    v7 = a1.at;
     v8.at = v7;
     v8.length = UINT64_C(8);
-    v9 = a1.at;
+    v9 = v2.at;
     v10.at = v9;
-    v10.length = a1.length;
-    (void)bytes__copy(v8, v10);
+    v10.length = UINT64_C(8);
+    core__slice__copy_from_slice(v8, v10);
     return;
 }
 
@@ -3946,44 +3931,44 @@ static radio_replied radio_target_step__messages__waits(slice_u8 a1, slice_mut_u
     radio_flash__FlashChange v5;
     radio_command__RadioCommand v6;
     array_8_u8 v7;
-    radio_target__ModulePoint v9;
-    const uint8_t *v10;
-    slice_u8 v11;
-    uint8_t *v13;
-    slice_mut_u8 v14;
-    array_8_u8 v15;
-    const uint8_t *v16;
-    slice_u8 v17;
-    uint8_t *v18;
-    slice_mut_u8 v19;
-    v10 = a2.at;
-    v11.at = v10;
-    v11.length = a2.length;
-    v4 = radio_deeds__commands__commanded(a1, v11);
+    radio_target__ModulePoint v8;
+    const uint8_t *v9;
+    slice_u8 v10;
+    uint8_t *v12;
+    slice_mut_u8 v13;
+    array_8_u8 v14;
+    uint8_t *v15;
+    slice_mut_u8 v16;
+    const uint8_t *v17;
+    slice_u8 v18;
+    v9 = a2.at;
+    v10.at = v9;
+    v10.length = a2.length;
+    v4 = radio_deeds__commands__commanded(a1, v10);
     v5.tag = v4.f1.tag;
     v5.u64_0 = v4.f1.u64_0;
     v5.u8_0 = v4.f1.u8_0;
-    v13 = a2.at;
-    v14.at = v13;
-    v14.length = a2.length;
-    radio_flash__changes__change(&v5, v14);
+    v12 = a2.at;
+    v13.at = v12;
+    v13.length = a2.length;
+    radio_flash__changes__change(&v5, v13);
     v6.f0 = v4.f0.f0;
     v6.f1 = v4.f0.f1;
     v6.f2 = v4.f0.f2;
     v6.f3 = v4.f0.f3;
-    v15 = radio_command__command__build(&v6);
-    v7 = v15;
-    v16 = v7.at;
-    v17.at = v16;
-    v17.length = UINT64_C(8);
-    v18 = a3.at;
-    v19.at = v18;
-    v19.length = a3.length;
-    (void)bytes__copy(v17, v19);
-    v9.tag = v4.f2.tag;
-    v9.u32_0 = v4.f2.u32_0;
-    v9.u32_1 = v4.f2.u32_1;
-    result = radio_target_step__messages__taken(UINT32_C(8), &v9);
+    v14 = radio_command__command__build(&v6);
+    v7 = v14;
+    v15 = a3.at;
+    v16.at = v15;
+    v16.length = UINT64_C(8);
+    v17 = v7.at;
+    v18.at = v17;
+    v18.length = UINT64_C(8);
+    core__slice__copy_from_slice(v16, v18);
+    v8.tag = v4.f2.tag;
+    v8.u32_0 = v4.f2.u32_0;
+    v8.u32_1 = v4.f2.u32_1;
+    result = radio_target_step__messages__taken(UINT32_C(8), &v8);
     return result;
 }
 
