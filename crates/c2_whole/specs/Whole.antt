@@ -129,7 +129,7 @@ pub record WhenCut (j : Job) (b : Bench) (x : Told) (rs : List ℕ) (n : ℕ) : 
 -- What is claimed of a list of calls: each refused one changes no byte that it is lent and takes no reply;
 -- what the calls tell is what the replies in a row come to; the most steps to come and the replies taken are
 -- together at most what the opening told; and where the replies are the target's own, `Against` holds if the
--- settings' pairs leave the wanted values, `Turned-away` if not, and `When-cut` after any number of steps.
+-- settings' pairs leave the wanted values, `TurnedAway` if not, and `WhenCut` after any number of steps.
 pub record Whole (j : Job) (start x : Told) (calls : List Call) : Type 0 where
   pub refused : RefusedKeeps
   pub told_is : x ≡ by_replies j.settings (first_of j.pages) j.image (in_a_row C2 calls)

@@ -58,7 +58,7 @@ KeepsAll (job_takes r im q out) n y =
 -- is lent; what the calls tell is what the replies of the accepted ones in a row come to; the record is that
 -- of a state of the job, with the image's length and the mask of the opening, which leaves to say what those
 -- replies leave of the job. C2: with 3 n + 7 replies, whatever they are, the job has ended. C3 and C4:
--- `Radio-against`.
+-- `RadioAgainst`.
 pub record RadioWhole (g : JobInput) (x : RadioTold) (calls : List RadioCall) : Type 0 where
   pub refused : (c : RadioCall) → (job_refusal c ≡ 0 → ⊥) → KeepsAll c (job_refusal c) (call_done Radio c)
   pub told_is : x ≡ by_job g (in_a_row Radio calls)
