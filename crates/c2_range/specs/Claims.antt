@@ -58,6 +58,6 @@ pub record WithinRanges (s : Session) : Type 0 where
       → ((pair_at s.settings.pairs i).register ≡ 0) × ((pair_at s.settings.pairs i).value ≡ 0)
   pub point : PointStands (limits_of s.settings) s.settings.size s.settings.pairs.count s.pages s.point
 
--- `in_range` means exactly `Within-ranges`.
+-- `in_range` means exactly `WithinRanges`.
 abbrev pub RangesAre : Type 0
 RangesAre = (s : Session) → in_range s ≡ true ↔ WithinRanges s

@@ -79,7 +79,7 @@ opening_passes t first pages e =
       flash = leb-true (t.size * t.count) 65536 m.1;
       wait = leb-true 1 t.wait w.0;
       pairs = q.0;
-      registers = q.1;
+      registers = λ i h. (omega (arith, (q.1 i h).0), (q.1 i h).1);
       image = some_pages pages (leb-true 1 (t.size * pages) j.0);
       inside = omega (arith, leb-true (first + t.size * pages / t.size) t.count p.0, mul-div_right pages {m = t.size} (some_size t.size size));
     }
@@ -99,7 +99,7 @@ opening_would_pass t first pages o =
       le-leb 1 t.count o.count,
       le-leb (t.size * t.count) 65536 o.flash,
       le-leb 1 t.wait o.wait,
-      (pairs_exactly t.fpdat t.pairs).1 (o.pairs, o.registers),
+      (pairs_exactly t.fpdat t.pairs).1 (o.pairs, λ i h. (omega (arith, (o.registers i h).0), (o.registers i h).1)),
       le-leb 1 (t.size * pages) b,
       mul-mod_right t.size pages,
       mul-div_right pages {m = t.size} z,
@@ -195,14 +195,14 @@ within_ranges s e =
     let a = both (eqb n 0) (is_tidy s.settings.pairs) p.0 in
     record {
       opening = opening_passes s.settings s.first s.pages (eqb-true n 0 a.0);
-      unnamed = (tidy_exactly s.settings.pairs).0 a.1;
+      unnamed = λ i h l. (tidy_exactly s.settings.pairs).0 a.1 i h (omega (arith, l));
       point = point_stands (limits_of s.settings) s.settings.size s.settings.pairs.count s.pages s.point p.1;
     }
 
 pub ranges_within : (s : Session) → WithinRanges s → in_range s ≡ true
 unfolding in_range
 ranges_within s x =
-    rw (opening_would_pass s.settings s.first s.pages x.opening, (tidy_exactly s.settings.pairs).1 x.unnamed)
+    rw (opening_would_pass s.settings s.first s.pages x.opening, (tidy_exactly s.settings.pairs).1 (λ i h l. x.unnamed i h (omega (arith, l))))
     (standing_point (limits_of s.settings) s.settings.size s.settings.pairs.count s.pages s.point x.point)
 
 pub ranges_are : RangesAre
