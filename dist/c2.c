@@ -1,4 +1,4 @@
-/* Made from the MIR of crate c2, sha256 04972e85738fbda0bc031b4c6900e685c060af46f4540fc773290e2129e4c403. */
+/* Made from the MIR of crate c2, sha256 e1d64dae61c48c3fdb056eb85e47611a01741ac5def785b36a3918b774dff279. */
 /*
  * Made by `make c`, not to be edited. A function stands under its path in the proved code. Its result is
  * called result, its parameters a1, a2 .. and its other locals v.., by their numbers in the MIR. A statement
@@ -8,16 +8,6 @@
 #include <stddef.h>
 #include <stdint.h>
 #include "c2.h"
-
-typedef struct {
-    const uint8_t *at;
-    uint64_t length;
-} slice_u8;
-
-typedef struct {
-    uint8_t *at;
-    uint64_t length;
-} slice_mut_u8;
 
 typedef struct {
     uint8_t at[4];
@@ -58,6 +48,16 @@ typedef struct {
 typedef struct {
     uint8_t at[32];
 } array_32_u8;
+
+typedef struct {
+    uint8_t *at;
+    uint64_t length;
+} slice_mut_u8;
+
+typedef struct {
+    const uint8_t *at;
+    uint64_t length;
+} slice_u8;
 
 typedef struct {
     uint32_t f0;
@@ -119,33 +119,6 @@ typedef struct {
     uint8_t tag;
     c2_session__Point c2_session__Point_0;
 } c2_record__Reached;
-
-/* bytes::copy */
-static uint64_t bytes__copy(slice_u8 a1, slice_mut_u8 a2)
-{
-    uint64_t result;
-    uint64_t v3;
-    uint64_t v4;
-    _Bool v5;
-    const uint8_t *v6;
-    uint8_t v7;
-    uint8_t *v8;
-    v3 = UINT64_C(0);
-    for (;;) {
-        v4 = a1.length;
-        v5 = v3 < v4;
-        if (!v5) {
-            break;
-        }
-        v6 = a1.at + (size_t)v3;
-        v7 = *v6;
-        v8 = a2.at + (size_t)v3;
-        *v8 = v7;
-        v3 = v3 + UINT64_C(1);
-    }
-    result = a1.length;
-    return result;
-}
 
 /* c2_opening::pages_in */
 static uint16_t c2_opening__pages_in(uint64_t a1, uint32_t a2)
@@ -704,6 +677,31 @@ static array_32_u8 c2_record__write__pack(const c2_session__Session *a1)
     return result;
 }
 
+/* core::slice::copy_from_slice */
+static void core__slice__copy_from_slice(slice_mut_u8 a1, slice_u8 a2)
+{
+    uint64_t v3;
+    uint64_t v4;
+    _Bool v5;
+    const uint8_t *v6;
+    uint8_t v7;
+    uint8_t *v8;
+    v3 = UINT64_C(0);
+    for (;;) {
+        v4 = a2.length;
+        v5 = v3 < v4;
+        if (!v5) {
+            break;
+        }
+        v6 = a2.at + (size_t)v3;
+        v7 = *v6;
+        v8 = a1.at + (size_t)v3;
+        *v8 = v7;
+        v3 = v3 + UINT64_C(1);
+    }
+    return;
+}
+
 /* settings::registers::may_be_named */
 static _Bool settings__registers__may_be_named(_Bool a1, uint8_t a2, uint8_t a3)
 {
@@ -952,10 +950,10 @@ static c2_opened c2__open__c2_open(slice_mut_u8 a1, slice_u8 a2, const c2_settin
     _Bool v8;
     array_32_u8 v9;
     c2_session__Session v10;
-    const uint8_t *v11;
-    slice_u8 v12;
-    uint8_t *v13;
-    slice_mut_u8 v14;
+    uint8_t *v12;
+    slice_mut_u8 v13;
+    const uint8_t *v14;
+    slice_u8 v15;
     v7 = a1.length;
     v8 = v7 != UINT64_C(32);
     if (v8) {
@@ -975,13 +973,13 @@ static c2_opened c2__open__c2_open(slice_mut_u8 a1, slice_u8 a2, const c2_settin
     v10 = c2_opening__start(a3, a4, v7);
     v9 = c2_record__write__pack(&v10);
     v6 = v9;
-    v11 = v6.at;
-    v12.at = v11;
-    v12.length = UINT64_C(32);
-    v13 = a1.at;
-    v14.at = v13;
-    v14.length = a1.length;
-    v7 = bytes__copy(v12, v14);
+    v12 = a1.at;
+    v13.at = v12;
+    v13.length = a1.length;
+    v14 = v6.at;
+    v15.at = v14;
+    v15.length = UINT64_C(32);
+    core__slice__copy_from_slice(v13, v15);
     result.number = UINT32_C(0);
     result.step = UINT32_C(4);
     return result;

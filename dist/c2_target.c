@@ -1,4 +1,4 @@
-/* Made from the MIR of crate c2, sha256 04972e85738fbda0bc031b4c6900e685c060af46f4540fc773290e2129e4c403. */
+/* Made from the MIR of crate c2, sha256 e1d64dae61c48c3fdb056eb85e47611a01741ac5def785b36a3918b774dff279. */
 /*
  * Made by `make c`, not to be edited. A function stands under its path in the proved code. Its result is
  * called result, its parameters a1, a2 .. and its other locals v.., by their numbers in the MIR. A statement
