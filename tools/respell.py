@@ -160,7 +160,7 @@ def main():
             if not dry:
                 with open(p, "w", encoding="utf-8") as f:
                     f.write(new)
-    for p in ["README.md"] + glob.glob("docs/*.md"):
+    for p in ["README.md"] + glob.glob("docs/**/*.md", recursive=True):
         if os.path.basename(p).startswith("PORT."):
             continue
         old = text(p)
