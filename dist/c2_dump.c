@@ -1,13 +1,17 @@
-/* Made from the MIR of crate dump, sha256 b4d6a22727be8ecc85906db8a8d9c8c0a2e7b925855f88fa2dbc72432f3313b5. */
+/* Made from the MIR of crate dump, sha256 ebfc02b4266ecb679a46970cf153d9be78635c5140e24dcbef32a4d595e67603. */
 /*
- * Made by `make c`, not to be edited. A function stands under its path in the proved code. Its result is
- * called result, its parameters a1, a2 .. and its other locals v.., by their numbers in the MIR. A statement
- * of the MIR is one statement here, but structs and arrays are assigned member by member. An enum is its tag
- * and the members that its variants share. A length is 64 bits wide, as in the proof, whatever size_t is.
+ * Made by `make c`, not to be edited. A function stands under its path in the proved code; one that is generic
+ * there, as those of the library are, stands once for each of what it is given, under the end of its path and
+ * its types. Its result is called result, its parameters a1, a2 .. and its other locals v.., by their numbers
+ * in the MIR, and copies that a call wants c1, c2 .. A statement of the MIR is one statement here, but structs
+ * and arrays are assigned member by member. An enum is its tag and the members that its variants share; of
+ * what has no bits there is nothing. A length is 64 bits wide, as in the proof, whatever size_t is.
  */
 #include <stddef.h>
 #include <stdint.h>
 #include "c2_dump.h"
+
+typedef uint8_t numbers__Refusal;
 
 typedef struct {
     const uint8_t *at;
@@ -15,288 +19,560 @@ typedef struct {
 } slice_u8;
 
 typedef struct {
+    slice_u8 f0;
+    slice_u8 f1;
+} dump__dumps__Dumps;
+
+typedef struct {
+    uint8_t tag;
+    dump__dumps__Dumps dump__dumps__Dumps_0;
+    numbers__Refusal numbers__Refusal_0;
+} core__Result_Dumps_Refusal;
+
+typedef struct {
+    uint8_t tag;
+    uint64_t u64_0;
+} core__Option_u64;
+
+typedef struct {
     uint64_t *at;
     uint64_t length;
 } slice_mut_u64;
 
-/* dump::accepted::length_refusal */
-static uint32_t dump__accepted__length_refusal(uint64_t a1, uint64_t a2, uint64_t a3)
+typedef struct {
+    uint64_t f0;
+    uint64_t f1;
+} core__tuple_u64_u64;
+
+typedef struct {
+    uint8_t tag;
+    core__tuple_u64_u64 core__tuple_u64_u64_0;
+} core__Option_tuple_u64_u64;
+
+/* numbers::U32FromRefusal::from */
+static uint32_t numbers__U32FromRefusal__from(numbers__Refusal a1)
 {
     uint32_t result;
-    _Bool v4;
-    uint64_t v5;
-    v4 = a2 != a3;
-    if (v4) {
-        result = UINT32_C(31);
-        return result;
+    uint32_t v2;
+    switch (a1) {
+    case 0u:
+        v2 = UINT32_C(1);
+        break;
+    case 1u:
+        v2 = UINT32_C(2);
+        break;
+    case 2u:
+        v2 = UINT32_C(3);
+        break;
+    case 3u:
+        v2 = UINT32_C(4);
+        break;
+    case 4u:
+        v2 = UINT32_C(5);
+        break;
+    case 5u:
+        v2 = UINT32_C(6);
+        break;
+    case 6u:
+        v2 = UINT32_C(7);
+        break;
+    case 7u:
+        v2 = UINT32_C(8);
+        break;
+    case 8u:
+        v2 = UINT32_C(16);
+        break;
+    case 9u:
+        v2 = UINT32_C(17);
+        break;
+    case 10u:
+        v2 = UINT32_C(18);
+        break;
+    case 11u:
+        v2 = UINT32_C(19);
+        break;
+    case 12u:
+        v2 = UINT32_C(20);
+        break;
+    case 13u:
+        v2 = UINT32_C(21);
+        break;
+    case 14u:
+        v2 = UINT32_C(22);
+        break;
+    case 15u:
+        v2 = UINT32_C(23);
+        break;
+    case 16u:
+        v2 = UINT32_C(24);
+        break;
+    case 17u:
+        v2 = UINT32_C(25);
+        break;
+    case 18u:
+        v2 = UINT32_C(26);
+        break;
+    case 19u:
+        v2 = UINT32_C(28);
+        break;
+    case 20u:
+        v2 = UINT32_C(29);
+        break;
+    case 21u:
+        v2 = UINT32_C(30);
+        break;
+    default: /* 22 */
+        v2 = UINT32_C(31);
+        break;
     }
-    v5 = a2 % a1;
-    v4 = v5 != UINT64_C(0);
-    if (v4) {
-        result = UINT32_C(31);
-        return result;
-    }
-    result = UINT32_C(0);
+    result = v2;
     return result;
 }
 
-/* dump::accepted::dump_refusal */
-static uint32_t dump__accepted__dump_refusal(uint32_t a1, uint64_t a2, uint64_t a3)
+/* core::AnyInto::into_Refusal_u32 */
+static uint32_t core__AnyInto__into_Refusal_u32(numbers__Refusal a1)
 {
     uint32_t result;
-    _Bool v4;
-    v4 = a1 == UINT32_C(512);
-    if (v4) {
-        result = dump__accepted__length_refusal(UINT64_C(512), a2, a3);
-        return result;
-    }
-    v4 = a1 == UINT32_C(1024);
-    if (v4) {
-        result = dump__accepted__length_refusal(UINT64_C(1024), a2, a3);
-        return result;
-    }
-    result = UINT32_C(2);
+    numbers__Refusal v2;
+    v2 = a1;
+    result = numbers__U32FromRefusal__from(v2);
     return result;
 }
 
-/* dump::stretch::difference_before */
-static uint64_t dump__stretch__difference_before(slice_u8 a1, slice_u8 a2, uint64_t a3, uint64_t a4)
+/* dump::accepted::accepted */
+static core__Result_Dumps_Refusal dump__accepted__accepted(uint32_t a1, slice_u8 a2, slice_u8 a3)
+{
+    core__Result_Dumps_Refusal result;
+    _Bool v4;
+    _Bool v5;
+    numbers__Refusal v6;
+    _Bool v7;
+    uint64_t v8;
+    uint64_t v9;
+    uint64_t v10;
+    uint64_t v11;
+    uint64_t v12;
+    _Bool v13;
+    numbers__Refusal v14;
+    dump__dumps__Dumps v15;
+    v4 = a1 != UINT32_C(512);
+    if (v4) {
+        v4 = a1 != UINT32_C(1024);
+        v5 = v4;
+        if (v5) {
+            v6 = 1u;
+            result.tag = 1u;
+            result.numbers__Refusal_0 = v6;
+            result.dump__dumps__Dumps_0.f0.at = 0;
+            result.dump__dumps__Dumps_0.f0.length = 0;
+            result.dump__dumps__Dumps_0.f1.at = 0;
+            result.dump__dumps__Dumps_0.f1.length = 0;
+            return result;
+            goto end1;
+        }
+    }
+    end1:;
+    v8 = a2.length;
+    v9 = a3.length;
+    v7 = v8 != v9;
+    if (!v7) {
+        v10 = a2.length;
+        v11 = (uint64_t)a1;
+        v12 = v10 % v11;
+        v7 = v12 != UINT64_C(0);
+        v13 = v7;
+        if (!v13) {
+            goto end4;
+        }
+    }
+    v14 = 22u;
+    result.tag = 1u;
+    result.numbers__Refusal_0 = v14;
+    result.dump__dumps__Dumps_0.f0.at = 0;
+    result.dump__dumps__Dumps_0.f0.length = 0;
+    result.dump__dumps__Dumps_0.f1.at = 0;
+    result.dump__dumps__Dumps_0.f1.length = 0;
+    return result;
+    goto end3;
+    end4:;
+    end3:;
+    v15.f0.at = a2.at;
+    v15.f0.length = a2.length;
+    v15.f1.at = a3.at;
+    v15.f1.length = a3.length;
+    result.tag = 0u;
+    result.dump__dumps__Dumps_0.f0.at = v15.f0.at;
+    result.dump__dumps__Dumps_0.f0.length = v15.f0.length;
+    result.dump__dumps__Dumps_0.f1.at = v15.f1.at;
+    result.dump__dumps__Dumps_0.f1.length = v15.f1.length;
+    result.numbers__Refusal_0 = 0;
+    return result;
+}
+
+/* core::int::usize::min */
+static uint64_t core__int__usize__min(uint64_t a1, uint64_t a2)
 {
     uint64_t result;
+    _Bool v3;
+    uint64_t v4;
+    v3 = a2 < a1;
+    if (v3) {
+        v4 = a2;
+    } else {
+        v4 = a1;
+    }
+    result = v4;
+    return result;
+}
+
+/* dump::dumps::Dumps::first_place */
+static core__Option_u64 dump__dumps__Dumps__first_place(const dump__dumps__Dumps *a1, uint64_t a2,
+    uint64_t a3, _Bool a4)
+{
+    core__Option_u64 result;
     uint64_t v5;
     _Bool v6;
     const uint8_t *v7;
     uint8_t v8;
     const uint8_t *v9;
     uint8_t v10;
-    v5 = a3;
+    _Bool v11;
+    v5 = a2;
     for (;;) {
-        v6 = v5 < a4;
+        v6 = v5 < a3;
         if (!v6) {
             break;
         }
-        v7 = a1.at + (size_t)v5;
+        v7 = a1->f0.at + (size_t)v5;
         v8 = *v7;
-        v9 = a2.at + (size_t)v5;
+        v9 = a1->f1.at + (size_t)v5;
         v10 = *v9;
-        v6 = v8 != v10;
-        if (v6) {
-            result = v5;
+        v6 = v8 == v10;
+        v11 = v6 == a4;
+        if (v11) {
+            result.tag = 1u;
+            result.u64_0 = v5;
             return result;
         }
         v5 = v5 + UINT64_C(1);
     }
-    result = v5;
+    result.tag = 0u;
+    result.u64_0 = 0;
     return result;
 }
 
-/* dump::stretch::near */
-static uint64_t dump__stretch__near(uint64_t a1, uint64_t a2)
+/* dump::dumps::Dumps::len */
+static uint64_t dump__dumps__Dumps__len(const dump__dumps__Dumps *a1)
+{
+    uint64_t result;
+    result = a1->f0.length;
+    return result;
+}
+
+/* core::slice::slices_equal */
+static _Bool core__slice__slices_equal(slice_u8 a1, slice_u8 a2)
+{
+    _Bool result;
+    uint64_t v3;
+    uint64_t v4;
+    _Bool v5;
+    const uint8_t *v6;
+    const uint8_t *v7;
+    v5 = a1.length == a2.length;
+    if (!v5) {
+        result = 0;
+        return result;
+    }
+    v3 = UINT64_C(0);
+    for (;;) {
+        v4 = a2.length;
+        v5 = v3 < v4;
+        if (!v5) {
+            break;
+        }
+        v6 = a1.at + (size_t)v3;
+        v7 = a2.at + (size_t)v3;
+        v5 = *v6 == *v7;
+        if (!v5) {
+            result = 0;
+            return result;
+        }
+        v3 = v3 + UINT64_C(1);
+    }
+    result = 1;
+    return result;
+}
+
+/* core::RefSlicePartialEq::eq_u8 */
+static _Bool core__RefSlicePartialEq__eq_u8(const slice_u8 *a1, const slice_u8 *a2)
+{
+    _Bool result;
+    slice_u8 v3;
+    slice_u8 v4;
+    v3.at = a1->at;
+    v3.length = a1->length;
+    v4.at = a2->at;
+    v4.length = a2->length;
+    result = core__slice__slices_equal(v3, v4);
+    return result;
+}
+
+/* dump::dumps::Dumps::passed */
+static uint64_t dump__dumps__Dumps__passed(const dump__dumps__Dumps *a1, uint64_t a2)
 {
     uint64_t result;
     uint64_t v3;
     _Bool v4;
-    v3 = a2 - a1;
-    v4 = v3 < UINT64_C(16);
-    if (v4) {
-        result = a2;
-        return result;
-    }
-    result = a1 + UINT64_C(16);
-    return result;
-}
-
-/* dump::stretch::same */
-static _Bool dump__stretch__same(slice_u8 a1, slice_u8 a2)
-{
-    _Bool result;
-    _Bool v3;
-    uint64_t v4;
     uint64_t v5;
-    _Bool v6;
-    const uint8_t *v7;
-    uint8_t v8;
-    const uint8_t *v9;
-    uint8_t v10;
-    v3 = 1;
-    v4 = UINT64_C(0);
+    dump__dumps__Dumps v6;
+    uint64_t v7;
+    slice_u8 v8;
+    uint64_t v9;
+    const uint8_t *v10;
+    uint64_t v11;
+    const uint8_t *v12;
+    slice_u8 v13;
+    slice_u8 v14;
+    const slice_u8 *v15;
+    slice_u8 v16;
+    uint64_t v17;
+    const uint8_t *v18;
+    uint64_t v19;
+    const uint8_t *v20;
+    slice_u8 v21;
+    slice_u8 v22;
+    const slice_u8 *v23;
+    _Bool v24;
+    v3 = a2;
     for (;;) {
-        v5 = a1.length;
-        v6 = v4 < v5;
-        if (!v6) {
+        v6.f0.at = a1->f0.at;
+        v6.f0.length = a1->f0.length;
+        v6.f1.at = a1->f1.at;
+        v6.f1.length = a1->f1.length;
+        v5 = dump__dumps__Dumps__len(&v6);
+        v7 = v5 - v3;
+        v4 = UINT64_C(64) <= v7;
+        if (v4) {
+            v8.at = a1->f0.at;
+            v8.length = a1->f0.length;
+            v9 = v3 + UINT64_C(64);
+            v10 = v8.at + (size_t)v3;
+            v11 = v9 - v3;
+            v12 = v10;
+            v13.at = v12;
+            v13.length = v11;
+            v14.at = v13.at;
+            v14.length = v13.length;
+            v15 = &v14;
+            v16.at = a1->f1.at;
+            v16.length = a1->f1.length;
+            v17 = v3 + UINT64_C(64);
+            v18 = v16.at + (size_t)v3;
+            v19 = v17 - v3;
+            v20 = v18;
+            v21.at = v20;
+            v21.length = v19;
+            v22.at = v21.at;
+            v22.length = v21.length;
+            v23 = &v22;
+            v4 = core__RefSlicePartialEq__eq_u8(v15, v23);
+            v24 = v4;
+            if (!v24) {
+                break;
+            }
+        } else {
             break;
         }
-        v7 = a1.at + (size_t)v4;
-        v8 = *v7;
-        v9 = a2.at + (size_t)v4;
-        v10 = *v9;
-        v6 = v8 != v10;
-        if (v6) {
-            v3 = 0;
-        }
-        v4 = v4 + UINT64_C(1);
+        v3 = v3 + UINT64_C(64);
     }
     result = v3;
     return result;
 }
 
-/* dump::stretch::passed */
-static uint64_t dump__stretch__passed(slice_u8 a1, slice_u8 a2, uint64_t a3)
+/* dump::dumps::Dumps::next_difference */
+static core__Option_u64 dump__dumps__Dumps__next_difference(const dump__dumps__Dumps *a1, uint64_t a2)
 {
-    uint64_t result;
-    uint64_t v4;
+    core__Option_u64 result;
+    uint64_t v3;
+    core__Option_u64 v4;
     uint64_t v5;
     uint64_t v6;
-    uint64_t v7;
-    _Bool v8;
-    const uint8_t *v9;
-    const uint8_t *v10;
-    slice_u8 v11;
-    const uint8_t *v12;
-    const uint8_t *v13;
-    slice_u8 v14;
-    _Bool v15;
-    v4 = a3;
-    for (;;) {
-        v6 = a1.length;
-        v7 = v6 - v4;
-        v8 = UINT64_C(64) <= v7;
-        if (!v8) {
-            break;
-        }
-        v5 = v4 + UINT64_C(64);
-        v9 = a1.at + (size_t)v4;
-        v6 = v5 - v4;
-        v10 = v9;
-        v11.at = v10;
-        v11.length = v6;
-        v12 = a2.at + (size_t)v4;
-        v7 = v5 - v4;
-        v13 = v12;
-        v14.at = v13;
-        v14.length = v7;
-        v8 = dump__stretch__same(v11, v14);
-        v15 = !v8;
-        if (v15) {
-            result = v4;
-            return result;
-        }
-        v4 = v5;
-    }
-    result = v4;
-    return result;
-}
-
-/* dump::stretch::next_difference */
-static uint64_t dump__stretch__next_difference(slice_u8 a1, slice_u8 a2, uint64_t a3)
-{
-    uint64_t result;
-    uint64_t v4;
-    uint64_t v5;
-    uint64_t v6;
-    _Bool v7;
+    dump__dumps__Dumps v7;
     uint64_t v8;
-    v6 = a1.length;
-    v4 = dump__stretch__near(a3, v6);
-    v5 = dump__stretch__difference_before(a1, a2, a3, v4);
-    v7 = v5 < v4;
-    if (v7) {
-        result = v5;
-        return result;
+    core__Option_u64 v9;
+    dump__dumps__Dumps v10;
+    core__Option_u64 v11;
+    dump__dumps__Dumps v12;
+    uint64_t v13;
+    dump__dumps__Dumps v14;
+    uint64_t v15;
+    dump__dumps__Dumps v16;
+    v7.f0.at = a1->f0.at;
+    v7.f0.length = a1->f0.length;
+    v7.f1.at = a1->f1.at;
+    v7.f1.length = a1->f1.length;
+    v6 = dump__dumps__Dumps__len(&v7);
+    v8 = v6 - a2;
+    v5 = core__int__usize__min(UINT64_C(16), v8);
+    v3 = a2 + v5;
+    v10.f0.at = a1->f0.at;
+    v10.f0.length = a1->f0.length;
+    v10.f1.at = a1->f1.at;
+    v10.f1.length = a1->f1.length;
+    v9 = dump__dumps__Dumps__first_place(&v10, a2, v3, 0);
+    switch (v9.tag) {
+    case 0u:
+        v12.f0.at = a1->f0.at;
+        v12.f0.length = a1->f0.length;
+        v12.f1.at = a1->f1.at;
+        v12.f1.length = a1->f1.length;
+        v14.f0.at = a1->f0.at;
+        v14.f0.length = a1->f0.length;
+        v14.f1.at = a1->f1.at;
+        v14.f1.length = a1->f1.length;
+        v13 = dump__dumps__Dumps__passed(&v14, v3);
+        v16.f0.at = a1->f0.at;
+        v16.f0.length = a1->f0.length;
+        v16.f1.at = a1->f1.at;
+        v16.f1.length = a1->f1.length;
+        v15 = dump__dumps__Dumps__len(&v16);
+        v11 = dump__dumps__Dumps__first_place(&v12, v13, v15, 0);
+        break;
+    default: /* 1 */
+        v4.tag = v9.tag;
+        v4.u64_0 = v9.u64_0;
+        v11.tag = v4.tag;
+        v11.u64_0 = v4.u64_0;
+        break;
     }
-    v6 = dump__stretch__passed(a1, a2, v4);
-    v8 = a1.length;
-    result = dump__stretch__difference_before(a1, a2, v6, v8);
+    result.tag = v11.tag;
+    result.u64_0 = v11.u64_0;
     return result;
 }
 
-/* dump::stretch::range_end */
-static uint64_t dump__stretch__range_end(slice_u8 a1, slice_u8 a2, uint64_t a3)
+/* core::Option::unwrap_or_u64 */
+static uint64_t core__Option__unwrap_or_u64(const core__Option_u64 *a1, uint64_t a2)
 {
     uint64_t result;
+    uint64_t v3;
     uint64_t v4;
-    uint64_t v5;
-    _Bool v6;
-    const uint8_t *v7;
-    uint8_t v8;
-    const uint8_t *v9;
-    uint8_t v10;
-    v4 = a3 + UINT64_C(1);
-    for (;;) {
-        v5 = a1.length;
-        v6 = v4 < v5;
-        if (!v6) {
-            break;
-        }
-        v7 = a1.at + (size_t)v4;
-        v8 = *v7;
-        v9 = a2.at + (size_t)v4;
-        v10 = *v9;
-        v6 = v8 == v10;
-        if (v6) {
-            result = v4;
-            return result;
-        }
-        v4 = v4 + UINT64_C(1);
+    switch (a1->tag) {
+    case 1u:
+        v3 = a1->u64_0;
+        v4 = v3;
+        break;
+    default: /* 0 */
+        v4 = a2;
+        break;
     }
     result = v4;
     return result;
 }
 
-/* dump::list::list_ranges */
-static c2_ranges dump__list__list_ranges(slice_u8 a1, slice_u8 a2, slice_mut_u64 a3)
+/* dump::dumps::Dumps::range_end */
+static uint64_t dump__dumps__Dumps__range_end(const dump__dumps__Dumps *a1, uint64_t a2)
+{
+    uint64_t result;
+    core__Option_u64 v3;
+    dump__dumps__Dumps v4;
+    uint64_t v5;
+    uint64_t v6;
+    dump__dumps__Dumps v7;
+    uint64_t v8;
+    dump__dumps__Dumps v9;
+    v4.f0.at = a1->f0.at;
+    v4.f0.length = a1->f0.length;
+    v4.f1.at = a1->f1.at;
+    v4.f1.length = a1->f1.length;
+    v5 = a2 + UINT64_C(1);
+    v7.f0.at = a1->f0.at;
+    v7.f0.length = a1->f0.length;
+    v7.f1.at = a1->f1.at;
+    v7.f1.length = a1->f1.length;
+    v6 = dump__dumps__Dumps__len(&v7);
+    v3 = dump__dumps__Dumps__first_place(&v4, v5, v6, 1);
+    v9.f0.at = a1->f0.at;
+    v9.f0.length = a1->f0.length;
+    v9.f1.at = a1->f1.at;
+    v9.f1.length = a1->f1.length;
+    v8 = dump__dumps__Dumps__len(&v9);
+    result = core__Option__unwrap_or_u64(&v3, v8);
+    return result;
+}
+
+/* dump::dumps::Dumps::list_ranges */
+static c2_ranges dump__dumps__Dumps__list_ranges(const dump__dumps__Dumps *a1, slice_mut_u64 a2)
 {
     c2_ranges result;
-    uint64_t v4;
+    uint64_t v3;
+    core__Option_u64 v4;
     uint64_t v5;
     uint64_t v6;
     uint64_t v7;
-    uint64_t v8;
-    _Bool v9;
+    dump__dumps__Dumps v8;
+    uint64_t v9;
     uint64_t v10;
-    uint64_t v11;
+    _Bool v11;
     uint64_t v12;
-    uint64_t *v13;
+    dump__dumps__Dumps v13;
     uint64_t v14;
     uint64_t *v15;
     uint64_t v16;
-    v4 = UINT64_C(0);
-    v5 = dump__stretch__next_difference(a1, a2, UINT64_C(0));
+    uint64_t *v17;
+    dump__dumps__Dumps v18;
+    uint64_t v19;
+    v3 = UINT64_C(0);
+    v8.f0.at = a1->f0.at;
+    v8.f0.length = a1->f0.length;
+    v8.f1.at = a1->f1.at;
+    v8.f1.length = a1->f1.length;
+    v4 = dump__dumps__Dumps__next_difference(&v8, UINT64_C(0));
     for (;;) {
-        v8 = a1.length;
-        v9 = v5 < v8;
-        if (!v9) {
+        switch (v4.tag) {
+        case 1u:
+            v5 = v4.u64_0;
+            v6 = UINT64_C(2) * v3;
+            v9 = a2.length;
+            v10 = v9 - v6;
+            v11 = v10 < UINT64_C(2);
+            if (v11) {
+                v12 = v3;
+                result.number = UINT32_C(0);
+                result.more = UINT32_C(1);
+                result.held = v12;
+                return result;
+            }
+            v13.f0.at = a1->f0.at;
+            v13.f0.length = a1->f0.length;
+            v13.f1.at = a1->f1.at;
+            v13.f1.length = a1->f1.length;
+            v7 = dump__dumps__Dumps__range_end(&v13, v5);
+            v14 = v5;
+            v9 = v6 * UINT64_C(8);
+            v15 = a2.at + (size_t)(v9 / 8u);
+            *v15 = v14;
+            v10 = v7 - v5;
+            v14 = v10;
+            v9 = v6 + UINT64_C(1);
+            v16 = v9 * UINT64_C(8);
+            v17 = a2.at + (size_t)(v16 / 8u);
+            *v17 = v14;
+            v3 = v3 + UINT64_C(1);
+            v18.f0.at = a1->f0.at;
+            v18.f0.length = a1->f0.length;
+            v18.f1.at = a1->f1.at;
+            v18.f1.length = a1->f1.length;
+            v4 = dump__dumps__Dumps__next_difference(&v18, v7);
             break;
+        default: /* 0 */
+            goto end1;
         }
-        v6 = UINT64_C(2) * v4;
-        v8 = a3.length;
-        v10 = v8 - v6;
-        v9 = v10 < UINT64_C(2);
-        if (v9) {
-            v11 = v4;
-            result.number = UINT32_C(0);
-            result.more = UINT32_C(1);
-            result.held = v11;
-            return result;
-        }
-        v7 = dump__stretch__range_end(a1, a2, v5);
-        v12 = v5;
-        v8 = v6 * UINT64_C(8);
-        v13 = a3.at + (size_t)(v8 / 8u);
-        *v13 = v12;
-        v10 = v7 - v5;
-        v12 = v10;
-        v8 = v6 + UINT64_C(1);
-        v14 = v8 * UINT64_C(8);
-        v15 = a3.at + (size_t)(v14 / 8u);
-        *v15 = v12;
-        v4 = v4 + UINT64_C(1);
-        v5 = dump__stretch__next_difference(a1, a2, v7);
     }
-    v16 = v4;
+    end1:;
+    v19 = v3;
     result.number = UINT32_C(0);
     result.more = UINT32_C(0);
-    result.held = v16;
+    result.held = v19;
     return result;
 }
 
@@ -304,118 +580,154 @@ static c2_ranges dump__list__list_ranges(slice_u8 a1, slice_u8 a2, slice_mut_u64
 static c2_ranges dump__c2_dump_ranges(uint32_t a1, slice_u8 a2, slice_u8 a3, slice_mut_u64 a4)
 {
     c2_ranges result;
-    uint32_t v5;
-    uint64_t v6;
-    uint64_t v7;
-    _Bool v8;
-    uint64_t *v9;
-    slice_mut_u64 v10;
-    v6 = a2.length;
-    v7 = a3.length;
-    v5 = dump__accepted__dump_refusal(a1, v6, v7);
-    v8 = v5 != UINT32_C(0);
-    if (v8) {
-        result.number = v5;
-        result.more = UINT32_C(0);
-        result.held = UINT64_C(0);
-        return result;
+    dump__dumps__Dumps v5;
+    numbers__Refusal v6;
+    core__Result_Dumps_Refusal v7;
+    c2_ranges v8;
+    dump__dumps__Dumps v9;
+    uint64_t *v10;
+    slice_mut_u64 v11;
+    uint32_t v12;
+    v7 = dump__accepted__accepted(a1, a2, a3);
+    switch (v7.tag) {
+    case 0u:
+        v5.f0.at = v7.dump__dumps__Dumps_0.f0.at;
+        v5.f0.length = v7.dump__dumps__Dumps_0.f0.length;
+        v5.f1.at = v7.dump__dumps__Dumps_0.f1.at;
+        v5.f1.length = v7.dump__dumps__Dumps_0.f1.length;
+        v9.f0.at = v5.f0.at;
+        v9.f0.length = v5.f0.length;
+        v9.f1.at = v5.f1.at;
+        v9.f1.length = v5.f1.length;
+        v10 = a4.at;
+        v11.at = v10;
+        v11.length = a4.length;
+        v8 = dump__dumps__Dumps__list_ranges(&v9, v11);
+        break;
+    default: /* 1 */
+        v6 = v7.numbers__Refusal_0;
+        v12 = core__AnyInto__into_Refusal_u32(v6);
+        v8.number = v12;
+        v8.more = UINT32_C(0);
+        v8.held = UINT64_C(0);
+        break;
     }
-    v9 = a4.at;
-    v10.at = v9;
-    v10.length = a4.length;
-    result = dump__list__list_ranges(a2, a3, v10);
+    result.number = v8.number;
+    result.more = v8.more;
+    result.held = v8.held;
     return result;
 }
 
-/* dump::first::first_difference */
-static c2_difference dump__first__first_difference(uint64_t a1, slice_u8 a2, slice_u8 a3)
+/* dump::dumps::Dumps::first_difference */
+static core__Option_tuple_u64_u64 dump__dumps__Dumps__first_difference(const dump__dumps__Dumps *a1,
+    uint64_t a2)
 {
-    c2_difference result;
+    core__Option_tuple_u64_u64 result;
+    uint64_t v3;
     uint64_t v4;
     uint64_t v5;
-    uint64_t v6;
+    core__Option_tuple_u64_u64 v6;
     uint64_t v7;
     uint64_t v8;
-    uint64_t v9;
-    c2_difference v10;
+    dump__dumps__Dumps v9;
+    _Bool v10;
     _Bool v11;
-    _Bool v12;
-    const uint8_t *v13;
-    uint64_t v14;
-    const uint8_t *v15;
-    slice_u8 v16;
-    const uint8_t *v17;
-    uint64_t v18;
-    const uint8_t *v19;
+    slice_u8 v12;
+    uint64_t v13;
+    const uint8_t *v14;
+    uint64_t v15;
+    const uint8_t *v16;
+    slice_u8 v17;
+    slice_u8 v18;
+    const slice_u8 *v19;
     slice_u8 v20;
-    _Bool v21;
-    uint64_t v22;
-    const uint8_t *v23;
-    uint8_t v24;
-    uint64_t v25;
-    const uint8_t *v26;
-    uint8_t v27;
-    uint64_t v28;
-    uint32_t v29;
-    v9 = a2.length;
-    v4 = v9 / a1;
-    v5 = UINT64_C(0);
+    uint64_t v21;
+    const uint8_t *v22;
+    uint64_t v23;
+    const uint8_t *v24;
+    slice_u8 v25;
+    slice_u8 v26;
+    const slice_u8 *v27;
+    _Bool v28;
+    uint64_t v29;
+    const uint8_t *v30;
+    uint8_t v31;
+    uint64_t v32;
+    const uint8_t *v33;
+    uint8_t v34;
+    core__tuple_u64_u64 v35;
+    v3 = UINT64_C(0);
+    v9.f0.at = a1->f0.at;
+    v9.f0.length = a1->f0.length;
+    v9.f1.at = a1->f1.at;
+    v9.f1.length = a1->f1.length;
+    v8 = dump__dumps__Dumps__len(&v9);
+    v7 = v8 / a2;
     for (;;) {
-        v11 = v4 <= v5;
-        if (v11) {
-            v10.number = UINT32_C(0);
-            v10.differs = UINT32_C(0);
-            v10.page = UINT64_C(0);
-            v10.offset = UINT32_C(0);
+        v10 = v3 < v7;
+        if (!v10) {
             break;
         }
-        v6 = v5 * a1;
-        v7 = v6 + a1;
-        v8 = UINT64_C(0);
-        v13 = a2.at + (size_t)v6;
-        v14 = v7 - v6;
-        v15 = v13;
-        v16.at = v15;
-        v16.length = v14;
-        v17 = a3.at + (size_t)v6;
-        v18 = v7 - v6;
-        v19 = v17;
-        v20.at = v19;
-        v20.length = v18;
-        v12 = dump__stretch__same(v16, v20);
-        if (v12) {
-            v8 = a1;
+        v4 = v3 * a2;
+        v12.at = a1->f0.at;
+        v12.length = a1->f0.length;
+        v13 = v4 + a2;
+        v14 = v12.at + (size_t)v4;
+        v15 = v13 - v4;
+        v16 = v14;
+        v17.at = v16;
+        v17.length = v15;
+        v18.at = v17.at;
+        v18.length = v17.length;
+        v19 = &v18;
+        v20.at = a1->f1.at;
+        v20.length = a1->f1.length;
+        v21 = v4 + a2;
+        v22 = v20.at + (size_t)v4;
+        v23 = v21 - v4;
+        v24 = v22;
+        v25.at = v24;
+        v25.length = v23;
+        v26.at = v25.at;
+        v26.length = v25.length;
+        v27 = &v26;
+        v11 = core__RefSlicePartialEq__eq_u8(v19, v27);
+        if (v11) {
+            v3 = v3 + UINT64_C(1);
+            continue;
         }
+        v5 = UINT64_C(0);
         for (;;) {
-            v21 = v8 < a1;
-            if (!v21) {
+            v28 = v5 < a2;
+            if (!v28) {
                 break;
             }
-            v22 = v6 + v8;
-            v23 = a2.at + (size_t)v22;
-            v24 = *v23;
-            v25 = v6 + v8;
-            v26 = a3.at + (size_t)v25;
-            v27 = *v26;
-            v21 = v24 != v27;
-            if (v21) {
-                v28 = v5;
-                v29 = (uint32_t)v8;
-                v10.number = UINT32_C(0);
-                v10.differs = UINT32_C(1);
-                v10.page = v28;
-                v10.offset = v29;
+            v29 = v4 + v5;
+            v30 = a1->f0.at + (size_t)v29;
+            v31 = *v30;
+            v32 = v4 + v5;
+            v33 = a1->f1.at + (size_t)v32;
+            v34 = *v33;
+            v28 = v31 != v34;
+            if (v28) {
+                v35.f0 = v3;
+                v35.f1 = v5;
+                v6.tag = 1u;
+                v6.core__tuple_u64_u64_0.f0 = v35.f0;
+                v6.core__tuple_u64_u64_0.f1 = v35.f1;
                 goto end1;
             }
-            v8 = v8 + UINT64_C(1);
+            v5 = v5 + UINT64_C(1);
         }
-        v5 = v5 + UINT64_C(1);
+        v3 = v3 + UINT64_C(1);
     }
+    v6.tag = 0u;
+    v6.core__tuple_u64_u64_0.f0 = 0;
+    v6.core__tuple_u64_u64_0.f1 = 0;
     end1:;
-    result.number = v10.number;
-    result.differs = v10.differs;
-    result.page = v10.page;
-    result.offset = v10.offset;
+    result.tag = v6.tag;
+    result.core__tuple_u64_u64_0.f0 = v6.core__tuple_u64_u64_0.f0;
+    result.core__tuple_u64_u64_0.f1 = v6.core__tuple_u64_u64_0.f1;
     return result;
 }
 
@@ -423,23 +735,68 @@ static c2_difference dump__first__first_difference(uint64_t a1, slice_u8 a2, sli
 static c2_difference dump__c2_dump_first(uint32_t a1, slice_u8 a2, slice_u8 a3)
 {
     c2_difference result;
-    uint32_t v4;
+    dump__dumps__Dumps v4;
     uint64_t v5;
     uint64_t v6;
-    _Bool v7;
-    v5 = a2.length;
-    v6 = a3.length;
-    v4 = dump__accepted__dump_refusal(a1, v5, v6);
-    v7 = v4 != UINT32_C(0);
-    if (v7) {
-        result.number = v4;
-        result.differs = UINT32_C(0);
-        result.page = UINT64_C(0);
-        result.offset = UINT32_C(0);
-        return result;
+    numbers__Refusal v7;
+    core__Result_Dumps_Refusal v8;
+    c2_difference v9;
+    core__Option_tuple_u64_u64 v10;
+    dump__dumps__Dumps v11;
+    uint64_t v12;
+    c2_difference v13;
+    uint64_t v14;
+    uint32_t v15;
+    uint32_t v16;
+    v8 = dump__accepted__accepted(a1, a2, a3);
+    switch (v8.tag) {
+    case 0u:
+        v4.f0.at = v8.dump__dumps__Dumps_0.f0.at;
+        v4.f0.length = v8.dump__dumps__Dumps_0.f0.length;
+        v4.f1.at = v8.dump__dumps__Dumps_0.f1.at;
+        v4.f1.length = v8.dump__dumps__Dumps_0.f1.length;
+        v11.f0.at = v4.f0.at;
+        v11.f0.length = v4.f0.length;
+        v11.f1.at = v4.f1.at;
+        v11.f1.length = v4.f1.length;
+        v12 = (uint64_t)a1;
+        v10 = dump__dumps__Dumps__first_difference(&v11, v12);
+        switch (v10.tag) {
+        case 1u:
+            v5 = v10.core__tuple_u64_u64_0.f0;
+            v6 = v10.core__tuple_u64_u64_0.f1;
+            v14 = v5;
+            v15 = (uint32_t)v6;
+            v13.number = UINT32_C(0);
+            v13.differs = UINT32_C(1);
+            v13.page = v14;
+            v13.offset = v15;
+            break;
+        default: /* 0 */
+            v13.number = UINT32_C(0);
+            v13.differs = UINT32_C(0);
+            v13.page = UINT64_C(0);
+            v13.offset = UINT32_C(0);
+            break;
+        }
+        v9.number = v13.number;
+        v9.differs = v13.differs;
+        v9.page = v13.page;
+        v9.offset = v13.offset;
+        break;
+    default: /* 1 */
+        v7 = v8.numbers__Refusal_0;
+        v16 = core__AnyInto__into_Refusal_u32(v7);
+        v9.number = v16;
+        v9.differs = UINT32_C(0);
+        v9.page = UINT64_C(0);
+        v9.offset = UINT32_C(0);
+        break;
     }
-    v5 = (uint64_t)a1;
-    result = dump__first__first_difference(v5, a2, a3);
+    result.number = v9.number;
+    result.differs = v9.differs;
+    result.page = v9.page;
+    result.offset = v9.offset;
     return result;
 }
 

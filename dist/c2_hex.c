@@ -1,18 +1,99 @@
-/* Made from the MIR of crate hex_calls, sha256 6985433f9acf2bfffeeaf312061ede5529bec3a06ccc6ceb20de9c7b652de661. */
+/* Made from the MIR of crate hex_calls, sha256 0883ab837b7b35d2676accad933af2de3927c30f3b6770cca0c3ee6de4718841. */
 /*
- * Made by `make c`, not to be edited. A function stands under its path in the proved code. Its result is
- * called result, its parameters a1, a2 .. and its other locals v.., by their numbers in the MIR. A statement
- * of the MIR is one statement here, but structs and arrays are assigned member by member. An enum is its tag
- * and the members that its variants share. A length is 64 bits wide, as in the proof, whatever size_t is.
+ * Made by `make c`, not to be edited. A function stands under its path in the proved code; one that is generic
+ * there, as those of the library are, stands once for each of what it is given, under the end of its path and
+ * its types. Its result is called result, its parameters a1, a2 .. and its other locals v.., by their numbers
+ * in the MIR, and copies that a call wants c1, c2 .. A statement of the MIR is one statement here, but structs
+ * and arrays are assigned member by member. An enum is its tag and the members that its variants share; of
+ * what has no bits there is nothing. A length is 64 bits wide, as in the proof, whatever size_t is.
  */
 #include <stddef.h>
 #include <stdint.h>
 #include "c2_hex.h"
 
+typedef uint8_t numbers__Refusal;
+
+typedef struct {
+    uint8_t tag;
+    uint64_t u64_0;
+} core__Option_u64;
+
+typedef struct {
+    numbers__Refusal f0;
+    core__Option_u64 f1;
+} hex_read__walk__Fault;
+
+typedef struct {
+    uint32_t f0;
+    uint64_t f1;
+} hex_read__read__Filled;
+
+typedef struct {
+    uint8_t tag;
+    hex_read__read__Filled hex_read__read__Filled_0;
+    hex_read__walk__Fault hex_read__walk__Fault_0;
+} core__Result_Filled_Fault;
+
+typedef struct {
+    numbers__Refusal f0;
+} core__ErrResidual_Refusal;
+
+typedef struct {
+    uint8_t tag;
+    core__ErrResidual_Refusal core__ErrResidual_Refusal_0;
+} core__ControlFlow_ErrResidual_Refusal_unit;
+
+typedef struct {
+    uint8_t tag;
+    numbers__Refusal numbers__Refusal_0;
+} core__Result_unit_Refusal;
+
+typedef struct {
+    hex_read__walk__Fault f0;
+} core__ErrResidual_Fault;
+
+typedef struct {
+    _Bool f0;
+    uint64_t f1;
+    uint64_t f2;
+} hex_read__walk__Taken;
+
+typedef struct {
+    uint8_t tag;
+    hex_read__walk__Taken hex_read__walk__Taken_0;
+    core__ErrResidual_Fault core__ErrResidual_Fault_0;
+} core__ControlFlow_ErrResidual_Fault_Taken;
+
+typedef struct {
+    uint8_t tag;
+    hex_read__walk__Taken hex_read__walk__Taken_0;
+    hex_read__walk__Fault hex_read__walk__Fault_0;
+} core__Result_Taken_Fault;
+
+typedef struct {
+    uint8_t tag;
+    uint8_t u8_0;
+} core__Result_u8_AllocError;
+
 typedef struct {
     uint8_t *at;
     uint64_t length;
 } slice_mut_u8;
+
+typedef struct {
+    uint8_t tag;
+    uint8_t u8_0;
+} core__Option_u8;
+
+typedef struct {
+    uint8_t tag;
+    const uint8_t *ref_u8_0;
+} core__Option_ref_u8;
+
+typedef struct {
+    const uint8_t *at;
+    uint64_t length;
+} slice_u8;
 
 typedef struct {
     uint64_t f0;
@@ -21,16 +102,16 @@ typedef struct {
 } hex_read__fill__Front;
 
 typedef struct {
-    const uint8_t *at;
-    uint64_t length;
-} slice_u8;
+    uint8_t tag;
+    uint64_t u64_0;
+    uint64_t u64_1;
+} hex_format__Record;
 
 typedef struct {
     uint8_t tag;
-    uint32_t u32_0;
-    uint64_t u64_0;
-    uint64_t u64_1;
-} hex_format__Line;
+    hex_format__Record hex_format__Record_0;
+    numbers__Refusal numbers__Refusal_0;
+} core__Result_Record_Refusal;
 
 typedef struct {
     uint64_t f0;
@@ -38,97 +119,575 @@ typedef struct {
 } hex_line__line__Shape;
 
 typedef struct {
-    hex_format__Line f0;
+    uint8_t tag;
+    hex_line__line__Shape hex_line__line__Shape_0;
+} core__Option_Shape;
+
+typedef struct {
+    uint8_t tag;
+    uint64_t u64_0;
+} core__ControlFlow_NoValue_u64;
+
+typedef struct {
+    uint8_t tag;
+    uint8_t u8_0;
+} core__ControlFlow_NoValue_u8;
+
+typedef struct {
+    slice_u8 f0;
+    slice_u8 f1;
+    uint64_t f2;
+} core__ChunksExact_u8;
+
+typedef struct {
+    uint8_t tag;
+    slice_u8 slice_u8_0;
+} core__Option_slice_ref_u8;
+
+typedef struct {
+    slice_u8 f0;
+    slice_u8 f1;
+} core__tuple_slice_ref_u8_slice_ref_u8;
+
+typedef struct {
+    core__Result_Record_Refusal f0;
     uint64_t f1;
 } hex_line__line__Judged;
 
 typedef struct {
-    uint32_t f0;
-    _Bool f1;
-    uint64_t f2;
-    uint64_t f3;
-} hex_read__walk__After;
+    uint8_t tag;
+    hex_read__walk__Taken hex_read__walk__Taken_0;
+    numbers__Refusal numbers__Refusal_0;
+} core__Result_Taken_Refusal;
 
 typedef struct {
-    uint32_t f0;
-    uint64_t f1;
-    uint64_t f2;
-    uint64_t f3;
-} hex_read__walk__Outcome;
+    uint8_t tag;
+    hex_format__Record hex_format__Record_0;
+    core__ErrResidual_Refusal core__ErrResidual_Refusal_0;
+} core__ControlFlow_ErrResidual_Refusal_Record;
+
+typedef struct {
+    slice_u8 f0;
+} core__Iter_u8;
+
+typedef struct {
+    const uint8_t *f0;
+} settings__all_Self_ref_u8;
 
 typedef struct {
     uint8_t at[8192];
 } array_8192_u8;
 
 typedef struct {
-    uint8_t at[4];
-} array_4_u8;
-
-typedef struct {
-    uint8_t at[12];
-} array_12_u8;
+    uint8_t tag;
+    uint64_t u64_0;
+    numbers__Refusal numbers__Refusal_0;
+} core__Result_u64_Refusal;
 
 typedef struct {
     uint8_t at[21];
 } array_21_u8;
 
-/* hex_read::buffer::set_all */
-static void hex_read__buffer__set_all(slice_mut_u8 a1, uint8_t a2)
+typedef struct {
+    uint8_t at[12];
+} array_12_u8;
+
+/* numbers::U32FromRefusal::from */
+static uint32_t numbers__U32FromRefusal__from(numbers__Refusal a1)
 {
+    uint32_t result;
+    uint32_t v2;
+    switch (a1) {
+    case 0u:
+        v2 = UINT32_C(1);
+        break;
+    case 1u:
+        v2 = UINT32_C(2);
+        break;
+    case 2u:
+        v2 = UINT32_C(3);
+        break;
+    case 3u:
+        v2 = UINT32_C(4);
+        break;
+    case 4u:
+        v2 = UINT32_C(5);
+        break;
+    case 5u:
+        v2 = UINT32_C(6);
+        break;
+    case 6u:
+        v2 = UINT32_C(7);
+        break;
+    case 7u:
+        v2 = UINT32_C(8);
+        break;
+    case 8u:
+        v2 = UINT32_C(16);
+        break;
+    case 9u:
+        v2 = UINT32_C(17);
+        break;
+    case 10u:
+        v2 = UINT32_C(18);
+        break;
+    case 11u:
+        v2 = UINT32_C(19);
+        break;
+    case 12u:
+        v2 = UINT32_C(20);
+        break;
+    case 13u:
+        v2 = UINT32_C(21);
+        break;
+    case 14u:
+        v2 = UINT32_C(22);
+        break;
+    case 15u:
+        v2 = UINT32_C(23);
+        break;
+    case 16u:
+        v2 = UINT32_C(24);
+        break;
+    case 17u:
+        v2 = UINT32_C(25);
+        break;
+    case 18u:
+        v2 = UINT32_C(26);
+        break;
+    case 19u:
+        v2 = UINT32_C(28);
+        break;
+    case 20u:
+        v2 = UINT32_C(29);
+        break;
+    case 21u:
+        v2 = UINT32_C(30);
+        break;
+    default: /* 22 */
+        v2 = UINT32_C(31);
+        break;
+    }
+    result = v2;
+    return result;
+}
+
+/* core::AnyInto::into_Refusal_u32 */
+static uint32_t core__AnyInto__into_Refusal_u32(numbers__Refusal a1)
+{
+    uint32_t result;
+    numbers__Refusal v2;
+    v2 = a1;
+    result = numbers__U32FromRefusal__from(v2);
+    return result;
+}
+
+/* core::Option::unwrap_or_u64 */
+static uint64_t core__Option__unwrap_or_u64(const core__Option_u64 *a1, uint64_t a2)
+{
+    uint64_t result;
     uint64_t v3;
     uint64_t v4;
-    _Bool v5;
-    uint8_t *v6;
-    v3 = UINT64_C(0);
+    switch (a1->tag) {
+    case 1u:
+        v3 = a1->u64_0;
+        v4 = v3;
+        break;
+    default: /* 0 */
+        v4 = a2;
+        break;
+    }
+    result = v4;
+    return result;
+}
+
+/* hex_read::walk::FaultFromRefusal::from */
+static hex_read__walk__Fault hex_read__walk__FaultFromRefusal__from(numbers__Refusal a1)
+{
+    hex_read__walk__Fault result;
+    core__Option_u64 v2;
+    v2.tag = 0u;
+    v2.u64_0 = 0;
+    result.f0 = a1;
+    result.f1.tag = v2.tag;
+    result.f1.u64_0 = v2.u64_0;
+    return result;
+}
+
+/* core::ResultFromResidualErrResidual::from_residua_bde472 */
+static core__Result_Filled_Fault core__ResultFromResidualErrResidual__from_residua_bde472(
+    const core__ErrResidual_Refusal *a1)
+{
+    core__Result_Filled_Fault result;
+    hex_read__walk__Fault v2;
+    numbers__Refusal v3;
+    v3 = a1->f0;
+    v2 = hex_read__walk__FaultFromRefusal__from(v3);
+    result.tag = 1u;
+    result.hex_read__walk__Fault_0.f0 = v2.f0;
+    result.hex_read__walk__Fault_0.f1.tag = v2.f1.tag;
+    result.hex_read__walk__Fault_0.f1.u64_0 = v2.f1.u64_0;
+    result.hex_read__read__Filled_0.f0 = 0;
+    result.hex_read__read__Filled_0.f1 = 0;
+    return result;
+}
+
+/* core::ResultTry::branch_unit_Refusal */
+static core__ControlFlow_ErrResidual_Refusal_unit core__ResultTry__branch_unit_Refusal(
+    const core__Result_unit_Refusal *a1)
+{
+    core__ControlFlow_ErrResidual_Refusal_unit result;
+    numbers__Refusal v3;
+    core__ControlFlow_ErrResidual_Refusal_unit v4;
+    numbers__Refusal v6;
+    core__ErrResidual_Refusal v7;
+    switch (a1->tag) {
+    case 0u:
+        v4.tag = 0u;
+        v4.core__ErrResidual_Refusal_0.f0 = 0;
+        break;
+    default: /* 1 */
+        v3 = a1->numbers__Refusal_0;
+        v6 = v3;
+        v7.f0 = v6;
+        v4.tag = 1u;
+        v4.core__ErrResidual_Refusal_0.f0 = v7.f0;
+        break;
+    }
+    result.tag = v4.tag;
+    result.core__ErrResidual_Refusal_0.f0 = v4.core__ErrResidual_Refusal_0.f0;
+    return result;
+}
+
+/* core::AnyInto::into_Refusal_Fault */
+static hex_read__walk__Fault core__AnyInto__into_Refusal_Fault(numbers__Refusal a1)
+{
+    hex_read__walk__Fault result;
+    numbers__Refusal v2;
+    v2 = a1;
+    result = hex_read__walk__FaultFromRefusal__from(v2);
+    return result;
+}
+
+/* core::AnyFrom::from_Fault */
+static hex_read__walk__Fault core__AnyFrom__from_Fault(const hex_read__walk__Fault *a1)
+{
+    hex_read__walk__Fault result;
+    result.f0 = a1->f0;
+    result.f1.tag = a1->f1.tag;
+    result.f1.u64_0 = a1->f1.u64_0;
+    return result;
+}
+
+/* core::ResultFromResidualErrResidual::from_residua_5dbe91 */
+static core__Result_Filled_Fault core__ResultFromResidualErrResidual__from_residua_5dbe91(
+    const core__ErrResidual_Fault *a1)
+{
+    core__Result_Filled_Fault result;
+    hex_read__walk__Fault v2;
+    hex_read__walk__Fault v3;
+    v3.f0 = a1->f0.f0;
+    v3.f1.tag = a1->f0.f1.tag;
+    v3.f1.u64_0 = a1->f0.f1.u64_0;
+    v2 = core__AnyFrom__from_Fault(&v3);
+    result.tag = 1u;
+    result.hex_read__walk__Fault_0.f0 = v2.f0;
+    result.hex_read__walk__Fault_0.f1.tag = v2.f1.tag;
+    result.hex_read__walk__Fault_0.f1.u64_0 = v2.f1.u64_0;
+    result.hex_read__read__Filled_0.f0 = 0;
+    result.hex_read__read__Filled_0.f1 = 0;
+    return result;
+}
+
+/* core::ResultTry::branch_Taken_Fault */
+static core__ControlFlow_ErrResidual_Fault_Taken core__ResultTry__branch_Taken_Fault(
+    const core__Result_Taken_Fault *a1)
+{
+    core__ControlFlow_ErrResidual_Fault_Taken result;
+    hex_read__walk__Taken v2;
+    hex_read__walk__Fault v3;
+    core__ControlFlow_ErrResidual_Fault_Taken v4;
+    hex_read__walk__Taken v5;
+    hex_read__walk__Fault v6;
+    core__ErrResidual_Fault v7;
+    switch (a1->tag) {
+    case 0u:
+        v2.f0 = a1->hex_read__walk__Taken_0.f0;
+        v2.f1 = a1->hex_read__walk__Taken_0.f1;
+        v2.f2 = a1->hex_read__walk__Taken_0.f2;
+        v5.f0 = v2.f0;
+        v5.f1 = v2.f1;
+        v5.f2 = v2.f2;
+        v4.tag = 0u;
+        v4.hex_read__walk__Taken_0.f0 = v5.f0;
+        v4.hex_read__walk__Taken_0.f1 = v5.f1;
+        v4.hex_read__walk__Taken_0.f2 = v5.f2;
+        v4.core__ErrResidual_Fault_0.f0.f0 = 0;
+        v4.core__ErrResidual_Fault_0.f0.f1.tag = 0;
+        v4.core__ErrResidual_Fault_0.f0.f1.u64_0 = 0;
+        break;
+    default: /* 1 */
+        v3.f0 = a1->hex_read__walk__Fault_0.f0;
+        v3.f1.tag = a1->hex_read__walk__Fault_0.f1.tag;
+        v3.f1.u64_0 = a1->hex_read__walk__Fault_0.f1.u64_0;
+        v6.f0 = v3.f0;
+        v6.f1.tag = v3.f1.tag;
+        v6.f1.u64_0 = v3.f1.u64_0;
+        v7.f0.f0 = v6.f0;
+        v7.f0.f1.tag = v6.f1.tag;
+        v7.f0.f1.u64_0 = v6.f1.u64_0;
+        v4.tag = 1u;
+        v4.core__ErrResidual_Fault_0.f0.f0 = v7.f0.f0;
+        v4.core__ErrResidual_Fault_0.f0.f1.tag = v7.f0.f1.tag;
+        v4.core__ErrResidual_Fault_0.f0.f1.u64_0 = v7.f0.f1.u64_0;
+        v4.hex_read__walk__Taken_0.f0 = 0;
+        v4.hex_read__walk__Taken_0.f1 = 0;
+        v4.hex_read__walk__Taken_0.f2 = 0;
+        break;
+    }
+    result.tag = v4.tag;
+    result.hex_read__walk__Taken_0.f0 = v4.hex_read__walk__Taken_0.f0;
+    result.hex_read__walk__Taken_0.f1 = v4.hex_read__walk__Taken_0.f1;
+    result.hex_read__walk__Taken_0.f2 = v4.hex_read__walk__Taken_0.f2;
+    result.core__ErrResidual_Fault_0.f0.f0 = v4.core__ErrResidual_Fault_0.f0.f0;
+    result.core__ErrResidual_Fault_0.f0.f1.tag = v4.core__ErrResidual_Fault_0.f0.f1.tag;
+    result.core__ErrResidual_Fault_0.f0.f1.u64_0 = v4.core__ErrResidual_Fault_0.f0.f1.u64_0;
+    return result;
+}
+
+/* core::clone::U8Clone::clone */
+static core__Result_u8_AllocError core__clone__U8Clone__clone(const uint8_t *a1)
+{
+    core__Result_u8_AllocError result;
+    uint8_t v2;
+    v2 = *a1;
+    result.tag = 0u;
+    result.u8_0 = v2;
+    return result;
+}
+
+/* core::clone::surely_u8 */
+static uint8_t core__clone__surely_u8(const uint8_t *a1)
+{
+    uint8_t result;
+    uint8_t v2;
+    core__Result_u8_AllocError v3;
+    uint8_t v4;
+    v3 = core__clone__U8Clone__clone(a1);
+    switch (v3.tag) {
+    default: /* 0 */
+        v2 = v3.u8_0;
+        v4 = v2;
+        break;
+    }
+    result = v4;
+    return result;
+}
+
+/* core::slice_T::fill_u8 */
+static void core__slice_T__fill_u8(slice_mut_u8 a1, uint8_t a2)
+{
+    uint8_t v3;
+    uint64_t v4;
+    uint64_t v5;
+    _Bool v6;
+    uint64_t v7;
+    _Bool v8;
+    uint8_t v9;
+    const uint8_t *v10;
+    uint8_t *v11;
+    uint8_t v12;
+    uint64_t v13;
+    uint64_t v14;
+    uint8_t *v15;
+    v3 = a2;
+    v4 = a1.length;
+    v6 = v4 == UINT64_C(0);
+    if (v6) {
+        return;
+    }
+    v5 = UINT64_C(0);
     for (;;) {
-        v4 = a1.length;
-        v5 = v3 < v4;
-        if (!v5) {
+        v7 = v4 - UINT64_C(1);
+        v8 = v5 < v7;
+        if (!v8) {
             break;
         }
-        v6 = a1.at + (size_t)v3;
-        *v6 = a2;
-        v3 = v3 + UINT64_C(1);
+        v10 = &v3;
+        v9 = core__clone__surely_u8(v10);
+        v7 = v5;
+        v11 = a1.at + (size_t)v7;
+        *v11 = v9;
+        v5 = v5 + UINT64_C(1);
     }
+    v12 = v3;
+    v13 = v4 - UINT64_C(1);
+    v14 = v13;
+    v15 = a1.at + (size_t)v14;
+    *v15 = v12;
     return;
 }
 
-/* hex_line::digit::digit */
-static uint8_t hex_line__digit__digit(uint8_t a1)
+/* core::Option::unwrap_or_u8 */
+static uint8_t core__Option__unwrap_or_u8(const core__Option_u8 *a1, uint8_t a2)
 {
     uint8_t result;
-    _Bool v2;
-    v2 = a1 < 48u;
-    if (v2) {
-        result = 16u;
-        return result;
+    uint8_t v3;
+    uint8_t v4;
+    switch (a1->tag) {
+    case 1u:
+        v3 = a1->u8_0;
+        v4 = v3;
+        break;
+    default: /* 0 */
+        v4 = a2;
+        break;
     }
-    v2 = a1 < 58u;
-    if (v2) {
-        result = (uint8_t)((unsigned)a1 - 48u);
-        return result;
+    result = v4;
+    return result;
+}
+
+/* core::Option::unwrap_ref_u8 */
+static const uint8_t *core__Option__unwrap_ref_u8(const core__Option_ref_u8 *a1)
+{
+    const uint8_t *result;
+    const uint8_t *v2;
+    const uint8_t *v3;
+    switch (a1->tag) {
+    default: /* 1 */
+        v2 = a1->ref_u8_0;
+        v3 = v2;
+        break;
     }
-    v2 = a1 < 65u;
-    if (v2) {
-        result = 16u;
-        return result;
+    result = v3;
+    return result;
+}
+
+/* core::Option_ref_T::copied_u8 */
+static core__Option_u8 core__Option_ref_T__copied_u8(const core__Option_ref_u8 *a1)
+{
+    core__Option_u8 result;
+    core__Option_u8 v2;
+    const uint8_t *v3;
+    core__Option_ref_u8 v4;
+    uint8_t v5;
+    switch (a1->tag) {
+    case 1u:
+        v4.tag = a1->tag;
+        v4.ref_u8_0 = a1->ref_u8_0;
+        v3 = core__Option__unwrap_ref_u8(&v4);
+        v5 = *v3;
+        v2.tag = 1u;
+        v2.u8_0 = v5;
+        break;
+    default: /* 0 */
+        v2.tag = 0u;
+        v2.u8_0 = 0;
+        break;
     }
-    v2 = a1 < 71u;
-    if (v2) {
-        result = (uint8_t)((unsigned)a1 - 55u);
-        return result;
+    result.tag = v2.tag;
+    result.u8_0 = v2.u8_0;
+    return result;
+}
+
+/* core::convert::UsizeFromU8::from */
+static uint64_t core__convert__UsizeFromU8__from(uint8_t a1)
+{
+    uint64_t result;
+    result = (uint64_t)a1;
+    return result;
+}
+
+/* core::UsizeSliceIndexRefSlice::pick_u8 */
+static core__Option_ref_u8 core__UsizeSliceIndexRefSlice__pick_u8(uint64_t a1, slice_u8 a2)
+{
+    core__Option_ref_u8 result;
+    uint64_t v3;
+    _Bool v4;
+    core__Option_ref_u8 v5;
+    uint64_t v6;
+    const uint8_t *v7;
+    const uint8_t *v8;
+    v3 = a2.length;
+    v4 = a1 < v3;
+    if (v4) {
+        v6 = a1;
+        v7 = a2.at + (size_t)v6;
+        v8 = v7;
+        v5.tag = 1u;
+        v5.ref_u8_0 = v8;
+    } else {
+        v5.tag = 0u;
+        v5.ref_u8_0 = 0;
     }
-    v2 = a1 < 97u;
-    if (v2) {
-        result = 16u;
-        return result;
+    result.tag = v5.tag;
+    result.ref_u8_0 = v5.ref_u8_0;
+    return result;
+}
+
+/* core::slice_T::get_u8_u64_ref_u8 */
+static core__Option_ref_u8 core__slice_T__get_u8_u64_ref_u8(slice_u8 a1, uint64_t a2)
+{
+    core__Option_ref_u8 result;
+    uint64_t v3;
+    v3 = a2;
+    result = core__UsizeSliceIndexRefSlice__pick_u8(v3, a1);
+    return result;
+}
+
+/* hex_line::digit::digit */
+static core__Option_u8 hex_line__digit__digit(uint8_t a1)
+{
+    core__Option_u8 result;
+    core__Option_u8 v2;
+    _Bool v3;
+    uint8_t v4;
+    uint8_t v5;
+    uint8_t v6;
+    uint8_t v7;
+    uint8_t v8;
+    v3 = a1 < 48u;
+    if (v3) {
+        goto end2;
     }
-    v2 = a1 < 103u;
-    if (v2) {
-        result = (uint8_t)((unsigned)a1 - 87u);
-        return result;
+    v3 = a1 < 58u;
+    if (v3) {
+        v4 = (uint8_t)((unsigned)a1 - 48u);
+        v2.tag = 1u;
+        v2.u8_0 = v4;
+        goto end1;
     }
-    result = 16u;
+    v3 = a1 < 65u;
+    if (v3) {
+        goto end2;
+    }
+    v3 = a1 < 71u;
+    if (v3) {
+        v5 = (uint8_t)((unsigned)a1 - 65u);
+        v6 = (uint8_t)((unsigned)v5 + 10u);
+        v2.tag = 1u;
+        v2.u8_0 = v6;
+        goto end1;
+    }
+    v3 = a1 < 97u;
+    if (v3) {
+        goto end2;
+    }
+    v3 = a1 < 103u;
+    if (v3) {
+        v7 = (uint8_t)((unsigned)a1 - 97u);
+        v8 = (uint8_t)((unsigned)v7 + 10u);
+        v2.tag = 1u;
+        v2.u8_0 = v8;
+        goto end1;
+    }
+    goto end2;
+    end2:;
+    v2.tag = 0u;
+    v2.u8_0 = 0;
+    end1:;
+    result.tag = v2.tag;
+    result.u8_0 = v2.u8_0;
     return result;
 }
 
@@ -137,16 +696,113 @@ static uint8_t hex_line__digit__octet(uint8_t a1, uint8_t a2)
 {
     uint8_t result;
     uint8_t v3;
-    uint8_t v4;
+    core__Option_u8 v4;
     uint8_t v5;
     uint8_t v6;
+    core__Option_u8 v7;
+    v4 = hex_line__digit__digit(a1);
+    v3 = core__Option__unwrap_or_u8(&v4, 0u);
+    v5 = (uint8_t)((unsigned)v3 * 16u);
+    v7 = hex_line__digit__digit(a2);
+    v6 = core__Option__unwrap_or_u8(&v7, 0u);
+    result = (uint8_t)((unsigned)v5 + v6);
+    return result;
+}
+
+/* hex_line::line::count */
+static uint64_t hex_line__line__count(slice_u8 a1)
+{
+    uint64_t result;
+    uint8_t v2;
+    uint8_t v3;
+    core__Option_u8 v4;
+    core__Option_ref_u8 v5;
+    uint8_t v6;
+    v5 = core__slice_T__get_u8_u64_ref_u8(a1, UINT64_C(1));
+    v4 = core__Option_ref_T__copied_u8(&v5);
+    v2 = core__Option__unwrap_or_u8(&v4, 0u);
+    v5 = core__slice_T__get_u8_u64_ref_u8(a1, UINT64_C(2));
+    v4 = core__Option_ref_T__copied_u8(&v5);
+    v3 = core__Option__unwrap_or_u8(&v4, 0u);
+    v6 = hex_line__digit__octet(v2, v3);
+    result = core__convert__UsizeFromU8__from(v6);
+    return result;
+}
+
+/* hex_line::line::end_bytes */
+static core__Option_u64 hex_line__line__end_bytes(slice_u8 a1)
+{
+    core__Option_u64 result;
+    core__Option_u64 v2;
+    _Bool v3;
+    const uint8_t *v4;
+    uint8_t v5;
+    const uint8_t *v6;
     uint8_t v7;
-    v3 = hex_line__digit__digit(a1);
-    v4 = (uint8_t)((unsigned)v3 % 16u);
-    v5 = (uint8_t)((unsigned)v4 * 16u);
-    v6 = hex_line__digit__digit(a2);
-    v7 = (uint8_t)((unsigned)v6 % 16u);
-    result = (uint8_t)((unsigned)v5 + v7);
+    const uint8_t *v8;
+    uint8_t v9;
+    v3 = a1.length < UINT64_C(1);
+    if (v3) {
+        goto end2;
+    }
+    v3 = a1.length < UINT64_C(2);
+    if (v3) {
+        v4 = a1.at + (size_t)UINT64_C(0);
+        v5 = *v4;
+        switch (v5) {
+        case 10u:
+            goto end3;
+        default:
+            goto end2;
+        }
+    }
+    v6 = a1.at + (size_t)UINT64_C(0);
+    v7 = *v6;
+    switch (v7) {
+    case 10u:
+        goto end3;
+    case 13u:
+        v8 = a1.at + (size_t)UINT64_C(1);
+        v9 = *v8;
+        switch (v9) {
+        case 10u:
+            v2.tag = 1u;
+            v2.u64_0 = UINT64_C(2);
+            goto end1;
+        default:
+            goto end2;
+        }
+    default:
+        goto end2;
+    }
+    end3:;
+    v2.tag = 1u;
+    v2.u64_0 = UINT64_C(1);
+    goto end1;
+    end2:;
+    v2.tag = 0u;
+    v2.u64_0 = 0;
+    end1:;
+    result.tag = v2.tag;
+    result.u64_0 = v2.u64_0;
+    return result;
+}
+
+/* hex_line::line::word */
+static uint64_t hex_line__line__word(uint8_t a1, uint8_t a2, uint8_t a3, uint8_t a4)
+{
+    uint64_t result;
+    uint64_t v5;
+    uint8_t v6;
+    uint64_t v7;
+    uint64_t v8;
+    uint8_t v9;
+    v6 = hex_line__digit__octet(a1, a2);
+    v5 = core__convert__UsizeFromU8__from(v6);
+    v7 = UINT64_C(256) * v5;
+    v9 = hex_line__digit__octet(a3, a4);
+    v8 = core__convert__UsizeFromU8__from(v9);
+    result = v7 + v8;
     return result;
 }
 
@@ -157,60 +813,44 @@ static hex_read__fill__Front hex_read__fill__head(slice_u8 a1)
     uint64_t v2;
     uint64_t v3;
     uint64_t v4;
-    uint8_t v5;
+    uint64_t v5;
     const uint8_t *v6;
     uint8_t v7;
     const uint8_t *v8;
     uint8_t v9;
     const uint8_t *v10;
-    const uint8_t *v11;
-    uint64_t v12;
-    uint64_t v13;
-    uint8_t v14;
-    const uint8_t *v15;
-    uint8_t v16;
-    const uint8_t *v17;
-    uint8_t v18;
-    uint64_t v19;
-    const uint8_t *v20;
-    _Bool v21;
-    uint64_t v22;
-    v6 = a1.at + (size_t)UINT64_C(1);
+    uint8_t v11;
+    const uint8_t *v12;
+    uint8_t v13;
+    uint64_t v14;
+    core__Option_u64 v15;
+    const uint8_t *v16;
+    uint64_t v17;
+    const uint8_t *v18;
+    slice_u8 v19;
+    v2 = hex_line__line__count(a1);
+    v6 = a1.at + (size_t)UINT64_C(3);
     v7 = *v6;
-    v8 = a1.at + (size_t)UINT64_C(2);
+    v8 = a1.at + (size_t)UINT64_C(4);
     v9 = *v8;
-    v5 = hex_line__digit__octet(v7, v9);
-    v2 = (uint64_t)v5;
-    v10 = a1.at + (size_t)UINT64_C(3);
-    v9 = *v10;
-    v11 = a1.at + (size_t)UINT64_C(4);
-    v7 = *v11;
-    v5 = hex_line__digit__octet(v9, v7);
-    v12 = (uint64_t)v5;
-    v13 = UINT64_C(256) * v12;
-    v15 = a1.at + (size_t)UINT64_C(5);
-    v16 = *v15;
-    v17 = a1.at + (size_t)UINT64_C(6);
-    v18 = *v17;
-    v14 = hex_line__digit__octet(v16, v18);
-    v19 = (uint64_t)v14;
-    v3 = v13 + v19;
-    v12 = UINT64_C(2) * v2;
-    v4 = v12 + UINT64_C(11);
-    v20 = a1.at + (size_t)v4;
-    v5 = *v20;
-    v21 = v5 == 10u;
-    if (v21) {
-        v22 = v4 + UINT64_C(1);
-        result.f0 = v3;
-        result.f1 = v2;
-        result.f2 = v22;
-        return result;
-    }
-    v12 = v4 + UINT64_C(2);
+    v10 = a1.at + (size_t)UINT64_C(5);
+    v11 = *v10;
+    v12 = a1.at + (size_t)UINT64_C(6);
+    v13 = *v12;
+    v3 = hex_line__line__word(v7, v9, v11, v13);
+    v14 = UINT64_C(2) * v2;
+    v4 = v14 + UINT64_C(11);
+    v16 = a1.at + (size_t)v4;
+    v17 = a1.length - v4;
+    v18 = v16;
+    v19.at = v18;
+    v19.length = v17;
+    v15 = hex_line__line__end_bytes(v19);
+    v14 = core__Option__unwrap_or_u64(&v15, UINT64_C(0));
+    v5 = v4 + v14;
     result.f0 = v3;
     result.f1 = v2;
-    result.f2 = v12;
+    result.f2 = v5;
     return result;
 }
 
@@ -218,33 +858,36 @@ static hex_read__fill__Front hex_read__fill__head(slice_u8 a1)
 static void hex_read__fill__place(slice_mut_u8 a1, slice_u8 a2)
 {
     uint64_t v3;
-    uint64_t v4;
-    _Bool v5;
-    uint8_t v6;
-    const uint8_t *v7;
+    uint8_t *v4;
+    uint64_t v5;
+    _Bool v6;
+    uint8_t *v7;
     uint8_t v8;
     uint64_t v9;
-    uint64_t v10;
-    const uint8_t *v11;
-    uint8_t v12;
-    uint8_t *v13;
+    const uint8_t *v10;
+    uint8_t v11;
+    uint64_t v12;
+    uint64_t v13;
+    const uint8_t *v14;
+    uint8_t v15;
     v3 = UINT64_C(0);
+    v5 = a1.length;
     for (;;) {
-        v4 = a1.length;
-        v5 = v3 < v4;
-        if (!v5) {
+        v6 = v3 < v5;
+        if (!v6) {
             break;
         }
-        v4 = UINT64_C(2) * v3;
-        v7 = a2.at + (size_t)v4;
-        v8 = *v7;
+        v7 = a1.at + (size_t)v3;
+        v4 = v7;
         v9 = UINT64_C(2) * v3;
-        v10 = v9 + UINT64_C(1);
-        v11 = a2.at + (size_t)v10;
-        v12 = *v11;
-        v6 = hex_line__digit__octet(v8, v12);
-        v13 = a1.at + (size_t)v3;
-        *v13 = v6;
+        v10 = a2.at + (size_t)v9;
+        v11 = *v10;
+        v12 = UINT64_C(2) * v3;
+        v13 = v12 + UINT64_C(1);
+        v14 = a2.at + (size_t)v13;
+        v15 = *v14;
+        v8 = hex_line__digit__octet(v11, v15);
+        *v4 = v8;
         v3 = v3 + UINT64_C(1);
     }
     return;
@@ -307,7 +950,7 @@ static void hex_read__fill__fill(slice_mut_u8 a1, uint64_t a2, slice_u8 a3)
     v7 = a1.at;
     v8.at = v7;
     v8.length = a1.length;
-    hex_read__buffer__set_all(v8, 255u);
+    core__slice_T__fill_u8(v8, 255u);
     v4 = UINT64_C(0);
     for (;;) {
         v9 = a3.length;
@@ -335,308 +978,473 @@ static void hex_read__fill__fill(slice_mut_u8 a1, uint64_t a2, slice_u8 a3)
     return;
 }
 
-/* hex_read::read::refused */
-static c2_hex_image hex_read__read__refused(uint32_t a1, uint64_t a2)
-{
-    c2_hex_image result;
-    result.number = a1;
-    result.line = a2;
-    result.first_page = UINT32_C(0);
-    result.length = UINT64_C(0);
-    return result;
-}
-
-/* hex_line::line::count */
-static uint64_t hex_line__line__count(slice_u8 a1)
-{
-    uint64_t result;
-    uint8_t v2;
-    const uint8_t *v3;
-    uint8_t v4;
-    const uint8_t *v5;
-    uint8_t v6;
-    v3 = a1.at + (size_t)UINT64_C(1);
-    v4 = *v3;
-    v5 = a1.at + (size_t)UINT64_C(2);
-    v6 = *v5;
-    v2 = hex_line__digit__octet(v4, v6);
-    result = (uint64_t)v2;
-    return result;
-}
-
 /* hex_line::line::judge_kind */
-static hex_format__Line hex_line__line__judge_kind(uint64_t a1, uint8_t a2, uint64_t a3, uint64_t a4)
+static core__Result_Record_Refusal hex_line__line__judge_kind(uint64_t a1, uint8_t a2, uint64_t a3,
+    uint64_t a4)
 {
-    hex_format__Line result;
-    _Bool v5;
+    core__Result_Record_Refusal result;
+    core__Result_Record_Refusal v5;
     _Bool v6;
-    uint64_t v7;
+    _Bool v7;
     _Bool v8;
-    _Bool v9;
-    _Bool v10;
-    v5 = a2 == 0u;
-    if (v5) {
-        v6 = a3 == UINT64_C(0);
-        if (v6) {
-            result.tag = 1u;
-            result.u64_0 = a4;
-            result.u64_1 = a3;
-            result.u32_0 = 0;
-            return result;
-        }
-        v6 = a3 <= a1;
-        if (v6) {
-            v7 = a1 - a3;
-            v8 = a4 <= v7;
+    uint64_t v9;
+    hex_format__Record v10;
+    _Bool v11;
+    _Bool v12;
+    hex_format__Record v13;
+    numbers__Refusal v14;
+    switch (a2) {
+    case 0u:
+        v7 = a3 == UINT64_C(0);
+        if (!v7) {
+            v8 = a3 <= a1;
             if (v8) {
-                result.tag = 1u;
-                result.u64_0 = a4;
-                result.u64_1 = a3;
-                result.u32_0 = 0;
-                return result;
+                v9 = a1 - a3;
+                v8 = a4 <= v9;
             }
-            result.tag = 0u;
-            result.u32_0 = UINT32_C(22);
-            result.u64_0 = 0;
-            result.u64_1 = 0;
-            return result;
+            v7 = v8;
         }
-        result.tag = 0u;
-        result.u32_0 = UINT32_C(22);
-        result.u64_0 = 0;
-        result.u64_1 = 0;
-        return result;
-    }
-    v5 = a2 == 1u;
-    if (v5) {
-        v9 = a3 == UINT64_C(0);
-        if (v9) {
-            v10 = a4 == UINT64_C(0);
-            if (v10) {
-                result.tag = 2u;
-                result.u32_0 = 0;
-                result.u64_0 = 0;
-                result.u64_1 = 0;
-                return result;
+        v6 = v7;
+        if (v6) {
+            v10.tag = 0u;
+            v10.u64_0 = a4;
+            v10.u64_1 = a3;
+            v5.tag = 0u;
+            v5.hex_format__Record_0.tag = v10.tag;
+            v5.hex_format__Record_0.u64_0 = v10.u64_0;
+            v5.hex_format__Record_0.u64_1 = v10.u64_1;
+            v5.numbers__Refusal_0 = 0;
+            goto end1;
+        }
+        goto end2;
+    case 1u:
+        v11 = a3 == UINT64_C(0);
+        if (v11) {
+            v11 = a4 == UINT64_C(0);
+            v12 = v11;
+            if (v12) {
+                v13.tag = 1u;
+                v13.u64_0 = 0;
+                v13.u64_1 = 0;
+                v5.tag = 0u;
+                v5.hex_format__Record_0.tag = v13.tag;
+                v5.hex_format__Record_0.u64_0 = v13.u64_0;
+                v5.hex_format__Record_0.u64_1 = v13.u64_1;
+                v5.numbers__Refusal_0 = 0;
+                goto end1;
             }
-            result.tag = 0u;
-            result.u32_0 = UINT32_C(22);
-            result.u64_0 = 0;
-            result.u64_1 = 0;
-            return result;
         }
-        result.tag = 0u;
-        result.u32_0 = UINT32_C(22);
-        result.u64_0 = 0;
-        result.u64_1 = 0;
-        return result;
+        goto end2;
+    default:
+        goto end2;
     }
+    end2:;
+    v14 = 14u;
+    v5.tag = 1u;
+    v5.numbers__Refusal_0 = v14;
+    v5.hex_format__Record_0.tag = 0;
+    v5.hex_format__Record_0.u64_0 = 0;
+    v5.hex_format__Record_0.u64_1 = 0;
+    end1:;
+    result.tag = v5.tag;
+    result.hex_format__Record_0.tag = v5.hex_format__Record_0.tag;
+    result.hex_format__Record_0.u64_0 = v5.hex_format__Record_0.u64_0;
+    result.hex_format__Record_0.u64_1 = v5.hex_format__Record_0.u64_1;
+    result.numbers__Refusal_0 = v5.numbers__Refusal_0;
+    return result;
+}
+
+/* core::OptionFromResidualNoValue::from_residual_Shape */
+static core__Option_Shape core__OptionFromResidualNoValue__from_residual_Shape(void)
+{
+    core__Option_Shape result;
     result.tag = 0u;
-    result.u32_0 = UINT32_C(22);
-    result.u64_0 = 0;
-    result.u64_1 = 0;
+    result.hex_line__line__Shape_0.f0 = 0;
+    result.hex_line__line__Shape_0.f1 = 0;
     return result;
 }
 
-/* hex_line::line::end_bytes */
-static uint64_t hex_line__line__end_bytes(slice_u8 a1)
+/* core::OptionTry::branch_u64 */
+static core__ControlFlow_NoValue_u64 core__OptionTry__branch_u64(const core__Option_u64 *a1)
 {
-    uint64_t result;
+    core__ControlFlow_NoValue_u64 result;
     uint64_t v2;
-    _Bool v3;
-    const uint8_t *v4;
-    uint8_t v5;
-    const uint8_t *v6;
-    const uint8_t *v7;
-    uint8_t v8;
-    _Bool v9;
-    v2 = a1.length;
-    v3 = v2 == UINT64_C(0);
-    if (v3) {
-        result = UINT64_C(0);
-        return result;
+    core__ControlFlow_NoValue_u64 v3;
+    uint64_t v4;
+    switch (a1->tag) {
+    case 1u:
+        v2 = a1->u64_0;
+        v4 = v2;
+        v3.tag = 0u;
+        v3.u64_0 = v4;
+        break;
+    default: /* 0 */
+        v3.tag = 1u;
+        v3.u64_0 = 0;
+        break;
     }
-    v4 = a1.at + (size_t)UINT64_C(0);
-    v5 = *v4;
-    v3 = v5 == 10u;
-    if (v3) {
-        result = UINT64_C(1);
-        return result;
-    }
-    v2 = a1.length;
-    v3 = v2 == UINT64_C(1);
-    if (v3) {
-        result = UINT64_C(0);
-        return result;
-    }
-    v6 = a1.at + (size_t)UINT64_C(0);
-    v5 = *v6;
-    v3 = v5 == 13u;
-    if (v3) {
-        v7 = a1.at + (size_t)UINT64_C(1);
-        v8 = *v7;
-        v9 = v8 == 10u;
-        if (v9) {
-            result = UINT64_C(2);
-            return result;
-        }
-        result = UINT64_C(0);
-        return result;
-    }
-    result = UINT64_C(0);
+    result.tag = v3.tag;
+    result.u64_0 = v3.u64_0;
     return result;
 }
 
-/* core::num::wrapping_add_u8 */
-static uint8_t core__num__wrapping_add_u8(uint8_t a1, uint8_t a2)
+/* core::OptionTry::branch_u8 */
+static core__ControlFlow_NoValue_u8 core__OptionTry__branch_u8(const core__Option_u8 *a1)
 {
-    uint8_t result;
-    result = (uint8_t)((unsigned)a1 + a2);
+    core__ControlFlow_NoValue_u8 result;
+    uint8_t v2;
+    core__ControlFlow_NoValue_u8 v3;
+    uint8_t v4;
+    switch (a1->tag) {
+    case 1u:
+        v2 = a1->u8_0;
+        v4 = v2;
+        v3.tag = 0u;
+        v3.u8_0 = v4;
+        break;
+    default: /* 0 */
+        v3.tag = 1u;
+        v3.u8_0 = 0;
+        break;
+    }
+    result.tag = v3.tag;
+    result.u8_0 = v3.u8_0;
+    return result;
+}
+
+/* core::AnyIntoIterator::into_iter_ChunksExact_u8_s_3f1896 */
+static core__ChunksExact_u8 core__AnyIntoIterator__into_iter_ChunksExact_u8_s_3f1896(
+    const core__ChunksExact_u8 *a1)
+{
+    core__ChunksExact_u8 result;
+    result.f0.at = a1->f0.at;
+    result.f0.length = a1->f0.length;
+    result.f1.at = a1->f1.at;
+    result.f1.length = a1->f1.length;
+    result.f2 = a1->f2;
+    return result;
+}
+
+/* core::ChunksExactIterator::next_u8 */
+static core__Option_slice_ref_u8 core__ChunksExactIterator__next_u8(core__ChunksExact_u8 *a1)
+{
+    core__Option_slice_ref_u8 result;
+    slice_u8 v2;
+    uint64_t v3;
+    uint64_t v4;
+    _Bool v5;
+    const uint8_t *v6;
+    uint64_t v7;
+    const uint8_t *v8;
+    slice_u8 v9;
+    const uint8_t *v10;
+    slice_u8 v11;
+    v2.at = a1->f0.at;
+    v2.length = a1->f0.length;
+    v3 = a1->f2;
+    v4 = v2.length;
+    v5 = v4 < v3;
+    if (v5) {
+        result.tag = 0u;
+        result.slice_u8_0.at = 0;
+        result.slice_u8_0.length = 0;
+        return result;
+    }
+    v4 = v3;
+    v6 = v2.at + (size_t)v4;
+    v7 = v2.length - v3;
+    v8 = v6;
+    v9.at = v8;
+    v9.length = v7;
+    a1->f0.at = v9.at;
+    a1->f0.length = v9.length;
+    v10 = v2.at;
+    v11.at = v10;
+    v11.length = v3;
+    result.tag = 1u;
+    result.slice_u8_0.at = v11.at;
+    result.slice_u8_0.length = v11.length;
+    return result;
+}
+
+/* core::OptionFromResidualNoValue::from_residual_u8 */
+static core__Option_u8 core__OptionFromResidualNoValue__from_residual_u8(void)
+{
+    core__Option_u8 result;
+    result.tag = 0u;
+    result.u8_0 = 0;
+    return result;
+}
+
+/* core::slice_T::split_at_u8 */
+static core__tuple_slice_ref_u8_slice_ref_u8 core__slice_T__split_at_u8(slice_u8 a1, uint64_t a2)
+{
+    core__tuple_slice_ref_u8_slice_ref_u8 result;
+    const uint8_t *v3;
+    slice_u8 v4;
+    uint64_t v5;
+    const uint8_t *v6;
+    uint64_t v7;
+    const uint8_t *v8;
+    slice_u8 v9;
+    v3 = a1.at;
+    v4.at = v3;
+    v4.length = a2;
+    v5 = a2;
+    v6 = a1.at + (size_t)v5;
+    v7 = a1.length - a2;
+    v8 = v6;
+    v9.at = v8;
+    v9.length = v7;
+    result.f0.at = v4.at;
+    result.f0.length = v4.length;
+    result.f1.at = v9.at;
+    result.f1.length = v9.length;
+    return result;
+}
+
+/* core::slice_T::chunks_exact_u8 */
+static core__ChunksExact_u8 core__slice_T__chunks_exact_u8(slice_u8 a1, uint64_t a2)
+{
+    core__ChunksExact_u8 result;
+    slice_u8 v3;
+    core__tuple_slice_ref_u8_slice_ref_u8 v4;
+    uint64_t v5;
+    uint64_t v6;
+    uint64_t v7;
+    uint64_t v8;
+    v5 = a1.length;
+    v6 = a1.length;
+    v7 = v6 % a2;
+    v8 = v5 - v7;
+    v4 = core__slice_T__split_at_u8(a1, v8);
+    v3.at = v4.f1.at;
+    v3.length = v4.f1.length;
+    result.f0.at = a1.at;
+    result.f0.length = a1.length;
+    result.f1.at = v3.at;
+    result.f1.length = v3.length;
+    result.f2 = a2;
     return result;
 }
 
 /* hex_line::line::weigh */
-static uint16_t hex_line__line__weigh(slice_u8 a1)
+static core__Option_u8 hex_line__line__weigh(slice_u8 a1)
 {
-    uint16_t result;
+    core__Option_u8 result;
     uint8_t v2;
-    uint64_t v3;
-    uint8_t v4;
-    uint8_t v5;
-    uint64_t v6;
-    uint64_t v7;
-    _Bool v8;
-    const uint8_t *v9;
+    core__ChunksExact_u8 v3;
+    core__ChunksExact_u8 v4;
+    slice_u8 v5;
+    slice_u8 v6;
+    uint8_t v7;
+    uint8_t v8;
     uint8_t v10;
-    const uint8_t *v11;
-    uint8_t v12;
+    uint8_t v11;
+    core__ChunksExact_u8 v13;
+    core__ChunksExact_u8 v14;
+    core__ChunksExact_u8 v15;
+    core__Option_slice_ref_u8 v16;
+    core__ChunksExact_u8 *v17;
+    slice_u8 v18;
+    core__ControlFlow_NoValue_u8 v19;
+    core__Option_u8 v20;
+    const uint8_t *v21;
+    uint8_t v22;
+    uint8_t v23;
+    core__ControlFlow_NoValue_u8 v24;
+    const uint8_t *v25;
+    uint8_t v26;
+    uint8_t v27;
     v2 = 0u;
-    v3 = UINT64_C(0);
+    v13 = core__slice_T__chunks_exact_u8(a1, UINT64_C(2));
+    v3.f0.at = v13.f0.at;
+    v3.f0.length = v13.f0.length;
+    v3.f1.at = v13.f1.at;
+    v3.f1.length = v13.f1.length;
+    v3.f2 = v13.f2;
+    v15.f0.at = v3.f0.at;
+    v15.f0.length = v3.f0.length;
+    v15.f1.at = v3.f1.at;
+    v15.f1.length = v3.f1.length;
+    v15.f2 = v3.f2;
+    v14 = core__AnyIntoIterator__into_iter_ChunksExact_u8_s_3f1896(&v15);
+    v4.f0.at = v14.f0.at;
+    v4.f0.length = v14.f0.length;
+    v4.f1.at = v14.f1.at;
+    v4.f1.length = v14.f1.length;
+    v4.f2 = v14.f2;
     for (;;) {
-        v6 = a1.length;
-        v7 = v6 - v3;
-        v8 = UINT64_C(2) <= v7;
-        if (!v8) {
+        v17 = &v4;
+        v16 = core__ChunksExactIterator__next_u8(v17);
+        switch (v16.tag) {
+        case 1u:
+            v5.at = v16.slice_u8_0.at;
+            v5.length = v16.slice_u8_0.length;
+            v18.at = v5.at;
+            v18.length = v5.length;
             break;
+        default: /* 0 */
+            goto end1;
         }
-        v9 = a1.at + (size_t)v3;
-        v10 = *v9;
-        v4 = hex_line__digit__digit(v10);
-        v6 = v3 + UINT64_C(1);
-        v11 = a1.at + (size_t)v6;
-        v10 = *v11;
-        v5 = hex_line__digit__digit(v10);
-        v8 = 16u <= v4;
-        if (v8) {
-            result = 256u;
+        v6.at = v18.at;
+        v6.length = v18.length;
+        v21 = v6.at + (size_t)UINT64_C(0);
+        v22 = *v21;
+        v20 = hex_line__digit__digit(v22);
+        v19 = core__OptionTry__branch_u8(&v20);
+        switch (v19.tag) {
+        case 0u:
+            v8 = v19.u8_0;
+            v23 = v8;
+            break;
+        default: /* 1 */
+            result = core__OptionFromResidualNoValue__from_residual_u8();
             return result;
         }
-        v8 = 16u <= v5;
-        if (v8) {
-            result = 256u;
+        v7 = v23;
+        v25 = v6.at + (size_t)UINT64_C(1);
+        v22 = *v25;
+        v20 = hex_line__digit__digit(v22);
+        v24 = core__OptionTry__branch_u8(&v20);
+        switch (v24.tag) {
+        case 0u:
+            v11 = v24.u8_0;
+            v26 = v11;
+            break;
+        default: /* 1 */
+            result = core__OptionFromResidualNoValue__from_residual_u8();
             return result;
         }
-        v10 = (uint8_t)((unsigned)v4 * 16u);
-        v12 = (uint8_t)((unsigned)v10 + v5);
-        v2 = core__num__wrapping_add_u8(v2, v12);
-        v3 = v3 + UINT64_C(2);
+        v10 = v26;
+        v22 = (uint8_t)((unsigned)v7 * 16u);
+        v27 = (uint8_t)((unsigned)v22 + v10);
+        v2 = (uint8_t)((unsigned)v2 + v27);
     }
-    result = (uint16_t)v2;
+    end1:;
+    result.tag = 1u;
+    result.u8_0 = v2;
     return result;
 }
 
 /* hex_line::line::measure */
-static hex_line__line__Shape hex_line__line__measure(slice_u8 a1)
+static core__Option_Shape hex_line__line__measure(slice_u8 a1)
 {
-    hex_line__line__Shape result;
-    hex_line__line__Shape v2;
-    uint64_t v3;
-    uint16_t v4;
-    uint64_t v5;
-    uint64_t v6;
-    _Bool v7;
-    uint64_t v8;
-    const uint8_t *v9;
-    uint8_t v10;
-    const uint8_t *v11;
-    const uint8_t *v12;
-    slice_u8 v13;
-    const uint8_t *v14;
-    const uint8_t *v15;
-    slice_u8 v16;
-    v2.f0 = UINT64_C(0);
-    v2.f1 = 0u;
-    v6 = a1.length;
-    v7 = v6 < UINT64_C(3);
-    if (v7) {
-        result.f0 = v2.f0;
-        result.f1 = v2.f1;
-        return result;
-    }
-    v6 = hex_line__line__count(a1);
-    v8 = UINT64_C(2) * v6;
-    v3 = v8 + UINT64_C(11);
-    v6 = a1.length;
-    v7 = v6 <= v3;
-    if (v7) {
-        result.f0 = v2.f0;
-        result.f1 = v2.f1;
-        return result;
-    }
-    v9 = a1.at + (size_t)UINT64_C(0);
-    v10 = *v9;
-    v7 = v10 != 58u;
-    if (v7) {
-        result.f0 = v2.f0;
-        result.f1 = v2.f1;
-        return result;
-    }
-    v11 = a1.at + (size_t)UINT64_C(1);
-    v8 = v3 - UINT64_C(1);
-    v12 = v11;
-    v13.at = v12;
-    v13.length = v8;
-    v4 = hex_line__line__weigh(v13);
-    v7 = 256u <= v4;
-    if (v7) {
-        result.f0 = v2.f0;
-        result.f1 = v2.f1;
-        return result;
-    }
-    v14 = a1.at + (size_t)v3;
-    v8 = a1.length - v3;
-    v15 = v14;
-    v16.at = v15;
-    v16.length = v8;
-    v5 = hex_line__line__end_bytes(v16);
-    v7 = v5 == UINT64_C(0);
-    if (v7) {
-        result.f0 = v2.f0;
-        result.f1 = v2.f1;
-        return result;
-    }
-    v8 = v3 + v5;
-    v10 = (uint8_t)v4;
-    result.f0 = v8;
-    result.f1 = v10;
-    return result;
-}
-
-/* hex_line::line::word */
-static uint64_t hex_line__line__word(uint8_t a1, uint8_t a2, uint8_t a3, uint8_t a4)
-{
-    uint64_t result;
-    uint8_t v5;
+    core__Option_Shape result;
+    uint64_t v2;
+    uint8_t v3;
+    uint8_t v4;
     uint64_t v6;
     uint64_t v7;
-    uint8_t v8;
     uint64_t v9;
-    v5 = hex_line__digit__octet(a1, a2);
-    v6 = (uint64_t)v5;
-    v7 = UINT64_C(256) * v6;
-    v8 = hex_line__digit__octet(a3, a4);
-    v9 = (uint64_t)v8;
-    result = v7 + v9;
+    _Bool v10;
+    uint64_t v11;
+    slice_u8 v12;
+    uint64_t v13;
+    _Bool v14;
+    uint64_t v15;
+    uint64_t v16;
+    const uint8_t *v17;
+    uint8_t v18;
+    _Bool v19;
+    core__ControlFlow_NoValue_u8 v20;
+    core__Option_u8 v21;
+    uint64_t v22;
+    const uint8_t *v23;
+    uint64_t v24;
+    const uint8_t *v25;
+    slice_u8 v26;
+    uint8_t v27;
+    uint64_t v29;
+    uint64_t v30;
+    core__ControlFlow_NoValue_u64 v31;
+    core__Option_u64 v32;
+    uint64_t v33;
+    const uint8_t *v34;
+    uint64_t v35;
+    const uint8_t *v36;
+    slice_u8 v37;
+    uint64_t v38;
+    uint64_t v40;
+    uint8_t v41;
+    hex_line__line__Shape v42;
+    v9 = a1.length;
+    v10 = v9 < UINT64_C(3);
+    if (v10) {
+        result.tag = 0u;
+        result.hex_line__line__Shape_0.f0 = 0;
+        result.hex_line__line__Shape_0.f1 = 0;
+        return result;
+    }
+    v12.at = a1.at;
+    v12.length = a1.length;
+    v11 = hex_line__line__count(v12);
+    v13 = UINT64_C(2) * v11;
+    v2 = v13 + UINT64_C(11);
+    v15 = a1.length;
+    v16 = v2;
+    v14 = v15 <= v16;
+    if (!v14) {
+        v17 = a1.at + (size_t)UINT64_C(0);
+        v18 = *v17;
+        v14 = v18 != 58u;
+        v19 = v14;
+        if (!v19) {
+            goto end2;
+        }
+    }
+    result.tag = 0u;
+    result.hex_line__line__Shape_0.f0 = 0;
+    result.hex_line__line__Shape_0.f1 = 0;
+    return result;
+    goto end1;
+    end2:;
+    end1:;
+    v22 = v2;
+    v23 = a1.at + (size_t)UINT64_C(1);
+    v24 = v22 - UINT64_C(1);
+    v25 = v23;
+    v26.at = v25;
+    v26.length = v24;
+    v21 = hex_line__line__weigh(v26);
+    v20 = core__OptionTry__branch_u8(&v21);
+    switch (v20.tag) {
+    case 0u:
+        v4 = v20.u8_0;
+        v27 = v4;
+        break;
+    default: /* 1 */
+        result = core__OptionFromResidualNoValue__from_residual_Shape();
+        return result;
+    }
+    v3 = v27;
+    v29 = v2;
+    v33 = v2;
+    v34 = a1.at + (size_t)v33;
+    v35 = a1.length - v33;
+    v36 = v34;
+    v37.at = v36;
+    v37.length = v35;
+    v32 = hex_line__line__end_bytes(v37);
+    v31 = core__OptionTry__branch_u64(&v32);
+    switch (v31.tag) {
+    case 0u:
+        v7 = v31.u64_0;
+        v38 = v7;
+        break;
+    default: /* 1 */
+        result = core__OptionFromResidualNoValue__from_residual_Shape();
+        return result;
+    }
+    v30 = v38;
+    v6 = v29 + v30;
+    v40 = v6;
+    v41 = v3;
+    v42.f0 = v40;
+    v42.f1 = v41;
+    result.tag = 1u;
+    result.hex_line__line__Shape_0.f0 = v42.f0;
+    result.hex_line__line__Shape_0.f1 = v42.f1;
     return result;
 }
 
@@ -644,90 +1452,158 @@ static uint64_t hex_line__line__word(uint8_t a1, uint8_t a2, uint8_t a3, uint8_t
 static hex_line__line__Judged hex_line__line__judge(slice_u8 a1, uint64_t a2)
 {
     hex_line__line__Judged result;
-    hex_line__line__Shape v3;
-    hex_format__Line v4;
-    _Bool v5;
-    hex_format__Line v6;
-    hex_format__Line v7;
-    uint8_t v8;
-    const uint8_t *v9;
-    uint8_t v10;
-    const uint8_t *v11;
+    uint64_t v3;
+    uint8_t v4;
+    core__Result_Record_Refusal v5;
+    core__Option_Shape v6;
+    numbers__Refusal v7;
+    core__Result_Record_Refusal v8;
+    _Bool v9;
+    numbers__Refusal v10;
+    core__Result_Record_Refusal v11;
     uint8_t v12;
-    uint64_t v13;
-    uint64_t v14;
+    const uint8_t *v13;
+    uint8_t v14;
     const uint8_t *v15;
     uint8_t v16;
-    const uint8_t *v17;
-    uint8_t v18;
+    uint64_t v17;
+    uint64_t v18;
     const uint8_t *v19;
     uint8_t v20;
     const uint8_t *v21;
     uint8_t v22;
-    v3 = hex_line__line__measure(a1);
-    v5 = v3.f0 == UINT64_C(0);
-    if (v5) {
-        v6.tag = 0u;
-        v6.u32_0 = UINT32_C(20);
-        v6.u64_0 = 0;
-        v6.u64_1 = 0;
-        result.f0.tag = v6.tag;
-        result.f0.u32_0 = v6.u32_0;
-        result.f0.u64_0 = v6.u64_0;
-        result.f0.u64_1 = v6.u64_1;
+    const uint8_t *v23;
+    uint8_t v24;
+    const uint8_t *v25;
+    uint8_t v26;
+    v6 = hex_line__line__measure(a1);
+    switch (v6.tag) {
+    case 1u:
+        v3 = v6.hex_line__line__Shape_0.f0;
+        v4 = v6.hex_line__line__Shape_0.f1;
+        break;
+    default: /* 0 */
+        v7 = 12u;
+        v8.tag = 1u;
+        v8.numbers__Refusal_0 = v7;
+        v8.hex_format__Record_0.tag = 0;
+        v8.hex_format__Record_0.u64_0 = 0;
+        v8.hex_format__Record_0.u64_1 = 0;
+        result.f0.tag = v8.tag;
+        result.f0.hex_format__Record_0.tag = v8.hex_format__Record_0.tag;
+        result.f0.hex_format__Record_0.u64_0 = v8.hex_format__Record_0.u64_0;
+        result.f0.hex_format__Record_0.u64_1 = v8.hex_format__Record_0.u64_1;
+        result.f0.numbers__Refusal_0 = v8.numbers__Refusal_0;
         result.f1 = UINT64_C(0);
         return result;
     }
-    v5 = v3.f1 != 0u;
-    if (v5) {
-        v7.tag = 0u;
-        v7.u32_0 = UINT32_C(21);
-        v7.u64_0 = 0;
-        v7.u64_1 = 0;
-        result.f0.tag = v7.tag;
-        result.f0.u32_0 = v7.u32_0;
-        result.f0.u64_0 = v7.u64_0;
-        result.f0.u64_1 = v7.u64_1;
-        result.f1 = v3.f0;
+    v9 = v4 != 0u;
+    if (v9) {
+        v10 = 13u;
+        v11.tag = 1u;
+        v11.numbers__Refusal_0 = v10;
+        v11.hex_format__Record_0.tag = 0;
+        v11.hex_format__Record_0.u64_0 = 0;
+        v11.hex_format__Record_0.u64_1 = 0;
+        result.f0.tag = v11.tag;
+        result.f0.hex_format__Record_0.tag = v11.hex_format__Record_0.tag;
+        result.f0.hex_format__Record_0.u64_0 = v11.hex_format__Record_0.u64_0;
+        result.f0.hex_format__Record_0.u64_1 = v11.hex_format__Record_0.u64_1;
+        result.f0.numbers__Refusal_0 = v11.numbers__Refusal_0;
+        result.f1 = v3;
         return result;
     }
-    v9 = a1.at + (size_t)UINT64_C(7);
-    v10 = *v9;
-    v11 = a1.at + (size_t)UINT64_C(8);
-    v12 = *v11;
-    v8 = hex_line__digit__octet(v10, v12);
-    v13 = hex_line__line__count(a1);
-    v15 = a1.at + (size_t)UINT64_C(3);
+    v13 = a1.at + (size_t)UINT64_C(7);
+    v14 = *v13;
+    v15 = a1.at + (size_t)UINT64_C(8);
     v16 = *v15;
-    v17 = a1.at + (size_t)UINT64_C(4);
-    v18 = *v17;
-    v19 = a1.at + (size_t)UINT64_C(5);
+    v12 = hex_line__digit__octet(v14, v16);
+    v17 = hex_line__line__count(a1);
+    v19 = a1.at + (size_t)UINT64_C(3);
     v20 = *v19;
-    v21 = a1.at + (size_t)UINT64_C(6);
+    v21 = a1.at + (size_t)UINT64_C(4);
     v22 = *v21;
-    v14 = hex_line__line__word(v16, v18, v20, v22);
-    v4 = hex_line__line__judge_kind(a2, v8, v13, v14);
-    result.f0.tag = v4.tag;
-    result.f0.u32_0 = v4.u32_0;
-    result.f0.u64_0 = v4.u64_0;
-    result.f0.u64_1 = v4.u64_1;
-    result.f1 = v3.f0;
+    v23 = a1.at + (size_t)UINT64_C(5);
+    v24 = *v23;
+    v25 = a1.at + (size_t)UINT64_C(6);
+    v26 = *v25;
+    v18 = hex_line__line__word(v20, v22, v24, v26);
+    v5 = hex_line__line__judge_kind(a2, v12, v17, v18);
+    result.f0.tag = v5.tag;
+    result.f0.hex_format__Record_0.tag = v5.hex_format__Record_0.tag;
+    result.f0.hex_format__Record_0.u64_0 = v5.hex_format__Record_0.u64_0;
+    result.f0.hex_format__Record_0.u64_1 = v5.hex_format__Record_0.u64_1;
+    result.f0.numbers__Refusal_0 = v5.numbers__Refusal_0;
+    result.f1 = v3;
     return result;
 }
 
-/* hex_read::walk::late */
-static uint32_t hex_read__walk__late(_Bool a1)
+/* core::AnyFrom::from_Refusal */
+static numbers__Refusal core__AnyFrom__from_Refusal(numbers__Refusal a1)
 {
-    uint32_t result;
-    _Bool v2;
-    uint32_t v3;
-    v2 = a1;
-    if (v2) {
-        v3 = UINT32_C(24);
-    } else {
-        v3 = UINT32_C(0);
+    numbers__Refusal result;
+    result = a1;
+    return result;
+}
+
+/* core::ResultFromResidualErrResidual::from_residua_932db6 */
+static core__Result_Taken_Refusal core__ResultFromResidualErrResidual__from_residua_932db6(
+    const core__ErrResidual_Refusal *a1)
+{
+    core__Result_Taken_Refusal result;
+    numbers__Refusal v2;
+    numbers__Refusal v3;
+    v3 = a1->f0;
+    v2 = core__AnyFrom__from_Refusal(v3);
+    result.tag = 1u;
+    result.numbers__Refusal_0 = v2;
+    result.hex_read__walk__Taken_0.f0 = 0;
+    result.hex_read__walk__Taken_0.f1 = 0;
+    result.hex_read__walk__Taken_0.f2 = 0;
+    return result;
+}
+
+/* core::ResultTry::branch_Record_Refusal */
+static core__ControlFlow_ErrResidual_Refusal_Record core__ResultTry__branch_Record_Refusal(
+    const core__Result_Record_Refusal *a1)
+{
+    core__ControlFlow_ErrResidual_Refusal_Record result;
+    hex_format__Record v2;
+    numbers__Refusal v3;
+    core__ControlFlow_ErrResidual_Refusal_Record v4;
+    hex_format__Record v5;
+    numbers__Refusal v6;
+    core__ErrResidual_Refusal v7;
+    switch (a1->tag) {
+    case 0u:
+        v2.tag = a1->hex_format__Record_0.tag;
+        v2.u64_0 = a1->hex_format__Record_0.u64_0;
+        v2.u64_1 = a1->hex_format__Record_0.u64_1;
+        v5.tag = v2.tag;
+        v5.u64_0 = v2.u64_0;
+        v5.u64_1 = v2.u64_1;
+        v4.tag = 0u;
+        v4.hex_format__Record_0.tag = v5.tag;
+        v4.hex_format__Record_0.u64_0 = v5.u64_0;
+        v4.hex_format__Record_0.u64_1 = v5.u64_1;
+        v4.core__ErrResidual_Refusal_0.f0 = 0;
+        break;
+    default: /* 1 */
+        v3 = a1->numbers__Refusal_0;
+        v6 = v3;
+        v7.f0 = v6;
+        v4.tag = 1u;
+        v4.core__ErrResidual_Refusal_0.f0 = v7.f0;
+        v4.hex_format__Record_0.tag = 0;
+        v4.hex_format__Record_0.u64_0 = 0;
+        v4.hex_format__Record_0.u64_1 = 0;
+        break;
     }
-    result = v3;
+    result.tag = v4.tag;
+    result.hex_format__Record_0.tag = v4.hex_format__Record_0.tag;
+    result.hex_format__Record_0.u64_0 = v4.hex_format__Record_0.u64_0;
+    result.hex_format__Record_0.u64_1 = v4.hex_format__Record_0.u64_1;
+    result.core__ErrResidual_Refusal_0.f0 = v4.core__ErrResidual_Refusal_0.f0;
     return result;
 }
 
@@ -756,9 +1632,9 @@ static uint8_t hex_read__map__with_bit(uint8_t a1, uint64_t a2)
 }
 
 /* hex_read::map::mark */
-static _Bool hex_read__map__mark(slice_mut_u8 a1, uint64_t a2, uint64_t a3)
+static core__Result_unit_Refusal hex_read__map__mark(uint8_t *a1, uint64_t a2, uint64_t a3)
 {
-    _Bool result;
+    core__Result_unit_Refusal result;
     uint64_t v4;
     uint64_t v5;
     uint64_t v6;
@@ -766,8 +1642,11 @@ static _Bool hex_read__map__mark(slice_mut_u8 a1, uint64_t a2, uint64_t a3)
     _Bool v8;
     uint64_t v9;
     const uint8_t *v10;
-    uint8_t v11;
-    uint8_t *v12;
+    const uint8_t *v11;
+    uint8_t v12;
+    numbers__Refusal v13;
+    uint8_t *v14;
+    uint8_t *v15;
     v4 = UINT64_C(0);
     for (;;) {
         v8 = v4 < a3;
@@ -778,47 +1657,36 @@ static _Bool hex_read__map__mark(slice_mut_u8 a1, uint64_t a2, uint64_t a3)
         v5 = v9 / UINT64_C(8);
         v9 = a2 + v4;
         v6 = v9 % UINT64_C(8);
-        v10 = a1.at + (size_t)v5;
-        v11 = *v10;
-        v7 = v11;
-        v11 = hex_read__map__bit(v7, v6);
-        v8 = v11 != 0u;
+        v10 = a1;
+        v11 = v10 + (size_t)v5;
+        v12 = *v11;
+        v7 = v12;
+        v12 = hex_read__map__bit(v7, v6);
+        v8 = v12 != 0u;
         if (v8) {
-            result = 0;
+            v13 = 15u;
+            result.tag = 1u;
+            result.numbers__Refusal_0 = v13;
             return result;
         }
-        v11 = hex_read__map__with_bit(v7, v6);
-        v12 = a1.at + (size_t)v5;
-        *v12 = v11;
+        v12 = hex_read__map__with_bit(v7, v6);
+        v14 = a1;
+        v15 = v14 + (size_t)v5;
+        *v15 = v12;
         v4 = v4 + UINT64_C(1);
     }
-    result = 1;
+    result.tag = 0u;
+    result.numbers__Refusal_0 = 0;
     return result;
 }
 
-/* hex_read::walk::higher */
-static uint64_t hex_read__walk__higher(uint64_t a1, uint64_t a2)
+/* core::int::usize::max */
+static uint64_t core__int__usize__max(uint64_t a1, uint64_t a2)
 {
     uint64_t result;
     _Bool v3;
     uint64_t v4;
-    v3 = a1 <= a2;
-    if (v3) {
-        v4 = a2;
-    } else {
-        v4 = a1;
-    }
-    result = v4;
-    return result;
-}
-
-/* hex_read::walk::lower */
-static uint64_t hex_read__walk__lower(uint64_t a1, uint64_t a2)
-{
-    uint64_t result;
-    _Bool v3;
-    uint64_t v4;
-    v3 = a1 <= a2;
+    v3 = a2 < a1;
     if (v3) {
         v4 = a1;
     } else {
@@ -828,342 +1696,491 @@ static uint64_t hex_read__walk__lower(uint64_t a1, uint64_t a2)
     return result;
 }
 
-/* hex_read::walk::take_data */
-static hex_read__walk__After hex_read__walk__take_data(slice_mut_u8 a1, uint64_t a2, uint64_t a3, _Bool a4,
-    uint64_t a5, uint64_t a6)
+/* core::int::usize::min */
+static uint64_t core__int__usize__min(uint64_t a1, uint64_t a2)
 {
-    hex_read__walk__After result;
+    uint64_t result;
+    _Bool v3;
+    uint64_t v4;
+    v3 = a2 < a1;
+    if (v3) {
+        v4 = a2;
+    } else {
+        v4 = a1;
+    }
+    result = v4;
+    return result;
+}
+
+/* hex_read::walk::Taken::with_run */
+static hex_read__walk__Taken hex_read__walk__Taken__with_run(const hex_read__walk__Taken *a1, uint64_t a2,
+    uint64_t a3)
+{
+    hex_read__walk__Taken result;
+    uint64_t v4;
+    uint64_t v5;
+    uint64_t v6;
     _Bool v7;
-    uint8_t *v8;
-    slice_mut_u8 v9;
-    uint32_t v10;
-    uint64_t v11;
-    uint64_t v12;
-    uint64_t v13;
-    v8 = a1.at;
-    v9.at = v8;
-    v9.length = a1.length;
-    v7 = hex_read__map__mark(v9, a2, a3);
-    if (v7) {
-        v10 = hex_read__walk__late(a4);
-        v11 = hex_read__walk__lower(a5, a2);
-        v13 = a2 + a3;
-        v12 = hex_read__walk__higher(a6, v13);
-        result.f0 = v10;
-        result.f1 = a4;
-        result.f2 = v11;
-        result.f3 = v12;
-        return result;
-    }
-    result.f0 = UINT32_C(23);
-    result.f1 = a4;
-    result.f2 = a5;
-    result.f3 = a6;
+    v4 = core__int__usize__min(a1->f1, a2);
+    v6 = a2 + a3;
+    v5 = core__int__usize__max(a1->f2, v6);
+    v7 = a1->f0;
+    result.f0 = v7;
+    result.f1 = v4;
+    result.f2 = v5;
     return result;
 }
 
 /* hex_read::walk::take_line */
-static hex_read__walk__After hex_read__walk__take_line(slice_mut_u8 a1, const hex_format__Line *a2, _Bool a3,
-    uint64_t a4, uint64_t a5)
+static core__Result_Taken_Refusal hex_read__walk__take_line(uint8_t *a1,
+    const core__Result_Record_Refusal *a2, const hex_read__walk__Taken *a3)
 {
-    hex_read__walk__After result;
-    uint32_t v6;
+    core__Result_Taken_Refusal result;
+    hex_read__walk__Taken v4;
+    hex_format__Record v5;
+    core__ErrResidual_Refusal v6;
     uint64_t v7;
     uint64_t v8;
-    _Bool v9;
-    uint32_t v10;
-    uint8_t *v11;
-    slice_mut_u8 v12;
-    uint32_t v13;
-    switch (a2->tag) {
+    core__ErrResidual_Refusal v10;
+    hex_format__Record v11;
+    core__ControlFlow_ErrResidual_Refusal_Record v12;
+    hex_format__Record v13;
+    hex_read__walk__Taken v14;
+    _Bool v15;
+    core__ControlFlow_ErrResidual_Refusal_unit v16;
+    core__Result_unit_Refusal v17;
+    uint8_t *v18;
+    uint64_t v19;
+    uint64_t v20;
+    _Bool v21;
+    numbers__Refusal v22;
+    v12 = core__ResultTry__branch_Record_Refusal(a2);
+    switch (v12.tag) {
     case 0u:
-        v6 = a2->u32_0;
-        result.f0 = v6;
-        result.f1 = a3;
-        result.f2 = a4;
-        result.f3 = a5;
+        v5.tag = v12.hex_format__Record_0.tag;
+        v5.u64_0 = v12.hex_format__Record_0.u64_0;
+        v5.u64_1 = v12.hex_format__Record_0.u64_1;
+        v13.tag = v5.tag;
+        v13.u64_0 = v5.u64_0;
+        v13.u64_1 = v5.u64_1;
+        break;
+    default: /* 1 */
+        v6.f0 = v12.core__ErrResidual_Refusal_0.f0;
+        result = core__ResultFromResidualErrResidual__from_residua_932db6(&v6);
         return result;
-    case 1u:
-        v7 = a2->u64_0;
-        v8 = a2->u64_1;
-        v9 = v8 == UINT64_C(0);
-        if (v9) {
-            v10 = hex_read__walk__late(a3);
-            result.f0 = v10;
-            result.f1 = a3;
-            result.f2 = a4;
-            result.f3 = a5;
-            return result;
+    }
+    v11.tag = v13.tag;
+    v11.u64_0 = v13.u64_0;
+    v11.u64_1 = v13.u64_1;
+    switch (v11.tag) {
+    case 0u:
+        v7 = v11.u64_0;
+        v8 = v11.u64_1;
+        v15 = v8 != UINT64_C(0);
+        if (v15) {
+            v18 = a1;
+            v17 = hex_read__map__mark(v18, v7, v8);
+            v16 = core__ResultTry__branch_unit_Refusal(&v17);
+            switch (v16.tag) {
+            case 0u:
+                break;
+            default: /* 1 */
+                v10.f0 = v16.core__ErrResidual_Refusal_0.f0;
+                result = core__ResultFromResidualErrResidual__from_residua_932db6(&v10);
+                return result;
+            }
+            v14 = hex_read__walk__Taken__with_run(a3, v7, v8);
+            goto end1;
         }
-        v11 = a1.at;
-        v12.at = v11;
-        v12.length = a1.length;
-        result = hex_read__walk__take_data(v12, v7, v8, a3, a4, a5);
-        return result;
-    default: /* 2 */
-        v13 = hex_read__walk__late(a3);
-        result.f0 = v13;
-        result.f1 = 1;
-        result.f2 = a4;
-        result.f3 = a5;
+        v14.f0 = a3->f0;
+        v14.f1 = a3->f1;
+        v14.f2 = a3->f2;
+        end1:;
+        break;
+    default: /* 1 */
+        v19 = a3->f1;
+        v20 = a3->f2;
+        v14.f0 = 1;
+        v14.f1 = v19;
+        v14.f2 = v20;
+        break;
+    }
+    v4.f0 = v14.f0;
+    v4.f1 = v14.f1;
+    v4.f2 = v14.f2;
+    v21 = a3->f0;
+    if (v21) {
+        v22 = 16u;
+        result.tag = 1u;
+        result.numbers__Refusal_0 = v22;
+        result.hex_read__walk__Taken_0.f0 = 0;
+        result.hex_read__walk__Taken_0.f1 = 0;
+        result.hex_read__walk__Taken_0.f2 = 0;
         return result;
     }
-    return result;
-}
-
-/* hex_read::walk::unended */
-static uint32_t hex_read__walk__unended(_Bool a1)
-{
-    uint32_t result;
-    _Bool v2;
-    uint32_t v3;
-    v2 = a1;
-    if (v2) {
-        v3 = UINT32_C(0);
-    } else {
-        v3 = UINT32_C(24);
-    }
-    result = v3;
+    result.tag = 0u;
+    result.hex_read__walk__Taken_0.f0 = v4.f0;
+    result.hex_read__walk__Taken_0.f1 = v4.f1;
+    result.hex_read__walk__Taken_0.f2 = v4.f2;
+    result.numbers__Refusal_0 = 0;
     return result;
 }
 
 /* hex_read::walk::walk */
-static hex_read__walk__Outcome hex_read__walk__walk(slice_mut_u8 a1, uint64_t a2, slice_u8 a3)
+static core__Result_Taken_Fault hex_read__walk__walk(uint8_t *a1, uint64_t a2, slice_u8 a3)
 {
-    hex_read__walk__Outcome result;
+    core__Result_Taken_Fault result;
     uint64_t v4;
     uint64_t v5;
-    _Bool v6;
-    uint64_t v7;
-    uint64_t v8;
-    hex_line__line__Judged v9;
-    hex_format__Line v10;
-    hex_read__walk__After v11;
-    uint64_t v12;
-    _Bool v13;
+    hex_read__walk__Taken v6;
+    hex_line__line__Judged v7;
+    hex_read__walk__Taken v8;
+    numbers__Refusal v9;
+    core__Option_u64 v10;
+    uint64_t v11;
+    _Bool v12;
+    const uint8_t *v13;
     const uint8_t *v14;
-    const uint8_t *v15;
-    slice_u8 v16;
+    slice_u8 v15;
+    core__Result_Taken_Refusal v16;
     uint8_t *v17;
-    slice_mut_u8 v18;
-    uint32_t v19;
+    core__Result_Record_Refusal v18;
+    hex_read__walk__Fault v19;
+    _Bool v20;
+    core__Result_Taken_Fault v21;
+    hex_read__walk__Fault v22;
+    numbers__Refusal v23;
     v4 = UINT64_C(0);
     v5 = UINT64_C(0);
-    v6 = 0;
-    v7 = a2;
-    v8 = UINT64_C(0);
+    v6.f0 = 0;
+    v6.f1 = a2;
+    v6.f2 = UINT64_C(0);
     for (;;) {
-        v12 = a3.length;
-        v13 = v4 < v12;
-        if (!v13) {
+        v11 = a3.length;
+        v12 = v4 < v11;
+        if (!v12) {
             break;
         }
-        v14 = a3.at + (size_t)v4;
-        v12 = a3.length - v4;
-        v15 = v14;
-        v16.at = v15;
-        v16.length = v12;
-        v9 = hex_line__line__judge(v16, a2);
-        v10.tag = v9.f0.tag;
-        v10.u32_0 = v9.f0.u32_0;
-        v10.u64_0 = v9.f0.u64_0;
-        v10.u64_1 = v9.f0.u64_1;
-        v17 = a1.at;
-        v18.at = v17;
-        v18.length = a1.length;
-        v11 = hex_read__walk__take_line(v18, &v10, v6, v7, v8);
+        v13 = a3.at + (size_t)v4;
+        v11 = a3.length - v4;
+        v14 = v13;
+        v15.at = v14;
+        v15.length = v11;
+        v7 = hex_line__line__judge(v15, a2);
         v5 = v5 + UINT64_C(1);
-        v13 = v11.f0 != UINT32_C(0);
-        if (v13) {
-            result.f0 = v11.f0;
-            result.f1 = v5;
-            result.f2 = UINT64_C(0);
-            result.f3 = UINT64_C(0);
+        v17 = a1;
+        v18.tag = v7.f0.tag;
+        v18.hex_format__Record_0.tag = v7.f0.hex_format__Record_0.tag;
+        v18.hex_format__Record_0.u64_0 = v7.f0.hex_format__Record_0.u64_0;
+        v18.hex_format__Record_0.u64_1 = v7.f0.hex_format__Record_0.u64_1;
+        v18.numbers__Refusal_0 = v7.f0.numbers__Refusal_0;
+        v16 = hex_read__walk__take_line(v17, &v18, &v6);
+        switch (v16.tag) {
+        case 0u:
+            v8.f0 = v16.hex_read__walk__Taken_0.f0;
+            v8.f1 = v16.hex_read__walk__Taken_0.f1;
+            v8.f2 = v16.hex_read__walk__Taken_0.f2;
+            v6.f0 = v8.f0;
+            v6.f1 = v8.f1;
+            v6.f2 = v8.f2;
+            break;
+        default: /* 1 */
+            v9 = v16.numbers__Refusal_0;
+            v10.tag = 1u;
+            v10.u64_0 = v5;
+            v19.f0 = v9;
+            v19.f1.tag = v10.tag;
+            v19.f1.u64_0 = v10.u64_0;
+            result.tag = 1u;
+            result.hex_read__walk__Fault_0.f0 = v19.f0;
+            result.hex_read__walk__Fault_0.f1.tag = v19.f1.tag;
+            result.hex_read__walk__Fault_0.f1.u64_0 = v19.f1.u64_0;
+            result.hex_read__walk__Taken_0.f0 = 0;
+            result.hex_read__walk__Taken_0.f1 = 0;
+            result.hex_read__walk__Taken_0.f2 = 0;
             return result;
         }
-        v6 = v11.f1;
-        v7 = v11.f2;
-        v8 = v11.f3;
-        v4 = v4 + v9.f1;
+        v4 = v4 + v7.f1;
     }
-    v19 = hex_read__walk__unended(v6);
-    result.f0 = v19;
-    result.f1 = UINT64_C(0);
-    result.f2 = v7;
-    result.f3 = v8;
+    v20 = v6.f0;
+    if (v20) {
+        v21.tag = 0u;
+        v21.hex_read__walk__Taken_0.f0 = v6.f0;
+        v21.hex_read__walk__Taken_0.f1 = v6.f1;
+        v21.hex_read__walk__Taken_0.f2 = v6.f2;
+        v21.hex_read__walk__Fault_0.f0 = 0;
+        v21.hex_read__walk__Fault_0.f1.tag = 0;
+        v21.hex_read__walk__Fault_0.f1.u64_0 = 0;
+    } else {
+        v23 = 16u;
+        v22 = core__AnyInto__into_Refusal_Fault(v23);
+        v21.tag = 1u;
+        v21.hex_read__walk__Fault_0.f0 = v22.f0;
+        v21.hex_read__walk__Fault_0.f1.tag = v22.f1.tag;
+        v21.hex_read__walk__Fault_0.f1.u64_0 = v22.f1.u64_0;
+        v21.hex_read__walk__Taken_0.f0 = 0;
+        v21.hex_read__walk__Taken_0.f1 = 0;
+        v21.hex_read__walk__Taken_0.f2 = 0;
+    }
+    result.tag = v21.tag;
+    result.hex_read__walk__Taken_0.f0 = v21.hex_read__walk__Taken_0.f0;
+    result.hex_read__walk__Taken_0.f1 = v21.hex_read__walk__Taken_0.f1;
+    result.hex_read__walk__Taken_0.f2 = v21.hex_read__walk__Taken_0.f2;
+    result.hex_read__walk__Fault_0.f0 = v21.hex_read__walk__Fault_0.f0;
+    result.hex_read__walk__Fault_0.f1.tag = v21.hex_read__walk__Fault_0.f1.tag;
+    result.hex_read__walk__Fault_0.f1.u64_0 = v21.hex_read__walk__Fault_0.f1.u64_0;
     return result;
 }
 
 /* hex_read::read::read_map */
-static c2_hex_image hex_read__read__read_map(slice_mut_u8 a1, uint64_t a2, uint64_t a3, slice_u8 a4,
+static core__Result_Filled_Fault hex_read__read__read_map(uint8_t *a1, uint64_t a2, uint64_t a3, slice_u8 a4,
     slice_mut_u8 a5)
 {
-    c2_hex_image result;
-    hex_read__walk__Outcome v6;
-    uint64_t v7;
-    uint64_t v8;
+    core__Result_Filled_Fault result;
+    hex_read__walk__Taken v6;
+    hex_read__walk__Taken v7;
+    core__ErrResidual_Fault v8;
     uint64_t v9;
-    uint8_t *v11;
-    slice_mut_u8 v12;
+    uint64_t v10;
+    uint64_t v11;
     uint8_t *v13;
     slice_mut_u8 v14;
-    uint64_t v15;
-    _Bool v16;
-    uint64_t v17;
+    core__ControlFlow_ErrResidual_Fault_Taken v15;
+    core__Result_Taken_Fault v16;
+    uint8_t *v17;
     uint64_t v18;
-    uint64_t v19;
-    uint8_t *v20;
-    slice_mut_u8 v21;
-    uint32_t v22;
+    hex_read__walk__Taken v19;
+    _Bool v20;
+    hex_read__walk__Fault v21;
+    numbers__Refusal v22;
     uint64_t v23;
-    v11 = a1.at;
-    v12.at = v11;
-    v12.length = a1.length;
-    hex_read__buffer__set_all(v12, 0u);
-    v13 = a1.at;
+    uint64_t v24;
+    uint64_t v25;
+    hex_read__walk__Fault v26;
+    numbers__Refusal v27;
+    uint8_t *v28;
+    slice_mut_u8 v29;
+    uint32_t v30;
+    hex_read__read__Filled v31;
+    v13 = a1;
     v14.at = v13;
-    v14.length = a1.length;
-    v15 = a2 * a3;
-    v6 = hex_read__walk__walk(v14, v15, a4);
-    v16 = v6.f0 != UINT32_C(0);
-    if (v16) {
-        result = hex_read__read__refused(v6.f0, v6.f1);
+    v14.length = UINT64_C(8192);
+    core__slice_T__fill_u8(v14, 0u);
+    v17 = a1;
+    v18 = a2 * a3;
+    v16 = hex_read__walk__walk(v17, v18, a4);
+    v15 = core__ResultTry__branch_Taken_Fault(&v16);
+    switch (v15.tag) {
+    case 0u:
+        v7.f0 = v15.hex_read__walk__Taken_0.f0;
+        v7.f1 = v15.hex_read__walk__Taken_0.f1;
+        v7.f2 = v15.hex_read__walk__Taken_0.f2;
+        v19.f0 = v7.f0;
+        v19.f1 = v7.f1;
+        v19.f2 = v7.f2;
+        break;
+    default: /* 1 */
+        v8.f0.f0 = v15.core__ErrResidual_Fault_0.f0.f0;
+        v8.f0.f1.tag = v15.core__ErrResidual_Fault_0.f0.f1.tag;
+        v8.f0.f1.u64_0 = v15.core__ErrResidual_Fault_0.f0.f1.u64_0;
+        result = core__ResultFromResidualErrResidual__from_residua_5dbe91(&v8);
         return result;
     }
-    v16 = v6.f3 == UINT64_C(0);
-    if (v16) {
-        result = hex_read__read__refused(UINT32_C(25), UINT64_C(0));
+    v6.f0 = v19.f0;
+    v6.f1 = v19.f1;
+    v6.f2 = v19.f2;
+    v20 = v6.f2 == UINT64_C(0);
+    if (v20) {
+        v22 = 17u;
+        v21 = core__AnyInto__into_Refusal_Fault(v22);
+        result.tag = 1u;
+        result.hex_read__walk__Fault_0.f0 = v21.f0;
+        result.hex_read__walk__Fault_0.f1.tag = v21.f1.tag;
+        result.hex_read__walk__Fault_0.f1.u64_0 = v21.f1.u64_0;
+        result.hex_read__read__Filled_0.f0 = 0;
+        result.hex_read__read__Filled_0.f1 = 0;
         return result;
     }
-    v7 = v6.f2 / a2;
-    v8 = v7 * a2;
-    v15 = v6.f3 - UINT64_C(1);
-    v17 = v15 / a2;
-    v18 = v17 * a2;
-    v19 = v18 + a2;
-    v9 = v19 - v8;
-    v15 = a5.length;
-    v16 = v15 < v9;
-    if (v16) {
-        result = hex_read__read__refused(UINT32_C(26), UINT64_C(0));
+    v9 = v6.f1 / a2;
+    v10 = v9 * a2;
+    v18 = v6.f2 - UINT64_C(1);
+    v23 = v18 / a2;
+    v24 = v23 * a2;
+    v25 = v24 + a2;
+    v11 = v25 - v10;
+    v18 = a5.length;
+    v20 = v18 < v11;
+    if (v20) {
+        v27 = 18u;
+        v26 = core__AnyInto__into_Refusal_Fault(v27);
+        result.tag = 1u;
+        result.hex_read__walk__Fault_0.f0 = v26.f0;
+        result.hex_read__walk__Fault_0.f1.tag = v26.f1.tag;
+        result.hex_read__walk__Fault_0.f1.u64_0 = v26.f1.u64_0;
+        result.hex_read__read__Filled_0.f0 = 0;
+        result.hex_read__read__Filled_0.f1 = 0;
         return result;
     }
-    v20 = a5.at;
-    v21.at = v20;
-    v21.length = v9;
-    hex_read__fill__fill(v21, v8, a4);
-    v22 = (uint32_t)v7;
-    v23 = v9;
-    result.number = UINT32_C(0);
-    result.line = UINT64_C(0);
-    result.first_page = v22;
-    result.length = v23;
+    v28 = a5.at;
+    v29.at = v28;
+    v29.length = v11;
+    hex_read__fill__fill(v29, v10, a4);
+    v30 = (uint32_t)v9;
+    v31.f0 = v30;
+    v31.f1 = v11;
+    result.tag = 0u;
+    result.hex_read__read__Filled_0.f0 = v31.f0;
+    result.hex_read__read__Filled_0.f1 = v31.f1;
+    result.hex_read__walk__Fault_0.f0 = 0;
+    result.hex_read__walk__Fault_0.f1.tag = 0;
+    result.hex_read__walk__Fault_0.f1.u64_0 = 0;
     return result;
 }
 
-/* hex_read::read::read_accepted */
-static c2_hex_image hex_read__read__read_accepted(uint64_t a1, uint64_t a2, slice_u8 a3, slice_mut_u8 a4)
-{
-    c2_hex_image result;
-    array_8192_u8 v5;
-    uint8_t *v6;
-    slice_mut_u8 v7;
-    uint8_t *v8;
-    slice_mut_u8 v9;
-    for (uint32_t i = 0; i < UINT32_C(8192); i++) {
-        v5.at[i] = 0u;
-    }
-    v6 = v5.at;
-    v7.at = v6;
-    v7.length = UINT64_C(8192);
-    v8 = a4.at;
-    v9.at = v8;
-    v9.length = a4.length;
-    result = hex_read__read__read_map(v7, a1, a2, a3, v9);
-    return result;
-}
-
-/* settings::registers::may_be_named */
-static _Bool settings__registers__may_be_named(_Bool a1, uint8_t a2, uint8_t a3)
+/* core::slice_T::is_empty_u8 */
+static _Bool core__slice_T__is_empty_u8(slice_u8 a1)
 {
     _Bool result;
-    _Bool v4;
-    _Bool v5;
-    v4 = a1;
-    if (v4) {
-        v5 = a2 < 3u;
-        if (v5) {
-            result = 0;
-            return result;
-        }
-        result = a2 != a3;
+    uint64_t v2;
+    v2 = a1.length;
+    result = v2 == UINT64_C(0);
+    return result;
+}
+
+/* core::IterIterator::next_u8 */
+static core__Option_ref_u8 core__IterIterator__next_u8(core__Iter_u8 *a1)
+{
+    core__Option_ref_u8 result;
+    slice_u8 v2;
+    _Bool v3;
+    uint64_t v4;
+    const uint8_t *v5;
+    uint64_t v6;
+    const uint8_t *v7;
+    slice_u8 v8;
+    const uint8_t *v9;
+    const uint8_t *v10;
+    v2.at = a1->f0.at;
+    v2.length = a1->f0.length;
+    v3 = core__slice_T__is_empty_u8(v2);
+    if (v3) {
+        result.tag = 0u;
+        result.ref_u8_0 = 0;
         return result;
     }
+    v4 = UINT64_C(1);
+    v5 = v2.at + (size_t)v4;
+    v6 = v2.length - UINT64_C(1);
+    v7 = v5;
+    v8.at = v7;
+    v8.length = v6;
+    a1->f0.at = v8.at;
+    a1->f0.length = v8.length;
+    v4 = UINT64_C(0);
+    v9 = v2.at + (size_t)v4;
+    v10 = v9;
+    result.tag = 1u;
+    result.ref_u8_0 = v10;
+    return result;
+}
+
+/* settings::registers::fn::are_registers::all */
+static _Bool settings__registers__fn__are_registers__all(settings__all_Self_ref_u8 *a1, const uint8_t *a2)
+{
+    _Bool result;
+    const uint8_t *v3;
+    _Bool v4;
+    uint8_t v5;
+    uint8_t v6;
+    uint8_t v7;
+    v3 = a1->f0;
+    v5 = *a2;
+    v4 = 3u <= v5;
+    if (v4) {
+        v6 = *a2;
+        v7 = *v3;
+        v4 = v6 != v7;
+    }
+    result = v4;
+    return result;
+}
+
+/* settings::registers::fn::are_registers::all_FnMut::call_mut */
+static _Bool settings__registers__fn__are_registers__all_FnMut__call_mut(settings__all_Self_ref_u8 *a1,
+    const uint8_t *a2)
+{
+    _Bool result;
+    settings__all_Self_ref_u8 *v3;
+    v3 = a1;
+    result = settings__registers__fn__are_registers__all(v3, a2);
+    return result;
+}
+
+/* core::Iterator::all_Iter_u8_ref_u8_are_registers_f5c56d */
+static _Bool core__Iterator__all_Iter_u8_ref_u8_are_registers_f5c56d(core__Iter_u8 *a1,
+    const settings__all_Self_ref_u8 *a2)
+{
+    _Bool result;
+    settings__all_Self_ref_u8 v3;
+    const uint8_t *v4;
+    core__Option_ref_u8 v5;
+    core__Iter_u8 *v6;
+    _Bool v7;
+    settings__all_Self_ref_u8 *v8;
+    const uint8_t *v9;
+    _Bool v10;
+    v3.f0 = a2->f0;
+    for (;;) {
+        v6 = a1;
+        v5 = core__IterIterator__next_u8(v6);
+        switch (v5.tag) {
+        case 1u:
+            v4 = v5.ref_u8_0;
+            v8 = &v3;
+            v9 = v4;
+            v7 = settings__registers__fn__are_registers__all_FnMut__call_mut(v8, v9);
+            v10 = !v7;
+            if (v10) {
+                result = 0;
+                return result;
+            }
+            break;
+        default: /* 0 */
+            goto end1;
+        }
+    }
+    end1:;
     result = 1;
     return result;
 }
 
-/* settings::registers::entries_fit */
-static _Bool settings__registers__entries_fit(uint8_t a1, const c2_pairs *a2)
+/* core::slice_T::iter_u8 */
+static core__Iter_u8 core__slice_T__iter_u8(slice_u8 a1)
+{
+    core__Iter_u8 result;
+    result.f0.at = a1.at;
+    result.f0.length = a1.length;
+    return result;
+}
+
+/* settings::registers::are_registers */
+static _Bool settings__registers__are_registers(uint8_t a1, slice_u8 a2)
 {
     _Bool result;
-    array_4_u8 v3;
-    _Bool v4;
-    _Bool v5;
-    const uint8_t *v6;
+    uint8_t v3;
+    core__Iter_u8 v4;
+    core__Iter_u8 v5;
+    core__Iter_u8 *v6;
     const uint8_t *v7;
-    uint8_t v8;
-    _Bool v9;
-    _Bool v10;
-    const uint8_t *v11;
-    const uint8_t *v12;
-    uint8_t v13;
-    _Bool v14;
-    _Bool v15;
-    const uint8_t *v16;
-    const uint8_t *v17;
-    uint8_t v18;
-    _Bool v19;
-    const uint8_t *v20;
-    const uint8_t *v21;
-    uint8_t v22;
-    v3.at[0] = a2->registers[0];
-    v3.at[1] = a2->registers[1];
-    v3.at[2] = a2->registers[2];
-    v3.at[3] = a2->registers[3];
-    v4 = 4u < a2->count;
-    if (v4) {
-        result = 0;
-        return result;
-    }
-    v4 = 0u < a2->count;
-    v6 = v3.at;
-    v7 = v6 + (size_t)UINT64_C(0);
-    v8 = *v7;
-    v5 = settings__registers__may_be_named(v4, v8, a1);
-    if (v5) {
-        v10 = 1u < a2->count;
-        v11 = v3.at;
-        v12 = v11 + (size_t)UINT64_C(1);
-        v13 = *v12;
-        v9 = settings__registers__may_be_named(v10, v13, a1);
-        if (v9) {
-            v15 = 2u < a2->count;
-            v16 = v3.at;
-            v17 = v16 + (size_t)UINT64_C(2);
-            v18 = *v17;
-            v14 = settings__registers__may_be_named(v15, v18, a1);
-            if (v14) {
-                v19 = 3u < a2->count;
-                v20 = v3.at;
-                v21 = v20 + (size_t)UINT64_C(3);
-                v22 = *v21;
-                result = settings__registers__may_be_named(v19, v22, a1);
-                return result;
-            }
-        }
-    }
-    result = 0;
+    settings__all_Self_ref_u8 v8;
+    v3 = a1;
+    v4 = core__slice_T__iter_u8(a2);
+    v5.f0.at = v4.f0.at;
+    v5.f0.length = v4.f0.length;
+    v6 = &v5;
+    v7 = &v3;
+    v8.f0 = v7;
+    result = core__Iterator__all_Iter_u8_ref_u8_are_registers_f5c56d(v6, &v8);
     return result;
 }
 
@@ -1171,86 +2188,165 @@ static _Bool settings__registers__entries_fit(uint8_t a1, const c2_pairs *a2)
 static _Bool settings__registers__are_pairs(uint8_t a1, const c2_pairs *a2)
 {
     _Bool result;
-    _Bool v3;
-    v3 = a2->count == 0u;
-    if (v3) {
-        result = 1;
-        return result;
+    c2_pairs v3;
+    uint64_t v4;
+    uint8_t v5;
+    _Bool v6;
+    const uint8_t *v7;
+    slice_u8 v8;
+    v3.count = a2->count;
+    v3.registers[0] = a2->registers[0];
+    v3.registers[1] = a2->registers[1];
+    v3.registers[2] = a2->registers[2];
+    v3.registers[3] = a2->registers[3];
+    v3.values[0] = a2->values[0];
+    v3.values[1] = a2->values[1];
+    v3.values[2] = a2->values[2];
+    v3.values[3] = a2->values[3];
+    v5 = v3.count;
+    v4 = core__convert__UsizeFromU8__from(v5);
+    v6 = v4 <= UINT64_C(4);
+    if (v6) {
+        v7 = v3.registers;
+        v8.at = v7;
+        v8.length = v4;
+        v6 = settings__registers__are_registers(a1, v8);
     }
-    result = settings__registers__entries_fit(a1, a2);
+    result = v6;
     return result;
 }
 
 /* settings::accepted::wait_refusal */
-static uint32_t settings__accepted__wait_refusal(const c2_settings *a1)
+static core__Result_unit_Refusal settings__accepted__wait_refusal(const c2_settings *a1)
 {
-    uint32_t result;
-    c2_pairs v2;
-    _Bool v3;
-    _Bool v4;
-    v2.count = a1->pairs.count;
-    v2.registers[0] = a1->pairs.registers[0];
-    v2.registers[1] = a1->pairs.registers[1];
-    v2.registers[2] = a1->pairs.registers[2];
-    v2.registers[3] = a1->pairs.registers[3];
-    v2.values[0] = a1->pairs.values[0];
-    v2.values[1] = a1->pairs.values[1];
-    v2.values[2] = a1->pairs.values[2];
-    v2.values[3] = a1->pairs.values[3];
-    v3 = a1->wait_limit == 0u;
-    if (v3) {
-        result = UINT32_C(18);
+    core__Result_unit_Refusal result;
+    _Bool v2;
+    numbers__Refusal v3;
+    c2_pairs v4;
+    _Bool v5;
+    numbers__Refusal v6;
+    v2 = a1->wait_limit == 0u;
+    if (v2) {
+        v3 = 10u;
+        result.tag = 1u;
+        result.numbers__Refusal_0 = v3;
         return result;
     }
-    v4 = settings__registers__are_pairs(a1->fpdat, &v2);
-    if (v4) {
-        result = UINT32_C(0);
+    v4.count = a1->pairs.count;
+    v4.registers[0] = a1->pairs.registers[0];
+    v4.registers[1] = a1->pairs.registers[1];
+    v4.registers[2] = a1->pairs.registers[2];
+    v4.registers[3] = a1->pairs.registers[3];
+    v4.values[0] = a1->pairs.values[0];
+    v4.values[1] = a1->pairs.values[1];
+    v4.values[2] = a1->pairs.values[2];
+    v4.values[3] = a1->pairs.values[3];
+    v2 = settings__registers__are_pairs(a1->fpdat, &v4);
+    v5 = !v2;
+    if (v5) {
+        v6 = 11u;
+        result.tag = 1u;
+        result.numbers__Refusal_0 = v6;
         return result;
     }
-    result = UINT32_C(19);
+    result.tag = 0u;
+    result.numbers__Refusal_0 = 0;
     return result;
 }
 
 /* settings::accepted::count_refusal */
-static uint32_t settings__accepted__count_refusal(const c2_settings *a1, uint32_t a2)
+static core__Result_unit_Refusal settings__accepted__count_refusal(const c2_settings *a1, uint32_t a2)
 {
-    uint32_t result;
+    core__Result_unit_Refusal result;
     _Bool v3;
+    _Bool v4;
+    numbers__Refusal v5;
     v3 = a1->page_count == UINT32_C(0);
-    if (v3) {
-        result = UINT32_C(3);
-        return result;
+    if (!v3) {
+        v3 = a2 < a1->page_count;
+        v4 = v3;
+        if (!v4) {
+            goto end2;
+        }
     }
-    v3 = a1->page_count <= a2;
-    if (v3) {
-        result = settings__accepted__wait_refusal(a1);
-        return result;
-    }
-    result = UINT32_C(3);
+    v5 = 2u;
+    result.tag = 1u;
+    result.numbers__Refusal_0 = v5;
+    return result;
+    goto end1;
+    end2:;
+    end1:;
+    result = settings__accepted__wait_refusal(a1);
     return result;
 }
 
 /* settings::accepted::refusal */
-static uint32_t settings__accepted__refusal(const c2_settings *a1)
+static core__Result_unit_Refusal settings__accepted__refusal(const c2_settings *a1)
 {
-    uint32_t result;
+    core__Result_unit_Refusal result;
     _Bool v2;
+    numbers__Refusal v3;
+    core__Result_unit_Refusal v4;
+    numbers__Refusal v5;
     v2 = a1->fpdat < 3u;
     if (v2) {
-        result = UINT32_C(1);
+        v3 = 0u;
+        result.tag = 1u;
+        result.numbers__Refusal_0 = v3;
         return result;
     }
-    v2 = a1->page_size == UINT32_C(512);
-    if (v2) {
-        result = settings__accepted__count_refusal(a1, UINT32_C(128));
+    switch (a1->page_size) {
+    case 512u:
+        v4 = settings__accepted__count_refusal(a1, UINT32_C(128));
+        break;
+    case 1024u:
+        v4 = settings__accepted__count_refusal(a1, UINT32_C(64));
+        break;
+    default:
+        v5 = 1u;
+        v4.tag = 1u;
+        v4.numbers__Refusal_0 = v5;
+        break;
+    }
+    result.tag = v4.tag;
+    result.numbers__Refusal_0 = v4.numbers__Refusal_0;
+    return result;
+}
+
+/* hex_read::read::read_tested */
+static core__Result_Filled_Fault hex_read__read__read_tested(const c2_settings *a1, slice_u8 a2,
+    slice_mut_u8 a3)
+{
+    core__Result_Filled_Fault result;
+    core__ErrResidual_Refusal v5;
+    array_8192_u8 v6;
+    core__ControlFlow_ErrResidual_Refusal_unit v7;
+    core__Result_unit_Refusal v8;
+    uint8_t *v9;
+    uint64_t v10;
+    uint64_t v11;
+    uint8_t *v12;
+    slice_mut_u8 v13;
+    v8 = settings__accepted__refusal(a1);
+    v7 = core__ResultTry__branch_unit_Refusal(&v8);
+    switch (v7.tag) {
+    case 0u:
+        break;
+    default: /* 1 */
+        v5.f0 = v7.core__ErrResidual_Refusal_0.f0;
+        result = core__ResultFromResidualErrResidual__from_residua_bde472(&v5);
         return result;
     }
-    v2 = a1->page_size == UINT32_C(1024);
-    if (v2) {
-        result = settings__accepted__count_refusal(a1, UINT32_C(64));
-        return result;
+    for (uint32_t i = 0; i < UINT32_C(8192); i++) {
+        v6.at[i] = 0u;
     }
-    result = UINT32_C(2);
+    v9 = v6.at;
+    v10 = (uint64_t)a1->page_size;
+    v11 = (uint64_t)a1->page_count;
+    v12 = a3.at;
+    v13.at = v12;
+    v13.length = a3.length;
+    result = hex_read__read__read_map(v9, v10, v11, a2, v13);
     return result;
 }
 
@@ -1258,24 +2354,50 @@ static uint32_t settings__accepted__refusal(const c2_settings *a1)
 static c2_hex_image hex_read__read__read(const c2_settings *a1, slice_u8 a2, slice_mut_u8 a3)
 {
     c2_hex_image result;
-    uint32_t v4;
-    _Bool v5;
-    uint64_t v6;
-    uint64_t v7;
-    uint8_t *v8;
-    slice_mut_u8 v9;
-    v4 = settings__accepted__refusal(a1);
-    v5 = v4 != UINT32_C(0);
-    if (v5) {
-        result = hex_read__read__refused(v4, UINT64_C(0));
-        return result;
+    hex_read__read__Filled v4;
+    hex_read__walk__Fault v5;
+    core__Result_Filled_Fault v6;
+    uint8_t *v7;
+    slice_mut_u8 v8;
+    c2_hex_image v9;
+    uint64_t v10;
+    uint32_t v11;
+    numbers__Refusal v12;
+    uint64_t v13;
+    core__Option_u64 v14;
+    v7 = a3.at;
+    v8.at = v7;
+    v8.length = a3.length;
+    v6 = hex_read__read__read_tested(a1, a2, v8);
+    switch (v6.tag) {
+    case 0u:
+        v4.f0 = v6.hex_read__read__Filled_0.f0;
+        v4.f1 = v6.hex_read__read__Filled_0.f1;
+        v10 = v4.f1;
+        v9.number = UINT32_C(0);
+        v9.line = UINT64_C(0);
+        v9.first_page = v4.f0;
+        v9.length = v10;
+        break;
+    default: /* 1 */
+        v5.f0 = v6.hex_read__walk__Fault_0.f0;
+        v5.f1.tag = v6.hex_read__walk__Fault_0.f1.tag;
+        v5.f1.u64_0 = v6.hex_read__walk__Fault_0.f1.u64_0;
+        v12 = v5.f0;
+        v11 = core__AnyInto__into_Refusal_u32(v12);
+        v14.tag = v5.f1.tag;
+        v14.u64_0 = v5.f1.u64_0;
+        v13 = core__Option__unwrap_or_u64(&v14, UINT64_C(0));
+        v9.number = v11;
+        v9.line = v13;
+        v9.first_page = UINT32_C(0);
+        v9.length = UINT64_C(0);
+        break;
     }
-    v6 = (uint64_t)a1->page_size;
-    v7 = (uint64_t)a1->page_count;
-    v8 = a3.at;
-    v9.at = v8;
-    v9.length = a3.length;
-    result = hex_read__read__read_accepted(v6, v7, a2, v9);
+    result.number = v9.number;
+    result.line = v9.line;
+    result.first_page = v9.first_page;
+    result.length = v9.length;
     return result;
 }
 
@@ -1289,6 +2411,21 @@ static c2_hex_image hex_calls__c2_hex_read(const c2_settings *a1, slice_u8 a2, s
     v5.at = v4;
     v5.length = a3.length;
     result = hex_read__read__read(a1, a2, v5);
+    return result;
+}
+
+/* core::ResultFromResidualErrResidual::from_residua_f6ecb9 */
+static core__Result_u64_Refusal core__ResultFromResidualErrResidual__from_residua_f6ecb9(
+    const core__ErrResidual_Refusal *a1)
+{
+    core__Result_u64_Refusal result;
+    numbers__Refusal v2;
+    numbers__Refusal v3;
+    v3 = a1->f0;
+    v2 = core__AnyFrom__from_Refusal(v3);
+    result.tag = 1u;
+    result.numbers__Refusal_0 = v2;
+    result.u64_0 = 0;
     return result;
 }
 
@@ -1317,35 +2454,21 @@ static void core__slice__copy_from_slice(slice_mut_u8 a1, slice_u8 a2)
     return;
 }
 
-/* hex_write::line::put_end */
-static void hex_write__line__put_end(slice_mut_u8 a1)
-{
-    uint8_t *v3;
-    slice_mut_u8 v4;
-    static const array_12_u8 v5 = {{58u, 48u, 48u, 48u, 48u, 48u, 48u, 48u, 49u, 70u, 70u, 10u}};
-    const uint8_t *v6;
-    slice_u8 v7;
-    v3 = a1.at;
-    v4.at = v3;
-    v4.length = a1.length;
-    v6 = v5.at;
-    v7.at = v6;
-    v7.length = UINT64_C(12);
-    core__slice__copy_from_slice(v4, v7);
-    return;
-}
-
 /* hex_write::digit::upper */
 static uint8_t hex_write__digit__upper(uint8_t a1)
 {
     uint8_t result;
     _Bool v2;
+    uint8_t v3;
+    uint8_t v4;
     v2 = a1 < 10u;
     if (v2) {
-        result = (uint8_t)((unsigned)a1 + 48u);
-        return result;
+        v3 = (uint8_t)((unsigned)48u + a1);
+    } else {
+        v4 = (uint8_t)((unsigned)a1 - 10u);
+        v3 = (uint8_t)((unsigned)65u + v4);
     }
-    result = (uint8_t)((unsigned)a1 + 55u);
+    result = v3;
     return result;
 }
 
@@ -1353,65 +2476,112 @@ static uint8_t hex_write__digit__upper(uint8_t a1)
 static void hex_write__digit__put_text(slice_mut_u8 a1, slice_u8 a2)
 {
     uint64_t v3;
-    uint8_t v4;
+    const uint8_t *v4;
     uint64_t v5;
     _Bool v6;
     const uint8_t *v7;
     uint8_t v8;
     uint8_t v9;
-    uint8_t *v10;
+    uint8_t v10;
     uint64_t v11;
     uint8_t *v12;
+    uint64_t v13;
+    uint8_t *v14;
     v3 = UINT64_C(0);
+    v5 = a2.length;
     for (;;) {
-        v5 = a2.length;
         v6 = v3 < v5;
         if (!v6) {
             break;
         }
         v7 = a2.at + (size_t)v3;
-        v8 = *v7;
-        v4 = v8;
-        v9 = (uint8_t)((unsigned)v4 / 16u);
-        v8 = hex_write__digit__upper(v9);
-        v5 = UINT64_C(2) * v3;
-        v10 = a1.at + (size_t)v5;
-        *v10 = v8;
-        v9 = (uint8_t)((unsigned)v4 % 16u);
-        v8 = hex_write__digit__upper(v9);
-        v5 = UINT64_C(2) * v3;
-        v11 = v5 + UINT64_C(1);
+        v4 = v7;
+        v9 = *v4;
+        v10 = (uint8_t)((unsigned)v9 / 16u);
+        v8 = hex_write__digit__upper(v10);
+        v11 = UINT64_C(2) * v3;
         v12 = a1.at + (size_t)v11;
         *v12 = v8;
+        v9 = *v4;
+        v10 = (uint8_t)((unsigned)v9 % 16u);
+        v8 = hex_write__digit__upper(v10);
+        v11 = UINT64_C(2) * v3;
+        v13 = v11 + UINT64_C(1);
+        v14 = a1.at + (size_t)v13;
+        *v14 = v8;
         v3 = v3 + UINT64_C(1);
     }
     return;
+}
+
+/* core::int::u8::wrapping_neg */
+static uint8_t core__int__u8__wrapping_neg(uint8_t a1)
+{
+    uint8_t result;
+    result = (uint8_t)(256u + 0u - a1);
+    return result;
+}
+
+/* hex_write::line::fn::total::fold */
+static uint8_t hex_write__line__fn__total__fold(uint8_t a2, const uint8_t *a3)
+{
+    uint8_t result;
+    uint8_t v4;
+    v4 = *a3;
+    result = (uint8_t)((unsigned)a2 + v4);
+    return result;
+}
+
+/* hex_write::line::fn::total::fold_FnMut::call_mut */
+static uint8_t hex_write__line__fn__total__fold_FnMut__call_mut(uint8_t a2, const uint8_t *a3)
+{
+    uint8_t result;
+    result = hex_write__line__fn__total__fold(a2, a3);
+    return result;
+}
+
+/* core::Iterator::fold_Iter_u8_ref_u8_u8_total_fold */
+static uint8_t core__Iterator__fold_Iter_u8_ref_u8_u8_total_fold(const core__Iter_u8 *a1, uint8_t a2)
+{
+    uint8_t result;
+    core__Iter_u8 v4;
+    uint8_t v6;
+    const uint8_t *v7;
+    core__Option_ref_u8 v8;
+    core__Iter_u8 *v9;
+    uint8_t v10;
+    uint8_t v12;
+    const uint8_t *v13;
+    v4.f0.at = a1->f0.at;
+    v4.f0.length = a1->f0.length;
+    v6 = a2;
+    for (;;) {
+        v9 = &v4;
+        v8 = core__IterIterator__next_u8(v9);
+        switch (v8.tag) {
+        case 1u:
+            v7 = v8.ref_u8_0;
+            v12 = v6;
+            v13 = v7;
+            v10 = hex_write__line__fn__total__fold_FnMut__call_mut(v12, v13);
+            v6 = v10;
+            break;
+        default: /* 0 */
+            goto end1;
+        }
+    }
+    end1:;
+    result = v6;
+    return result;
 }
 
 /* hex_write::line::total */
 static uint8_t hex_write__line__total(slice_u8 a1)
 {
     uint8_t result;
-    uint8_t v2;
-    uint64_t v3;
-    uint64_t v4;
-    _Bool v5;
-    const uint8_t *v6;
-    uint8_t v7;
-    v2 = 0u;
-    v3 = UINT64_C(0);
-    for (;;) {
-        v4 = a1.length;
-        v5 = v3 < v4;
-        if (!v5) {
-            break;
-        }
-        v6 = a1.at + (size_t)v3;
-        v7 = *v6;
-        v2 = core__num__wrapping_add_u8(v2, v7);
-        v3 = v3 + UINT64_C(1);
-    }
-    result = v2;
+    core__Iter_u8 v2;
+    v2 = core__slice_T__iter_u8(a1);
+    result = core__Iterator__fold_Iter_u8_ref_u8_u8_total_fold(&v2, 0u);
     return result;
 }
 
@@ -1420,54 +2590,58 @@ static uint8_t hex_write__line__check(slice_u8 a1)
 {
     uint8_t result;
     uint8_t v2;
-    _Bool v3;
-    uint8_t v4;
     v2 = hex_write__line__total(a1);
-    v3 = v2 == 0u;
-    if (v3) {
-        result = 0u;
-        return result;
-    }
-    v4 = (uint8_t)((unsigned)255u - v2);
-    result = (uint8_t)((unsigned)v4 + 1u);
+    result = core__int__u8__wrapping_neg(v2);
     return result;
 }
 
 /* hex_write::line::put_record */
-static void hex_write__line__put_record(slice_mut_u8 a1, uint8_t a2, uint8_t a3, slice_u8 a4)
+static void hex_write__line__put_record(uint8_t *a1, uint8_t a2, uint8_t a3, slice_u8 a4)
 {
     uint8_t v5;
     uint8_t *v6;
     uint8_t *v7;
     uint8_t *v8;
     uint8_t *v9;
+    uint8_t *v10;
     uint8_t *v11;
-    uint64_t v12;
+    uint8_t *v12;
     uint8_t *v13;
-    slice_mut_u8 v14;
-    const uint8_t *v15;
-    slice_u8 v16;
-    uint8_t *v17;
-    v6 = a1.at + (size_t)UINT64_C(0);
-    *v6 = 16u;
-    v7 = a1.at + (size_t)UINT64_C(1);
-    *v7 = a2;
-    v8 = a1.at + (size_t)UINT64_C(2);
-    *v8 = a3;
-    v9 = a1.at + (size_t)UINT64_C(3);
-    *v9 = 0u;
-    v11 = a1.at + (size_t)UINT64_C(4);
-    v12 = UINT64_C(20) - UINT64_C(4);
-    v13 = v11;
-    v14.at = v13;
-    v14.length = v12;
-    core__slice__copy_from_slice(v14, a4);
-    v15 = a1.at;
-    v16.at = v15;
-    v16.length = UINT64_C(20);
-    v5 = hex_write__line__check(v16);
-    v17 = a1.at + (size_t)UINT64_C(20);
-    *v17 = v5;
+    uint8_t *v15;
+    uint8_t *v16;
+    uint64_t v17;
+    uint8_t *v18;
+    slice_mut_u8 v19;
+    const uint8_t *v20;
+    slice_u8 v21;
+    uint8_t *v22;
+    uint8_t *v23;
+    v6 = a1;
+    v7 = v6 + (size_t)UINT64_C(0);
+    *v7 = 16u;
+    v8 = a1;
+    v9 = v8 + (size_t)UINT64_C(1);
+    *v9 = a2;
+    v10 = a1;
+    v11 = v10 + (size_t)UINT64_C(2);
+    *v11 = a3;
+    v12 = a1;
+    v13 = v12 + (size_t)UINT64_C(3);
+    *v13 = 0u;
+    v15 = a1;
+    v16 = v15 + (size_t)UINT64_C(4);
+    v17 = UINT64_C(20) - UINT64_C(4);
+    v18 = v16;
+    v19.at = v18;
+    v19.length = v17;
+    core__slice__copy_from_slice(v19, a4);
+    v20 = a1;
+    v21.at = v20;
+    v21.length = UINT64_C(20);
+    v5 = hex_write__line__check(v21);
+    v22 = a1;
+    v23 = v22 + (size_t)UINT64_C(20);
+    *v23 = v5;
     return;
 }
 
@@ -1476,35 +2650,32 @@ static void hex_write__line__put_line(slice_mut_u8 a1, uint8_t a2, uint8_t a3, s
 {
     array_21_u8 v5;
     uint8_t *v7;
-    slice_mut_u8 v8;
+    uint8_t *v8;
     uint8_t *v9;
-    uint8_t *v10;
-    uint64_t v11;
-    uint8_t *v12;
-    slice_mut_u8 v13;
-    const uint8_t *v14;
-    slice_u8 v15;
-    uint8_t *v16;
+    uint64_t v10;
+    uint8_t *v11;
+    slice_mut_u8 v12;
+    const uint8_t *v13;
+    slice_u8 v14;
+    uint8_t *v15;
     for (uint32_t i = 0; i < UINT32_C(21); i++) {
         v5.at[i] = 0u;
     }
     v7 = v5.at;
-    v8.at = v7;
-    v8.length = UINT64_C(21);
-    hex_write__line__put_record(v8, a2, a3, a4);
-    v9 = a1.at + (size_t)UINT64_C(0);
-    *v9 = 58u;
-    v10 = a1.at + (size_t)UINT64_C(1);
-    v11 = UINT64_C(43) - UINT64_C(1);
-    v12 = v10;
-    v13.at = v12;
-    v13.length = v11;
-    v14 = v5.at;
-    v15.at = v14;
-    v15.length = UINT64_C(21);
-    hex_write__digit__put_text(v13, v15);
-    v16 = a1.at + (size_t)UINT64_C(43);
-    *v16 = 10u;
+    hex_write__line__put_record(v7, a2, a3, a4);
+    v8 = a1.at + (size_t)UINT64_C(0);
+    *v8 = 58u;
+    v9 = a1.at + (size_t)UINT64_C(1);
+    v10 = UINT64_C(43) - UINT64_C(1);
+    v11 = v9;
+    v12.at = v11;
+    v12.length = v10;
+    v13 = v5.at;
+    v14.at = v13;
+    v14.length = UINT64_C(21);
+    hex_write__digit__put_text(v12, v14);
+    v15 = a1.at + (size_t)UINT64_C(43);
+    *v15 = 10u;
     return;
 }
 
@@ -1513,50 +2684,54 @@ static void hex_write__write__put_lines(slice_mut_u8 a1, uint64_t a2, slice_u8 a
 {
     uint64_t v5;
     uint64_t v6;
-    uint64_t v7;
+    _Bool v7;
     uint64_t v8;
-    uint64_t v9;
     uint64_t v10;
-    _Bool v11;
-    uint64_t v12;
+    uint64_t v11;
+    uint8_t *v12;
+    uint64_t v13;
     uint8_t *v14;
-    uint8_t *v15;
-    slice_mut_u8 v16;
-    uint64_t v17;
-    uint8_t v18;
-    uint64_t v19;
-    uint8_t v20;
-    const uint8_t *v21;
+    slice_mut_u8 v15;
+    uint64_t v16;
+    uint8_t v17;
+    uint64_t v18;
+    uint8_t v19;
+    uint64_t v20;
+    uint64_t v21;
     uint64_t v22;
     const uint8_t *v23;
-    slice_u8 v24;
+    uint64_t v24;
+    const uint8_t *v25;
+    slice_u8 v26;
     v5 = UINT64_C(0);
     for (;;) {
-        v11 = v5 < a4;
-        if (!v11) {
+        v7 = v5 < a4;
+        if (!v7) {
             break;
         }
-        v12 = UINT64_C(16) * v5;
-        v6 = a2 + v12;
-        v7 = UINT64_C(16) * v5;
-        v8 = v7 + UINT64_C(16);
-        v9 = UINT64_C(44) * v5;
-        v10 = v9 + UINT64_C(44);
-        v14 = a1.at + (size_t)v9;
-        v12 = v10 - v9;
-        v15 = v14;
-        v16.at = v15;
-        v16.length = v12;
-        v17 = v6 / UINT64_C(256);
-        v18 = (uint8_t)v17;
-        v19 = v6 % UINT64_C(256);
-        v20 = (uint8_t)v19;
-        v21 = a3.at + (size_t)v7;
-        v22 = v8 - v7;
-        v23 = v21;
-        v24.at = v23;
-        v24.length = v22;
-        hex_write__line__put_line(v16, v18, v20, v24);
+        v8 = UINT64_C(16) * v5;
+        v6 = a2 + v8;
+        v8 = UINT64_C(44) * v5;
+        v10 = UINT64_C(44) * v5;
+        v11 = v10 + UINT64_C(44);
+        v12 = a1.at + (size_t)v8;
+        v13 = v11 - v8;
+        v14 = v12;
+        v15.at = v14;
+        v15.length = v13;
+        v16 = v6 / UINT64_C(256);
+        v17 = (uint8_t)v16;
+        v18 = v6 % UINT64_C(256);
+        v19 = (uint8_t)v18;
+        v20 = UINT64_C(16) * v5;
+        v21 = UINT64_C(16) * v5;
+        v22 = v21 + UINT64_C(16);
+        v23 = a3.at + (size_t)v20;
+        v24 = v22 - v20;
+        v25 = v23;
+        v26.at = v25;
+        v26.length = v24;
+        hex_write__line__put_line(v15, v17, v19, v26);
         v5 = v5 + UINT64_C(1);
     }
     return;
@@ -1565,127 +2740,239 @@ static void hex_write__write__put_lines(slice_mut_u8 a1, uint64_t a2, slice_u8 a
 /* hex_write::write::put_file */
 static void hex_write__write__put_file(slice_mut_u8 a1, uint64_t a2, slice_u8 a3, uint64_t a4)
 {
-    uint64_t v5;
-    uint8_t *v7;
-    slice_mut_u8 v8;
+    uint8_t *v6;
+    slice_mut_u8 v7;
+    uint64_t v8;
     uint8_t *v9;
     uint64_t v10;
     uint8_t *v11;
     slice_mut_u8 v12;
-    v7 = a1.at;
-    v8.at = v7;
-    v8.length = a1.length;
-    hex_write__write__put_lines(v8, a2, a3, a4);
-    v5 = UINT64_C(44) * a4;
-    v9 = a1.at + (size_t)v5;
-    v10 = a1.length - v5;
+    static const array_12_u8 v13 = {{58u, 48u, 48u, 48u, 48u, 48u, 48u, 48u, 49u, 70u, 70u, 10u}};
+    const uint8_t *v14;
+    slice_u8 v15;
+    v6 = a1.at;
+    v7.at = v6;
+    v7.length = a1.length;
+    hex_write__write__put_lines(v7, a2, a3, a4);
+    v8 = UINT64_C(44) * a4;
+    v9 = a1.at + (size_t)v8;
+    v10 = a1.length - v8;
     v11 = v9;
     v12.at = v11;
     v12.length = v10;
-    hex_write__line__put_end(v12);
+    v14 = v13.at;
+    v15.at = v14;
+    v15.length = UINT64_C(12);
+    core__slice__copy_from_slice(v12, v15);
     return;
 }
 
-/* hex_write::write::room_refusal */
-static uint32_t hex_write__write__room_refusal(uint64_t a1, uint64_t a2)
+/* core::ResultFromResidualErrResidual::from_residua_45a805 */
+static core__Result_unit_Refusal core__ResultFromResidualErrResidual__from_residua_45a805(
+    const core__ErrResidual_Refusal *a1)
 {
-    uint32_t result;
-    uint64_t v3;
-    uint64_t v4;
+    core__Result_unit_Refusal result;
+    numbers__Refusal v2;
+    numbers__Refusal v3;
+    v3 = a1->f0;
+    v2 = core__AnyFrom__from_Refusal(v3);
+    result.tag = 1u;
+    result.numbers__Refusal_0 = v2;
+    return result;
+}
+
+/* core::int::checked::usize::checked_sub */
+static core__Option_u64 core__int__checked__usize__checked_sub(uint64_t a1, uint64_t a2)
+{
+    core__Option_u64 result;
+    _Bool v3;
+    core__Option_u64 v4;
     uint64_t v5;
-    _Bool v6;
-    v3 = a1 / UINT64_C(16);
-    v4 = UINT64_C(44) * v3;
-    v5 = v4 + UINT64_C(12);
-    v6 = v5 <= a2;
-    if (v6) {
-        result = UINT32_C(0);
-        return result;
+    v3 = a1 < a2;
+    if (v3) {
+        v4.tag = 0u;
+        v4.u64_0 = 0;
+    } else {
+        v5 = a1 - a2;
+        v4.tag = 1u;
+        v4.u64_0 = v5;
     }
-    result = UINT32_C(26);
+    result.tag = v4.tag;
+    result.u64_0 = v4.u64_0;
     return result;
 }
 
 /* settings::opening::pages_refusal */
-static uint32_t settings__opening__pages_refusal(uint32_t a1, uint32_t a2, uint64_t a3)
+static core__Result_unit_Refusal settings__opening__pages_refusal(uint32_t a1, uint32_t a2, uint64_t a3)
 {
-    uint32_t result;
+    core__Result_unit_Refusal result;
     uint64_t v4;
-    _Bool v5;
+    core__Option_u64 v5;
     uint64_t v6;
-    uint64_t v7;
-    v4 = (uint64_t)a2;
-    v5 = v4 < a3;
-    if (v5) {
-        result = UINT32_C(5);
-        return result;
+    core__Result_unit_Refusal v7;
+    uint64_t v8;
+    _Bool v9;
+    numbers__Refusal v10;
+    v6 = (uint64_t)a2;
+    v5 = core__int__checked__usize__checked_sub(v6, a3);
+    switch (v5.tag) {
+    case 1u:
+        v4 = v5.u64_0;
+        v8 = (uint64_t)a1;
+        v9 = v8 <= v4;
+        if (v9) {
+            v7.tag = 0u;
+            v7.numbers__Refusal_0 = 0;
+            goto end1;
+        }
+        goto end2;
+    default: /* 0 */
+        goto end2;
     }
-    v4 = (uint64_t)a2;
-    v6 = v4 - a3;
-    v7 = (uint64_t)a1;
-    v5 = v6 < v7;
-    if (v5) {
-        result = UINT32_C(5);
-        return result;
-    }
-    result = UINT32_C(0);
+    end2:;
+    v10 = 4u;
+    v7.tag = 1u;
+    v7.numbers__Refusal_0 = v10;
+    end1:;
+    result.tag = v7.tag;
+    result.numbers__Refusal_0 = v7.numbers__Refusal_0;
     return result;
 }
 
 /* settings::opening::image_refusal */
-static uint32_t settings__opening__image_refusal(const c2_settings *a1, uint32_t a2, uint64_t a3)
+static core__Result_unit_Refusal settings__opening__image_refusal(const c2_settings *a1, uint32_t a2,
+    uint64_t a3)
 {
-    uint32_t result;
+    core__Result_unit_Refusal result;
     uint64_t v4;
     _Bool v5;
     uint64_t v6;
-    uint64_t v7;
+    _Bool v7;
+    numbers__Refusal v8;
+    uint64_t v9;
     v4 = (uint64_t)a1->page_size;
     v5 = a3 == UINT64_C(0);
-    if (v5) {
-        result = UINT32_C(4);
-        return result;
+    if (!v5) {
+        v6 = a3 % v4;
+        v5 = v6 != UINT64_C(0);
+        v7 = v5;
+        if (!v7) {
+            goto end2;
+        }
     }
-    v6 = a3 % v4;
-    v5 = v6 == UINT64_C(0);
-    if (v5) {
-        v7 = a3 / v4;
-        result = settings__opening__pages_refusal(a2, a1->page_count, v7);
-        return result;
-    }
-    result = UINT32_C(4);
+    v8 = 3u;
+    result.tag = 1u;
+    result.numbers__Refusal_0 = v8;
+    return result;
+    goto end1;
+    end2:;
+    end1:;
+    v9 = a3 / v4;
+    result = settings__opening__pages_refusal(a2, a1->page_count, v9);
     return result;
 }
 
 /* settings::opening::opening_refusal */
-static uint32_t settings__opening__opening_refusal(const c2_settings *a1, uint32_t a2, uint64_t a3)
+static core__Result_unit_Refusal settings__opening__opening_refusal(const c2_settings *a1, uint32_t a2,
+    uint64_t a3)
 {
-    uint32_t result;
-    uint32_t v4;
-    _Bool v5;
-    v4 = settings__accepted__refusal(a1);
-    v5 = v4 == UINT32_C(0);
-    if (v5) {
-        result = settings__opening__image_refusal(a1, a2, a3);
+    core__Result_unit_Refusal result;
+    core__ErrResidual_Refusal v5;
+    core__ControlFlow_ErrResidual_Refusal_unit v6;
+    core__Result_unit_Refusal v7;
+    v7 = settings__accepted__refusal(a1);
+    v6 = core__ResultTry__branch_unit_Refusal(&v7);
+    switch (v6.tag) {
+    case 0u:
+        break;
+    default: /* 1 */
+        v5.f0 = v6.core__ErrResidual_Refusal_0.f0;
+        result = core__ResultFromResidualErrResidual__from_residua_45a805(&v5);
         return result;
     }
-    result = v4;
+    result = settings__opening__image_refusal(a1, a2, a3);
     return result;
 }
 
 /* hex_write::write::refusal */
-static uint32_t hex_write__write__refusal(const c2_settings *a1, uint32_t a2, uint64_t a3, uint64_t a4)
+static core__Result_unit_Refusal hex_write__write__refusal(const c2_settings *a1, uint32_t a2, uint64_t a3,
+    uint64_t a4)
 {
-    uint32_t result;
-    uint32_t v5;
-    _Bool v6;
-    v5 = settings__opening__opening_refusal(a1, a2, a3);
-    v6 = v5 == UINT32_C(0);
-    if (v6) {
-        result = hex_write__write__room_refusal(a3, a4);
+    core__Result_unit_Refusal result;
+    core__ErrResidual_Refusal v6;
+    core__ControlFlow_ErrResidual_Refusal_unit v7;
+    core__Result_unit_Refusal v8;
+    uint64_t v9;
+    uint64_t v10;
+    uint64_t v11;
+    _Bool v12;
+    numbers__Refusal v13;
+    v8 = settings__opening__opening_refusal(a1, a2, a3);
+    v7 = core__ResultTry__branch_unit_Refusal(&v8);
+    switch (v7.tag) {
+    case 0u:
+        break;
+    default: /* 1 */
+        v6.f0 = v7.core__ErrResidual_Refusal_0.f0;
+        result = core__ResultFromResidualErrResidual__from_residua_45a805(&v6);
         return result;
     }
-    result = v5;
+    v9 = a3 / UINT64_C(16);
+    v10 = UINT64_C(44) * v9;
+    v11 = v10 + UINT64_C(12);
+    v12 = a4 < v11;
+    if (v12) {
+        v13 = 18u;
+        result.tag = 1u;
+        result.numbers__Refusal_0 = v13;
+        return result;
+    }
+    result.tag = 0u;
+    result.numbers__Refusal_0 = 0;
+    return result;
+}
+
+/* hex_write::write::write_tested */
+static core__Result_u64_Refusal hex_write__write__write_tested(const c2_settings *a1, uint32_t a2,
+    slice_u8 a3, slice_mut_u8 a4)
+{
+    core__Result_u64_Refusal result;
+    core__ErrResidual_Refusal v6;
+    uint64_t v7;
+    uint64_t v8;
+    uint64_t v9;
+    core__ControlFlow_ErrResidual_Refusal_unit v10;
+    core__Result_unit_Refusal v11;
+    uint64_t v12;
+    uint64_t v13;
+    uint8_t *v15;
+    slice_mut_u8 v16;
+    v12 = a3.length;
+    v13 = a4.length;
+    v11 = hex_write__write__refusal(a1, a2, v12, v13);
+    v10 = core__ResultTry__branch_unit_Refusal(&v11);
+    switch (v10.tag) {
+    case 0u:
+        break;
+    default: /* 1 */
+        v6.f0 = v10.core__ErrResidual_Refusal_0.f0;
+        result = core__ResultFromResidualErrResidual__from_residua_f6ecb9(&v6);
+        return result;
+    }
+    v12 = a3.length;
+    v7 = v12 / UINT64_C(16);
+    v13 = UINT64_C(44) * v7;
+    v8 = v13 + UINT64_C(12);
+    v12 = (uint64_t)a2;
+    v13 = (uint64_t)a1->page_size;
+    v9 = v12 * v13;
+    v15 = a4.at;
+    v16.at = v15;
+    v16.length = v8;
+    hex_write__write__put_file(v16, v9, a3, v7);
+    result.tag = 0u;
+    result.u64_0 = v8;
+    result.numbers__Refusal_0 = 0;
     return result;
 }
 
@@ -1693,39 +2980,34 @@ static uint32_t hex_write__write__refusal(const c2_settings *a1, uint32_t a2, ui
 static c2_written hex_write__write__write(const c2_settings *a1, uint32_t a2, slice_u8 a3, slice_mut_u8 a4)
 {
     c2_written result;
-    uint32_t v5;
-    uint64_t v6;
-    uint64_t v7;
-    uint64_t v8;
-    uint64_t v9;
-    uint64_t v10;
-    _Bool v11;
-    uint8_t *v13;
-    slice_mut_u8 v14;
-    uint64_t v15;
-    v9 = a3.length;
-    v10 = a4.length;
-    v5 = hex_write__write__refusal(a1, a2, v9, v10);
-    v11 = v5 != UINT32_C(0);
-    if (v11) {
-        result.number = v5;
-        result.length = UINT64_C(0);
-        return result;
+    uint64_t v5;
+    numbers__Refusal v6;
+    core__Result_u64_Refusal v7;
+    uint8_t *v8;
+    slice_mut_u8 v9;
+    c2_written v10;
+    uint64_t v11;
+    uint32_t v12;
+    v8 = a4.at;
+    v9.at = v8;
+    v9.length = a4.length;
+    v7 = hex_write__write__write_tested(a1, a2, a3, v9);
+    switch (v7.tag) {
+    case 0u:
+        v5 = v7.u64_0;
+        v11 = v5;
+        v10.number = UINT32_C(0);
+        v10.length = v11;
+        break;
+    default: /* 1 */
+        v6 = v7.numbers__Refusal_0;
+        v12 = core__AnyInto__into_Refusal_u32(v6);
+        v10.number = v12;
+        v10.length = UINT64_C(0);
+        break;
     }
-    v9 = a3.length;
-    v6 = v9 / UINT64_C(16);
-    v10 = UINT64_C(44) * v6;
-    v7 = v10 + UINT64_C(12);
-    v9 = (uint64_t)a2;
-    v10 = (uint64_t)a1->page_size;
-    v8 = v9 * v10;
-    v13 = a4.at;
-    v14.at = v13;
-    v14.length = v7;
-    hex_write__write__put_file(v14, v8, a3, v6);
-    v15 = v7;
-    result.number = UINT32_C(0);
-    result.length = v15;
+    result.number = v10.number;
+    result.length = v10.length;
     return result;
 }
 

@@ -1,9 +1,11 @@
-/* Made from the MIR of crate c2, sha256 e1d64dae61c48c3fdb056eb85e47611a01741ac5def785b36a3918b774dff279. */
+/* Made from the MIR of crate c2, sha256 a830fd242b08728bf1807875e770356c9208d5d0f601279a9817247f66cac524. */
 /*
- * Made by `make c`, not to be edited. A function stands under its path in the proved code. Its result is
- * called result, its parameters a1, a2 .. and its other locals v.., by their numbers in the MIR. A statement
- * of the MIR is one statement here, but structs and arrays are assigned member by member. An enum is its tag
- * and the members that its variants share. A length is 64 bits wide, as in the proof, whatever size_t is.
+ * Made by `make c`, not to be edited. A function stands under its path in the proved code; one that is generic
+ * there, as those of the library are, stands once for each of what it is given, under the end of its path and
+ * its types. Its result is called result, its parameters a1, a2 .. and its other locals v.., by their numbers
+ * in the MIR, and copies that a call wants c1, c2 .. A statement of the MIR is one statement here, but structs
+ * and arrays are assigned member by member. An enum is its tag and the members that its variants share; of
+ * what has no bits there is nothing. A length is 64 bits wide, as in the proof, whatever size_t is.
  */
 #include <stddef.h>
 #include <stdint.h>
@@ -64,6 +66,14 @@ typedef struct {
     c2_target__Device f3;
 } c2_target__Target;
 
+typedef uint8_t numbers__Refusal;
+
+typedef struct {
+    uint8_t tag;
+    c2_target__Target c2_target__Target_0;
+    numbers__Refusal numbers__Refusal_0;
+} core__Result_Target_Refusal;
+
 typedef struct {
     uint8_t f0;
     uint8_t f1;
@@ -73,6 +83,92 @@ typedef struct {
     uint8_t f5;
     uint8_t f6;
 } c2_target_state__PointFields;
+
+typedef uint8_t core__cmp__Ordering;
+
+typedef struct {
+    uint8_t tag;
+    core__cmp__Ordering core__cmp__Ordering_0;
+} core__Option_Ordering;
+
+typedef struct {
+    uint64_t f0;
+    uint64_t f1;
+    _Bool f2;
+} core__RangeInclusive_u64;
+
+typedef struct {
+    const uint8_t *at;
+    uint64_t length;
+} slice_u8;
+
+typedef struct {
+    uint8_t tag;
+    numbers__Refusal numbers__Refusal_0;
+} core__Result_unit_Refusal;
+
+typedef struct {
+    numbers__Refusal f0;
+} core__ErrResidual_Refusal;
+
+typedef struct {
+    uint8_t tag;
+    core__ErrResidual_Refusal core__ErrResidual_Refusal_0;
+} core__ControlFlow_ErrResidual_Refusal_unit;
+
+typedef struct {
+    uint8_t tag;
+    const uint8_t *ref_u8_0;
+} core__Option_ref_u8;
+
+typedef struct {
+    slice_u8 f0;
+} core__Iter_u8;
+
+typedef struct {
+    const uint8_t *f0;
+} settings__all_Self_ref_u8;
+
+typedef struct {
+    _Bool f0;
+    c2_target__Target f1;
+} c2_target__Turned;
+
+typedef struct {
+    uint8_t tag;
+    uint8_t u8_0;
+} core__Result_u8_AllocError;
+
+typedef struct {
+    uint8_t *at;
+    uint64_t length;
+} slice_mut_u8;
+
+typedef struct {
+    c2_settings f0;
+    c2_pairs f1;
+    slice_u8 f2;
+} c2_target_step__Lent;
+
+typedef struct {
+    c2_target__Command f0;
+    c2_target__Output f1;
+} core__tuple_Command_Output;
+
+typedef struct {
+    uint64_t f0;
+    uint64_t f1;
+} core__tuple_u64_u64;
+
+typedef struct {
+    uint8_t at[4];
+} array_4_u8;
+
+typedef struct {
+    uint8_t tag;
+    c2_target__Turned c2_target__Turned_0;
+    numbers__Refusal numbers__Refusal_0;
+} core__Result_Turned_Refusal;
 
 typedef struct {
     uint8_t f0;
@@ -91,29 +187,16 @@ typedef struct {
 } c2_target_state__OutputFields;
 
 typedef struct {
-    const uint8_t *at;
-    uint64_t length;
-} slice_u8;
+    uint8_t tag;
+    c2_replied c2_target_state__ModelReplied_0;
+    numbers__Refusal numbers__Refusal_0;
+} core__Result_ModelReplied_Refusal;
 
 typedef struct {
-    uint8_t at[4];
-} array_4_u8;
-
-typedef struct {
-    uint32_t f0;
-    uint32_t f1;
-    c2_target__Target f2;
-} c2_target__Replied;
-
-typedef struct {
-    uint8_t *at;
-    uint64_t length;
-} slice_mut_u8;
-
-typedef struct {
-    c2_target__Command f0;
-    c2_target__Output f1;
-} c2_target_step__Taking;
+    uint8_t tag;
+    c2_target__Turned c2_target__Turned_0;
+    core__ErrResidual_Refusal core__ErrResidual_Refusal_0;
+} core__ControlFlow_ErrResidual_Refusal_Turned;
 
 /* c2::target::c2_target_fresh */
 static c2_target c2__target__c2_target_fresh(void)
@@ -150,342 +233,29 @@ static c2_target c2__target__c2_target_fresh(void)
     return result;
 }
 
-/* c2_target_state::fields::wide */
-static uint64_t c2_target_state__fields__wide(uint8_t a1)
+/* core::convert::UsizeFromU8::from */
+static uint64_t core__convert__UsizeFromU8__from(uint8_t a1)
 {
     uint64_t result;
     result = (uint64_t)a1;
     return result;
 }
 
-/* c2_target_state::form::none */
-static _Bool c2_target_state__form__none(uint8_t a1, uint8_t a2, uint8_t a3, uint8_t a4)
+/* core::AnyInto::into_u8_u64 */
+static uint64_t core__AnyInto__into_u8_u64(uint8_t a1)
 {
-    _Bool result;
-    uint64_t v5;
-    uint64_t v6;
-    uint64_t v7;
-    uint64_t v8;
-    uint64_t v9;
-    uint64_t v10;
-    uint64_t v11;
-    v5 = c2_target_state__fields__wide(a1);
-    v6 = c2_target_state__fields__wide(a2);
-    v7 = v5 + v6;
-    v8 = c2_target_state__fields__wide(a3);
-    v9 = v7 + v8;
-    v10 = c2_target_state__fields__wide(a4);
-    v11 = v9 + v10;
-    result = v11 == UINT64_C(0);
+    uint64_t result;
+    uint8_t v2;
+    v2 = a1;
+    result = core__convert__UsizeFromU8__from(v2);
     return result;
 }
 
-/* c2_target_state::form::early_in_form */
-static _Bool c2_target_state__form__early_in_form(uint8_t a1, uint8_t a2, uint8_t a3, uint8_t a4)
-{
-    _Bool result;
-    _Bool v5;
-    _Bool v6;
-    _Bool v7;
-    v5 = a1 < 2u;
-    if (v5) {
-        result = c2_target_state__form__none(a2, a3, a4, 0u);
-        return result;
-    }
-    v5 = a1 == 2u;
-    if (v5) {
-        result = c2_target_state__form__none(a2, a4, 0u, 0u);
-        return result;
-    }
-    v5 = a1 == 3u;
-    if (v5) {
-        v6 = c2_target_state__form__none(a3, a4, 0u, 0u);
-        if (v6) {
-            result = a2 < 2u;
-            return result;
-        }
-        result = 0;
-        return result;
-    }
-    v5 = a1 == 4u;
-    if (v5) {
-        v7 = a3 == 0u;
-        if (v7) {
-            result = a2 < 2u;
-            return result;
-        }
-        result = 0;
-        return result;
-    }
-    result = 0;
-    return result;
-}
-
-/* c2_target_state::form::command_in_form */
-static _Bool c2_target_state__form__command_in_form(uint8_t a1, uint8_t a2, uint8_t a3, uint8_t a4,
-    uint16_t a5, uint16_t a6)
-{
-    _Bool result;
-    _Bool v7;
-    _Bool v8;
-    _Bool v9;
-    _Bool v10;
-    v7 = a1 == 6u;
-    if (v7) {
-        result = c2_target_state__form__none(a2, a3, a4, 0u);
-        return result;
-    }
-    v7 = a1 == 7u;
-    if (v7) {
-        v8 = a5 == 0u;
-        if (v8) {
-            result = c2_target_state__form__none(a2, a3, a4, 0u);
-            return result;
-        }
-        result = 0;
-        return result;
-    }
-    v7 = a6 == 0u;
-    if (v7) {
-        v9 = a1 == 5u;
-        if (v9) {
-            v10 = c2_target_state__form__none(a3, a4, 0u, 0u);
-            if (v10) {
-                result = a2 < 2u;
-                return result;
-            }
-            result = 0;
-            return result;
-        }
-        v9 = a5 == 0u;
-        if (v9) {
-            result = c2_target_state__form__early_in_form(a1, a2, a3, a4);
-            return result;
-        }
-        result = 0;
-        return result;
-    }
-    result = 0;
-    return result;
-}
-
-/* c2_target_state::form::met_in_form */
-static _Bool c2_target_state__form__met_in_form(uint8_t a1, uint8_t a2, uint8_t a3, uint8_t a4)
-{
-    _Bool result;
-    _Bool v5;
-    _Bool v6;
-    _Bool v7;
-    v5 = a1 < 2u;
-    if (v5) {
-        v6 = a2 < 2u;
-        if (v6) {
-            v7 = a3 < 2u;
-            if (v7) {
-                result = a4 < 2u;
-                return result;
-            }
-        }
-    }
-    result = 0;
-    return result;
-}
-
-/* c2_target_state::form::flags_in_form */
-static _Bool c2_target_state__form__flags_in_form(const c2_target *a1)
-{
-    _Bool result;
-    _Bool v2;
-    _Bool v3;
-    v2 = a1->collision < 2u;
-    if (v2) {
-        v3 = a1->on < 2u;
-        if (v3) {
-            result = c2_target_state__form__met_in_form(a1->met1, a1->met2, a1->met3, a1->met4);
-            return result;
-        }
-    }
-    result = 0;
-    return result;
-}
-
-/* c2_target_state::fields::wide16 */
-static uint64_t c2_target_state__fields__wide16(uint16_t a1)
+/* core::convert::UsizeFromU16::from */
+static uint64_t core__convert__UsizeFromU16__from(uint16_t a1)
 {
     uint64_t result;
     result = (uint64_t)a1;
-    return result;
-}
-
-/* c2_target_state::form::output_in_form */
-static _Bool c2_target_state__form__output_in_form(uint8_t a1, uint8_t a2, uint16_t a3, uint16_t a4)
-{
-    _Bool result;
-    _Bool v5;
-    uint64_t v6;
-    uint64_t v7;
-    uint64_t v8;
-    _Bool v9;
-    v5 = a1 < 2u;
-    if (v5) {
-        v6 = c2_target_state__fields__wide16(a3);
-        v7 = c2_target_state__fields__wide16(a4);
-        v8 = v6 + v7;
-        v9 = v8 == UINT64_C(0);
-        if (v9) {
-            result = a2 <= a1;
-            return result;
-        }
-        result = 0;
-        return result;
-    }
-    v5 = a1 < 4u;
-    if (v5) {
-        result = a2 == 0u;
-        return result;
-    }
-    result = 0;
-    return result;
-}
-
-/* c2_target_state::form::effect_in_form */
-static _Bool c2_target_state__form__effect_in_form(uint8_t a1, uint8_t a2)
-{
-    _Bool result;
-    _Bool v3;
-    v3 = a1 == 1u;
-    if (v3) {
-        result = 1;
-        return result;
-    }
-    v3 = a1 == 2u;
-    if (v3) {
-        result = 1;
-        return result;
-    }
-    v3 = a1 < 5u;
-    if (v3) {
-        result = a2 == 0u;
-        return result;
-    }
-    result = 0;
-    return result;
-}
-
-/* c2_target_state::form::later_in_form */
-static _Bool c2_target_state__form__later_in_form(uint8_t a1, uint8_t a2, uint8_t a3, uint8_t a4, uint8_t a5,
-    uint8_t a6)
-{
-    _Bool result;
-    _Bool v7;
-    _Bool v8;
-    _Bool v9;
-    _Bool v10;
-    _Bool v11;
-    v7 = a1 == 9u;
-    if (v7) {
-        v8 = a4 == 0u;
-        if (v8) {
-            result = c2_target_state__form__effect_in_form(a5, a6);
-            return result;
-        }
-        result = 0;
-        return result;
-    }
-    v7 = a1 == 10u;
-    if (v7) {
-        v9 = c2_target_state__form__none(a2, a3, a4, 0u);
-        if (v9) {
-            result = c2_target_state__form__effect_in_form(a5, a6);
-            return result;
-        }
-        result = 0;
-        return result;
-    }
-    v7 = a1 == 7u;
-    if (v7) {
-        v10 = c2_target_state__form__none(a2, a4, 0u, 0u);
-        if (v10) {
-            result = c2_target_state__form__effect_in_form(a5, a6);
-            return result;
-        }
-        result = 0;
-        return result;
-    }
-    v7 = a1 == 8u;
-    if (v7) {
-        v11 = a2 == 0u;
-        if (v11) {
-            result = c2_target_state__form__effect_in_form(a5, a6);
-            return result;
-        }
-        result = 0;
-        return result;
-    }
-    v7 = a1 == 6u;
-    if (v7) {
-        result = c2_target_state__form__none(a2, a4, a5, a6);
-        return result;
-    }
-    result = 0;
-    return result;
-}
-
-/* c2_target_state::form::point_in_form */
-static _Bool c2_target_state__form__point_in_form(uint8_t a1, uint8_t a2, uint8_t a3, uint8_t a4, uint8_t a5,
-    uint8_t a6, uint8_t a7)
-{
-    _Bool result;
-    _Bool v8;
-    _Bool v9;
-    _Bool v10;
-    v8 = a1 < 6u;
-    if (v8) {
-        v9 = c2_target_state__form__none(a4, a5, a6, a7);
-        if (v9) {
-            v10 = a1 == 0u;
-            if (v10) {
-                result = c2_target_state__form__none(a2, a3, 0u, 0u);
-                return result;
-            }
-            result = 1;
-            return result;
-        }
-        result = 0;
-        return result;
-    }
-    v8 = a2 == 0u;
-    if (v8) {
-        result = c2_target_state__form__later_in_form(a1, a3, a4, a5, a6, a7);
-        return result;
-    }
-    result = 0;
-    return result;
-}
-
-/* c2_target_state::form::in_form */
-static _Bool c2_target_state__form__in_form(const c2_target *a1)
-{
-    _Bool result;
-    _Bool v2;
-    _Bool v3;
-    _Bool v4;
-    v2 = c2_target_state__form__point_in_form(a1->point, a1->heard, a1->value, a1->left, a1->zeros, a1->effect, a1->byte);
-    if (v2) {
-        v3 = c2_target_state__form__flags_in_form(a1);
-        if (v3) {
-            v4 = c2_target_state__form__output_in_form(a1->output, a1->passed, a1->next, a1->count);
-            if (v4) {
-                result = c2_target_state__form__command_in_form(a1->command, a1->write, a1->page, a1->high, a1->start, a1->rest);
-                return result;
-            }
-            result = 0;
-            return result;
-        }
-        result = 0;
-        return result;
-    }
-    result = 0;
     return result;
 }
 
@@ -494,80 +264,70 @@ static c2_target__Command c2_target_state__decode__command_of(const c2_target *a
 {
     c2_target__Command result;
     _Bool v2;
-    _Bool v3;
+    uint64_t v3;
     uint64_t v4;
-    uint64_t v5;
+    c2_target__Command v5;
     uint64_t v6;
     uint64_t v7;
-    uint64_t v8;
-    uint64_t v9;
     v2 = a1->write == 1u;
-    v3 = a1->command == 0u;
-    if (v3) {
-        result.tag = 0u;
-        result.u64_0 = 0;
-        result.bool_0 = 0;
-        result.u64_1 = 0;
-        return result;
+    v3 = core__convert__UsizeFromU16__from(a1->start);
+    v4 = core__convert__UsizeFromU16__from(a1->rest);
+    switch (a1->command) {
+    case 0u:
+        v5.tag = 0u;
+        v5.u64_0 = 0;
+        v5.bool_0 = 0;
+        v5.u64_1 = 0;
+        break;
+    case 1u:
+        v5.tag = 1u;
+        v5.u64_0 = 0;
+        v5.bool_0 = 0;
+        v5.u64_1 = 0;
+        break;
+    case 2u:
+        v6 = core__AnyInto__into_u8_u64(a1->page);
+        v5.tag = 2u;
+        v5.u64_0 = v6;
+        v5.bool_0 = 0;
+        v5.u64_1 = 0;
+        break;
+    case 3u:
+        v5.tag = 3u;
+        v5.bool_0 = v2;
+        v5.u64_0 = 0;
+        v5.u64_1 = 0;
+        break;
+    case 4u:
+        v7 = core__AnyInto__into_u8_u64(a1->high);
+        v5.tag = 4u;
+        v5.bool_0 = v2;
+        v5.u64_0 = v7;
+        v5.u64_1 = 0;
+        break;
+    case 5u:
+        v5.tag = 5u;
+        v5.bool_0 = v2;
+        v5.u64_0 = v3;
+        v5.u64_1 = 0;
+        break;
+    case 6u:
+        v5.tag = 6u;
+        v5.u64_0 = v3;
+        v5.u64_1 = v4;
+        v5.bool_0 = 0;
+        break;
+    default:
+        v5.tag = 7u;
+        v5.u64_0 = v4;
+        v5.bool_0 = 0;
+        v5.u64_1 = 0;
+        break;
     }
-    v3 = a1->command == 1u;
-    if (v3) {
-        result.tag = 1u;
-        result.u64_0 = 0;
-        result.bool_0 = 0;
-        result.u64_1 = 0;
-        return result;
-    }
-    v3 = a1->command == 2u;
-    if (v3) {
-        v4 = c2_target_state__fields__wide(a1->page);
-        result.tag = 2u;
-        result.u64_0 = v4;
-        result.bool_0 = 0;
-        result.u64_1 = 0;
-        return result;
-    }
-    v3 = a1->command == 3u;
-    if (v3) {
-        result.tag = 3u;
-        result.bool_0 = v2;
-        result.u64_0 = 0;
-        result.u64_1 = 0;
-        return result;
-    }
-    v3 = a1->command == 4u;
-    if (v3) {
-        v5 = c2_target_state__fields__wide(a1->high);
-        result.tag = 4u;
-        result.bool_0 = v2;
-        result.u64_0 = v5;
-        result.u64_1 = 0;
-        return result;
-    }
-    v3 = a1->command == 5u;
-    if (v3) {
-        v6 = c2_target_state__fields__wide16(a1->start);
-        result.tag = 5u;
-        result.bool_0 = v2;
-        result.u64_0 = v6;
-        result.u64_1 = 0;
-        return result;
-    }
-    v3 = a1->command == 6u;
-    if (v3) {
-        v7 = c2_target_state__fields__wide16(a1->start);
-        v8 = c2_target_state__fields__wide16(a1->rest);
-        result.tag = 6u;
-        result.u64_0 = v7;
-        result.u64_1 = v8;
-        result.bool_0 = 0;
-        return result;
-    }
-    v9 = c2_target_state__fields__wide16(a1->rest);
-    result.tag = 7u;
-    result.u64_0 = v9;
-    result.bool_0 = 0;
-    result.u64_1 = 0;
+    result.tag = v5.tag;
+    result.u64_0 = v5.u64_0;
+    result.bool_0 = v5.bool_0;
+    result.u64_1 = v5.u64_1;
     return result;
 }
 
@@ -595,44 +355,42 @@ static c2_target__Output c2_target_state__decode__output_of(const c2_target *a1)
 {
     c2_target__Output result;
     _Bool v2;
-    _Bool v3;
+    uint64_t v3;
     uint64_t v4;
-    uint64_t v5;
-    uint64_t v6;
-    uint64_t v7;
-    v2 = a1->output == 0u;
-    if (v2) {
-        result.tag = 0u;
-        result.bool_0 = 0;
-        result.u64_0 = 0;
-        result.u64_1 = 0;
-        return result;
+    c2_target__Output v5;
+    v2 = a1->passed == 1u;
+    v3 = core__convert__UsizeFromU16__from(a1->next);
+    v4 = core__convert__UsizeFromU16__from(a1->count);
+    switch (a1->output) {
+    case 0u:
+        v5.tag = 0u;
+        v5.bool_0 = 0;
+        v5.u64_0 = 0;
+        v5.u64_1 = 0;
+        break;
+    case 1u:
+        v5.tag = 1u;
+        v5.bool_0 = v2;
+        v5.u64_0 = 0;
+        v5.u64_1 = 0;
+        break;
+    case 2u:
+        v5.tag = 2u;
+        v5.u64_0 = v3;
+        v5.u64_1 = v4;
+        v5.bool_0 = 0;
+        break;
+    default:
+        v5.tag = 3u;
+        v5.u64_0 = v3;
+        v5.u64_1 = v4;
+        v5.bool_0 = 0;
+        break;
     }
-    v2 = a1->output == 1u;
-    if (v2) {
-        v3 = a1->passed == 1u;
-        result.tag = 1u;
-        result.bool_0 = v3;
-        result.u64_0 = 0;
-        result.u64_1 = 0;
-        return result;
-    }
-    v2 = a1->output == 2u;
-    if (v2) {
-        v4 = c2_target_state__fields__wide16(a1->next);
-        v5 = c2_target_state__fields__wide16(a1->count);
-        result.tag = 2u;
-        result.u64_0 = v4;
-        result.u64_1 = v5;
-        result.bool_0 = 0;
-        return result;
-    }
-    v6 = c2_target_state__fields__wide16(a1->next);
-    v7 = c2_target_state__fields__wide16(a1->count);
-    result.tag = 3u;
-    result.u64_0 = v6;
-    result.u64_1 = v7;
-    result.bool_0 = 0;
+    result.tag = v5.tag;
+    result.bool_0 = v5.bool_0;
+    result.u64_0 = v5.u64_0;
+    result.u64_1 = v5.u64_1;
     return result;
 }
 
@@ -640,100 +398,35 @@ static c2_target__Output c2_target_state__decode__output_of(const c2_target *a1)
 static c2_target__Effect c2_target_state__decode__effect_of(uint8_t a1, uint8_t a2)
 {
     c2_target__Effect result;
-    _Bool v3;
+    c2_target__Effect v3;
     uint64_t v4;
     uint64_t v5;
-    v3 = a1 == 0u;
-    if (v3) {
-        result.tag = 0u;
-        result.u64_0 = 0;
-        return result;
+    switch (a1) {
+    case 0u:
+        v3.tag = 0u;
+        v3.u64_0 = 0;
+        break;
+    case 1u:
+        v4 = core__AnyInto__into_u8_u64(a2);
+        v3.tag = 1u;
+        v3.u64_0 = v4;
+        break;
+    case 2u:
+        v5 = core__AnyInto__into_u8_u64(a2);
+        v3.tag = 2u;
+        v3.u64_0 = v5;
+        break;
+    case 3u:
+        v3.tag = 3u;
+        v3.u64_0 = 0;
+        break;
+    default:
+        v3.tag = 4u;
+        v3.u64_0 = 0;
+        break;
     }
-    v3 = a1 == 1u;
-    if (v3) {
-        v4 = c2_target_state__fields__wide(a2);
-        result.tag = 1u;
-        result.u64_0 = v4;
-        return result;
-    }
-    v3 = a1 == 2u;
-    if (v3) {
-        v5 = c2_target_state__fields__wide(a2);
-        result.tag = 2u;
-        result.u64_0 = v5;
-        return result;
-    }
-    v3 = a1 == 3u;
-    if (v3) {
-        result.tag = 3u;
-        result.u64_0 = 0;
-        return result;
-    }
-    result.tag = 4u;
-    result.u64_0 = 0;
-    return result;
-}
-
-/* c2_target_state::decode::later_point */
-static c2_target__Point c2_target_state__decode__later_point(const c2_target *a1)
-{
-    c2_target__Point result;
-    c2_target__Effect v2;
-    _Bool v3;
-    uint64_t v4;
-    uint64_t v5;
-    uint64_t v6;
-    uint64_t v7;
-    uint64_t v8;
-    uint64_t v9;
-    v2 = c2_target_state__decode__effect_of(a1->effect, a1->byte);
-    v3 = a1->point == 6u;
-    if (v3) {
-        v4 = c2_target_state__fields__wide(a1->left);
-        result.tag = 6u;
-        result.u64_0 = v4;
-        result.u64_1 = 0;
-        result.c2_target__Effect_0.tag = 0;
-        result.c2_target__Effect_0.u64_0 = 0;
-        return result;
-    }
-    v3 = a1->point == 7u;
-    if (v3) {
-        v5 = c2_target_state__fields__wide(a1->left);
-        result.tag = 7u;
-        result.u64_0 = v5;
-        result.c2_target__Effect_0.tag = v2.tag;
-        result.c2_target__Effect_0.u64_0 = v2.u64_0;
-        result.u64_1 = 0;
-        return result;
-    }
-    v3 = a1->point == 8u;
-    if (v3) {
-        v6 = c2_target_state__fields__wide(a1->zeros);
-        v7 = c2_target_state__fields__wide(a1->left);
-        result.tag = 8u;
-        result.u64_0 = v6;
-        result.u64_1 = v7;
-        result.c2_target__Effect_0.tag = v2.tag;
-        result.c2_target__Effect_0.u64_0 = v2.u64_0;
-        return result;
-    }
-    v3 = a1->point == 9u;
-    if (v3) {
-        v8 = c2_target_state__fields__wide(a1->left);
-        v9 = c2_target_state__fields__wide(a1->value);
-        result.tag = 9u;
-        result.u64_0 = v8;
-        result.u64_1 = v9;
-        result.c2_target__Effect_0.tag = v2.tag;
-        result.c2_target__Effect_0.u64_0 = v2.u64_0;
-        return result;
-    }
-    result.tag = 10u;
-    result.c2_target__Effect_0.tag = v2.tag;
-    result.c2_target__Effect_0.u64_0 = v2.u64_0;
-    result.u64_0 = 0;
-    result.u64_1 = 0;
+    result.tag = v3.tag;
+    result.u64_0 = v3.u64_0;
     return result;
 }
 
@@ -741,82 +434,101 @@ static c2_target__Point c2_target_state__decode__later_point(const c2_target *a1
 static c2_target__Point c2_target_state__decode__point_of(const c2_target *a1)
 {
     c2_target__Point result;
-    _Bool v2;
+    uint64_t v2;
     uint64_t v3;
     uint64_t v4;
     uint64_t v5;
-    uint64_t v6;
-    uint64_t v7;
-    uint64_t v8;
-    uint64_t v9;
-    uint64_t v10;
-    uint64_t v11;
-    uint64_t v12;
-    v2 = a1->point == 0u;
-    if (v2) {
-        result.tag = 0u;
-        result.u64_0 = 0;
-        result.u64_1 = 0;
-        result.c2_target__Effect_0.tag = 0;
-        result.c2_target__Effect_0.u64_0 = 0;
-        return result;
+    c2_target__Effect v6;
+    c2_target__Point v7;
+    v2 = core__convert__UsizeFromU8__from(a1->heard);
+    v3 = core__convert__UsizeFromU8__from(a1->value);
+    v4 = core__convert__UsizeFromU8__from(a1->left);
+    v5 = core__convert__UsizeFromU8__from(a1->zeros);
+    v6 = c2_target_state__decode__effect_of(a1->effect, a1->byte);
+    switch (a1->point) {
+    case 0u:
+        v7.tag = 0u;
+        v7.u64_0 = 0;
+        v7.u64_1 = 0;
+        v7.c2_target__Effect_0.tag = 0;
+        v7.c2_target__Effect_0.u64_0 = 0;
+        break;
+    case 1u:
+        v7.tag = 1u;
+        v7.u64_0 = v2;
+        v7.u64_1 = v3;
+        v7.c2_target__Effect_0.tag = 0;
+        v7.c2_target__Effect_0.u64_0 = 0;
+        break;
+    case 2u:
+        v7.tag = 2u;
+        v7.u64_0 = v2;
+        v7.u64_1 = v3;
+        v7.c2_target__Effect_0.tag = 0;
+        v7.c2_target__Effect_0.u64_0 = 0;
+        break;
+    case 3u:
+        v7.tag = 3u;
+        v7.u64_0 = v2;
+        v7.u64_1 = v3;
+        v7.c2_target__Effect_0.tag = 0;
+        v7.c2_target__Effect_0.u64_0 = 0;
+        break;
+    case 4u:
+        v7.tag = 4u;
+        v7.u64_0 = v2;
+        v7.u64_1 = v3;
+        v7.c2_target__Effect_0.tag = 0;
+        v7.c2_target__Effect_0.u64_0 = 0;
+        break;
+    case 5u:
+        v7.tag = 5u;
+        v7.u64_0 = v2;
+        v7.u64_1 = v3;
+        v7.c2_target__Effect_0.tag = 0;
+        v7.c2_target__Effect_0.u64_0 = 0;
+        break;
+    case 6u:
+        v7.tag = 6u;
+        v7.u64_0 = v4;
+        v7.u64_1 = 0;
+        v7.c2_target__Effect_0.tag = 0;
+        v7.c2_target__Effect_0.u64_0 = 0;
+        break;
+    case 7u:
+        v7.tag = 7u;
+        v7.u64_0 = v4;
+        v7.c2_target__Effect_0.tag = v6.tag;
+        v7.c2_target__Effect_0.u64_0 = v6.u64_0;
+        v7.u64_1 = 0;
+        break;
+    case 8u:
+        v7.tag = 8u;
+        v7.u64_0 = v5;
+        v7.u64_1 = v4;
+        v7.c2_target__Effect_0.tag = v6.tag;
+        v7.c2_target__Effect_0.u64_0 = v6.u64_0;
+        break;
+    case 9u:
+        v7.tag = 9u;
+        v7.u64_0 = v4;
+        v7.u64_1 = v3;
+        v7.c2_target__Effect_0.tag = v6.tag;
+        v7.c2_target__Effect_0.u64_0 = v6.u64_0;
+        break;
+    default:
+        v7.tag = 10u;
+        v7.c2_target__Effect_0.tag = v6.tag;
+        v7.c2_target__Effect_0.u64_0 = v6.u64_0;
+        v7.u64_0 = 0;
+        v7.u64_1 = 0;
+        break;
     }
-    v2 = a1->point == 1u;
-    if (v2) {
-        v3 = c2_target_state__fields__wide(a1->heard);
-        v4 = c2_target_state__fields__wide(a1->value);
-        result.tag = 1u;
-        result.u64_0 = v3;
-        result.u64_1 = v4;
-        result.c2_target__Effect_0.tag = 0;
-        result.c2_target__Effect_0.u64_0 = 0;
-        return result;
-    }
-    v2 = a1->point == 2u;
-    if (v2) {
-        v5 = c2_target_state__fields__wide(a1->heard);
-        v6 = c2_target_state__fields__wide(a1->value);
-        result.tag = 2u;
-        result.u64_0 = v5;
-        result.u64_1 = v6;
-        result.c2_target__Effect_0.tag = 0;
-        result.c2_target__Effect_0.u64_0 = 0;
-        return result;
-    }
-    v2 = a1->point == 3u;
-    if (v2) {
-        v7 = c2_target_state__fields__wide(a1->heard);
-        v8 = c2_target_state__fields__wide(a1->value);
-        result.tag = 3u;
-        result.u64_0 = v7;
-        result.u64_1 = v8;
-        result.c2_target__Effect_0.tag = 0;
-        result.c2_target__Effect_0.u64_0 = 0;
-        return result;
-    }
-    v2 = a1->point == 4u;
-    if (v2) {
-        v9 = c2_target_state__fields__wide(a1->heard);
-        v10 = c2_target_state__fields__wide(a1->value);
-        result.tag = 4u;
-        result.u64_0 = v9;
-        result.u64_1 = v10;
-        result.c2_target__Effect_0.tag = 0;
-        result.c2_target__Effect_0.u64_0 = 0;
-        return result;
-    }
-    v2 = a1->point == 5u;
-    if (v2) {
-        v11 = c2_target_state__fields__wide(a1->heard);
-        v12 = c2_target_state__fields__wide(a1->value);
-        result.tag = 5u;
-        result.u64_0 = v11;
-        result.u64_1 = v12;
-        result.c2_target__Effect_0.tag = 0;
-        result.c2_target__Effect_0.u64_0 = 0;
-        return result;
-    }
-    result = c2_target_state__decode__later_point(a1);
+    result.tag = v7.tag;
+    result.u64_0 = v7.u64_0;
+    result.u64_1 = v7.u64_1;
+    result.c2_target__Effect_0.tag = v7.c2_target__Effect_0.tag;
+    result.c2_target__Effect_0.u64_0 = v7.c2_target__Effect_0.u64_0;
     return result;
 }
 
@@ -835,8 +547,8 @@ static c2_target__Target c2_target_state__decode__target_read(const c2_target *a
     c2_target__Point v10;
     v4 = c2_target_state__decode__command_of(a1);
     v5 = c2_target_state__decode__output_of(a1);
-    v6 = c2_target_state__fields__wide(a1->busy);
-    v7 = c2_target_state__fields__wide(a1->late);
+    v6 = core__AnyInto__into_u8_u64(a1->busy);
+    v7 = core__AnyInto__into_u8_u64(a1->late);
     v2.f0.tag = v4.tag;
     v2.f0.u64_0 = v4.u64_0;
     v2.f0.bool_0 = v4.bool_0;
@@ -847,9 +559,9 @@ static c2_target__Target c2_target_state__decode__target_read(const c2_target *a
     v2.f1.u64_1 = v5.u64_1;
     v2.f2 = v6;
     v2.f3 = v7;
-    v6 = c2_target_state__fields__wide(a1->address);
+    v6 = core__AnyInto__into_u8_u64(a1->address);
     v8 = a1->on == 1u;
-    v7 = c2_target_state__fields__wide(a1->keys);
+    v7 = core__AnyInto__into_u8_u64(a1->keys);
     v9 = c2_target_state__decode__met_of(a1);
     v3.f0 = v6;
     v3.f1 = v8;
@@ -898,6 +610,559 @@ static c2_target__Target c2_target_state__decode__target_read(const c2_target *a
     return result;
 }
 
+/* c2_target_state::form::command_in_form */
+static _Bool c2_target_state__form__command_in_form(const c2_target *a1)
+{
+    _Bool result;
+    _Bool v2;
+    _Bool v3;
+    _Bool v4;
+    _Bool v5;
+    _Bool v6;
+    _Bool v7;
+    _Bool v8;
+    _Bool v9;
+    _Bool v10;
+    _Bool v11;
+    _Bool v12;
+    _Bool v13;
+    _Bool v14;
+    _Bool v15;
+    _Bool v16;
+    _Bool v17;
+    _Bool v18;
+    _Bool v19;
+    _Bool v20;
+    _Bool v21;
+    _Bool v22;
+    _Bool v23;
+    _Bool v24;
+    _Bool v25;
+    switch (a1->command) {
+    case 2u:
+        v5 = a1->write == 0u;
+        if (v5) {
+            v5 = a1->high == 0u;
+        }
+        v4 = v5;
+        if (v4) {
+            v4 = a1->start == 0u;
+        }
+        v3 = v4;
+        if (v3) {
+            v3 = a1->rest == 0u;
+        }
+        v2 = v3;
+        break;
+    case 3u:
+        v9 = a1->write < 2u;
+        if (v9) {
+            v9 = a1->page == 0u;
+        }
+        v8 = v9;
+        if (v8) {
+            v8 = a1->high == 0u;
+        }
+        v7 = v8;
+        if (v7) {
+            v7 = a1->start == 0u;
+        }
+        v6 = v7;
+        if (v6) {
+            v6 = a1->rest == 0u;
+        }
+        v2 = v6;
+        break;
+    case 4u:
+        v12 = a1->write < 2u;
+        if (v12) {
+            v12 = a1->page == 0u;
+        }
+        v11 = v12;
+        if (v11) {
+            v11 = a1->start == 0u;
+        }
+        v10 = v11;
+        if (v10) {
+            v10 = a1->rest == 0u;
+        }
+        v2 = v10;
+        break;
+    case 5u:
+        v15 = a1->write < 2u;
+        if (v15) {
+            v15 = a1->page == 0u;
+        }
+        v14 = v15;
+        if (v14) {
+            v14 = a1->high == 0u;
+        }
+        v13 = v14;
+        if (v13) {
+            v13 = a1->rest == 0u;
+        }
+        v2 = v13;
+        break;
+    case 6u:
+        v17 = a1->write == 0u;
+        if (v17) {
+            v17 = a1->page == 0u;
+        }
+        v16 = v17;
+        if (v16) {
+            v16 = a1->high == 0u;
+        }
+        v2 = v16;
+        break;
+    case 7u:
+        v20 = a1->write == 0u;
+        if (v20) {
+            v20 = a1->page == 0u;
+        }
+        v19 = v20;
+        if (v19) {
+            v19 = a1->high == 0u;
+        }
+        v18 = v19;
+        if (v18) {
+            v18 = a1->start == 0u;
+        }
+        v2 = v18;
+        break;
+    default:
+        v21 = a1->command < 2u;
+        if (v21) {
+            v25 = a1->write == 0u;
+            if (v25) {
+                v25 = a1->page == 0u;
+            }
+            v24 = v25;
+            if (v24) {
+                v24 = a1->high == 0u;
+            }
+            v23 = v24;
+            if (v23) {
+                v23 = a1->start == 0u;
+            }
+            v22 = v23;
+            if (v22) {
+                v22 = a1->rest == 0u;
+            }
+            v2 = v22;
+            goto end1;
+        }
+        v2 = 0;
+        end1:;
+        break;
+    }
+    result = v2;
+    return result;
+}
+
+/* c2_target_state::form::flags_in_form */
+static _Bool c2_target_state__form__flags_in_form(const c2_target *a1)
+{
+    _Bool result;
+    _Bool v2;
+    _Bool v3;
+    _Bool v4;
+    _Bool v5;
+    _Bool v6;
+    v6 = a1->collision < 2u;
+    if (v6) {
+        v6 = a1->on < 2u;
+    }
+    v5 = v6;
+    if (v5) {
+        v5 = a1->met1 < 2u;
+    }
+    v4 = v5;
+    if (v4) {
+        v4 = a1->met2 < 2u;
+    }
+    v3 = v4;
+    if (v3) {
+        v3 = a1->met3 < 2u;
+    }
+    v2 = v3;
+    if (v2) {
+        v2 = a1->met4 < 2u;
+    }
+    result = v2;
+    return result;
+}
+
+/* c2_target_state::form::output_in_form */
+static _Bool c2_target_state__form__output_in_form(const c2_target *a1)
+{
+    _Bool result;
+    _Bool v2;
+    _Bool v3;
+    _Bool v4;
+    _Bool v5;
+    v3 = a1->output < 2u;
+    if (v3) {
+        v5 = a1->passed <= a1->output;
+        if (v5) {
+            v5 = a1->next == 0u;
+        }
+        v4 = v5;
+        if (v4) {
+            v4 = a1->count == 0u;
+        }
+        v2 = v4;
+        goto end1;
+    }
+    v3 = a1->output < 4u;
+    if (v3) {
+        v2 = a1->passed == 0u;
+        goto end1;
+    }
+    v2 = 0;
+    end1:;
+    result = v2;
+    return result;
+}
+
+/* c2_target_state::form::effect_in_form */
+static _Bool c2_target_state__form__effect_in_form(uint8_t a1, uint8_t a2)
+{
+    _Bool result;
+    _Bool v3;
+    _Bool v4;
+    switch (a1) {
+    case 0u:
+        goto end2;
+    default:
+        v4 = a1 < 3u;
+        if (v4) {
+            v3 = 1;
+            goto end1;
+        }
+        v4 = a1 < 5u;
+        if (v4) {
+            goto end2;
+        }
+        v3 = 0;
+        goto end1;
+    }
+    end2:;
+    v3 = a2 == 0u;
+    end1:;
+    result = v3;
+    return result;
+}
+
+/* c2_target_state::form::point_in_form */
+static _Bool c2_target_state__form__point_in_form(const c2_target *a1)
+{
+    _Bool result;
+    _Bool v2;
+    _Bool v3;
+    _Bool v4;
+    _Bool v5;
+    _Bool v6;
+    _Bool v7;
+    _Bool v8;
+    _Bool v9;
+    _Bool v10;
+    _Bool v11;
+    _Bool v12;
+    _Bool v13;
+    _Bool v14;
+    _Bool v15;
+    _Bool v16;
+    _Bool v17;
+    _Bool v18;
+    _Bool v19;
+    _Bool v20;
+    _Bool v21;
+    _Bool v22;
+    _Bool v23;
+    _Bool v24;
+    _Bool v25;
+    _Bool v26;
+    _Bool v27;
+    v2 = c2_target_state__form__effect_in_form(a1->effect, a1->byte);
+    switch (a1->point) {
+    case 0u:
+        v8 = a1->heard == 0u;
+        if (v8) {
+            v8 = a1->value == 0u;
+        }
+        v7 = v8;
+        if (v7) {
+            v7 = a1->left == 0u;
+        }
+        v6 = v7;
+        if (v6) {
+            v6 = a1->zeros == 0u;
+        }
+        v5 = v6;
+        if (v5) {
+            v5 = a1->effect == 0u;
+        }
+        v4 = v5;
+        if (v4) {
+            v4 = a1->byte == 0u;
+        }
+        v3 = v4;
+        break;
+    case 6u:
+        v12 = a1->heard == 0u;
+        if (v12) {
+            v12 = a1->value == 0u;
+        }
+        v11 = v12;
+        if (v11) {
+            v11 = a1->zeros == 0u;
+        }
+        v10 = v11;
+        if (v10) {
+            v10 = a1->effect == 0u;
+        }
+        v9 = v10;
+        if (v9) {
+            v9 = a1->byte == 0u;
+        }
+        v3 = v9;
+        break;
+    case 7u:
+        v15 = a1->heard == 0u;
+        if (v15) {
+            v15 = a1->value == 0u;
+        }
+        v14 = v15;
+        if (v14) {
+            v14 = a1->zeros == 0u;
+        }
+        v13 = v14;
+        if (v13) {
+            v13 = v2;
+        }
+        v3 = v13;
+        break;
+    case 8u:
+        v17 = a1->heard == 0u;
+        if (v17) {
+            v17 = a1->value == 0u;
+        }
+        v16 = v17;
+        if (v16) {
+            v16 = v2;
+        }
+        v3 = v16;
+        break;
+    case 9u:
+        v19 = a1->heard == 0u;
+        if (v19) {
+            v19 = a1->zeros == 0u;
+        }
+        v18 = v19;
+        if (v18) {
+            v18 = v2;
+        }
+        v3 = v18;
+        break;
+    case 10u:
+        v23 = a1->heard == 0u;
+        if (v23) {
+            v23 = a1->value == 0u;
+        }
+        v22 = v23;
+        if (v22) {
+            v22 = a1->left == 0u;
+        }
+        v21 = v22;
+        if (v21) {
+            v21 = a1->zeros == 0u;
+        }
+        v20 = v21;
+        if (v20) {
+            v20 = v2;
+        }
+        v3 = v20;
+        break;
+    default:
+        v24 = a1->point < 6u;
+        if (v24) {
+            v27 = a1->left == 0u;
+            if (v27) {
+                v27 = a1->zeros == 0u;
+            }
+            v26 = v27;
+            if (v26) {
+                v26 = a1->effect == 0u;
+            }
+            v25 = v26;
+            if (v25) {
+                v25 = a1->byte == 0u;
+            }
+            v3 = v25;
+            goto end1;
+        }
+        v3 = 0;
+        end1:;
+        break;
+    }
+    result = v3;
+    return result;
+}
+
+/* c2_target_state::form::in_form */
+static _Bool c2_target_state__form__in_form(const c2_target *a1)
+{
+    _Bool result;
+    _Bool v2;
+    _Bool v3;
+    _Bool v4;
+    v4 = c2_target_state__form__point_in_form(a1);
+    if (v4) {
+        v4 = c2_target_state__form__flags_in_form(a1);
+    }
+    v3 = v4;
+    if (v3) {
+        v3 = c2_target_state__form__output_in_form(a1);
+    }
+    v2 = v3;
+    if (v2) {
+        v2 = c2_target_state__form__command_in_form(a1);
+    }
+    result = v2;
+    return result;
+}
+
+/* c2_target_state::decode::TargetTryFromState::try_from */
+static core__Result_Target_Refusal c2_target_state__decode__TargetTryFromState__try_from(const c2_target *a1)
+{
+    core__Result_Target_Refusal result;
+    _Bool v2;
+    core__Result_Target_Refusal v3;
+    c2_target__Target v4;
+    numbers__Refusal v5;
+    v2 = c2_target_state__form__in_form(a1);
+    if (v2) {
+        v4 = c2_target_state__decode__target_read(a1);
+        v3.tag = 0u;
+        v3.c2_target__Target_0.f0.tag = v4.f0.tag;
+        v3.c2_target__Target_0.f0.u64_0 = v4.f0.u64_0;
+        v3.c2_target__Target_0.f0.u64_1 = v4.f0.u64_1;
+        v3.c2_target__Target_0.f0.c2_target__Effect_0.tag = v4.f0.c2_target__Effect_0.tag;
+        v3.c2_target__Target_0.f0.c2_target__Effect_0.u64_0 = v4.f0.c2_target__Effect_0.u64_0;
+        v3.c2_target__Target_0.f1 = v4.f1;
+        v3.c2_target__Target_0.f2 = v4.f2;
+        v3.c2_target__Target_0.f3.f0 = v4.f3.f0;
+        v3.c2_target__Target_0.f3.f1 = v4.f3.f1;
+        v3.c2_target__Target_0.f3.f2 = v4.f3.f2;
+        v3.c2_target__Target_0.f3.f3.f0 = v4.f3.f3.f0;
+        v3.c2_target__Target_0.f3.f3.f1 = v4.f3.f3.f1;
+        v3.c2_target__Target_0.f3.f3.f2 = v4.f3.f3.f2;
+        v3.c2_target__Target_0.f3.f3.f3 = v4.f3.f3.f3;
+        v3.c2_target__Target_0.f3.f4.f0.tag = v4.f3.f4.f0.tag;
+        v3.c2_target__Target_0.f3.f4.f0.u64_0 = v4.f3.f4.f0.u64_0;
+        v3.c2_target__Target_0.f3.f4.f0.bool_0 = v4.f3.f4.f0.bool_0;
+        v3.c2_target__Target_0.f3.f4.f0.u64_1 = v4.f3.f4.f0.u64_1;
+        v3.c2_target__Target_0.f3.f4.f1.tag = v4.f3.f4.f1.tag;
+        v3.c2_target__Target_0.f3.f4.f1.bool_0 = v4.f3.f4.f1.bool_0;
+        v3.c2_target__Target_0.f3.f4.f1.u64_0 = v4.f3.f4.f1.u64_0;
+        v3.c2_target__Target_0.f3.f4.f1.u64_1 = v4.f3.f4.f1.u64_1;
+        v3.c2_target__Target_0.f3.f4.f2 = v4.f3.f4.f2;
+        v3.c2_target__Target_0.f3.f4.f3 = v4.f3.f4.f3;
+        v3.numbers__Refusal_0 = 0;
+    } else {
+        v5 = 9u;
+        v3.tag = 1u;
+        v3.numbers__Refusal_0 = v5;
+        v3.c2_target__Target_0.f0.tag = 0;
+        v3.c2_target__Target_0.f0.u64_0 = 0;
+        v3.c2_target__Target_0.f0.u64_1 = 0;
+        v3.c2_target__Target_0.f0.c2_target__Effect_0.tag = 0;
+        v3.c2_target__Target_0.f0.c2_target__Effect_0.u64_0 = 0;
+        v3.c2_target__Target_0.f1 = 0;
+        v3.c2_target__Target_0.f2 = 0;
+        v3.c2_target__Target_0.f3.f0 = 0;
+        v3.c2_target__Target_0.f3.f1 = 0;
+        v3.c2_target__Target_0.f3.f2 = 0;
+        v3.c2_target__Target_0.f3.f3.f0 = 0;
+        v3.c2_target__Target_0.f3.f3.f1 = 0;
+        v3.c2_target__Target_0.f3.f3.f2 = 0;
+        v3.c2_target__Target_0.f3.f3.f3 = 0;
+        v3.c2_target__Target_0.f3.f4.f0.tag = 0;
+        v3.c2_target__Target_0.f3.f4.f0.u64_0 = 0;
+        v3.c2_target__Target_0.f3.f4.f0.bool_0 = 0;
+        v3.c2_target__Target_0.f3.f4.f0.u64_1 = 0;
+        v3.c2_target__Target_0.f3.f4.f1.tag = 0;
+        v3.c2_target__Target_0.f3.f4.f1.bool_0 = 0;
+        v3.c2_target__Target_0.f3.f4.f1.u64_0 = 0;
+        v3.c2_target__Target_0.f3.f4.f1.u64_1 = 0;
+        v3.c2_target__Target_0.f3.f4.f2 = 0;
+        v3.c2_target__Target_0.f3.f4.f3 = 0;
+    }
+    result.tag = v3.tag;
+    result.c2_target__Target_0.f0.tag = v3.c2_target__Target_0.f0.tag;
+    result.c2_target__Target_0.f0.u64_0 = v3.c2_target__Target_0.f0.u64_0;
+    result.c2_target__Target_0.f0.u64_1 = v3.c2_target__Target_0.f0.u64_1;
+    result.c2_target__Target_0.f0.c2_target__Effect_0.tag = v3.c2_target__Target_0.f0.c2_target__Effect_0.tag;
+    result.c2_target__Target_0.f0.c2_target__Effect_0.u64_0 = v3.c2_target__Target_0.f0.c2_target__Effect_0.u64_0;
+    result.c2_target__Target_0.f1 = v3.c2_target__Target_0.f1;
+    result.c2_target__Target_0.f2 = v3.c2_target__Target_0.f2;
+    result.c2_target__Target_0.f3.f0 = v3.c2_target__Target_0.f3.f0;
+    result.c2_target__Target_0.f3.f1 = v3.c2_target__Target_0.f3.f1;
+    result.c2_target__Target_0.f3.f2 = v3.c2_target__Target_0.f3.f2;
+    result.c2_target__Target_0.f3.f3.f0 = v3.c2_target__Target_0.f3.f3.f0;
+    result.c2_target__Target_0.f3.f3.f1 = v3.c2_target__Target_0.f3.f3.f1;
+    result.c2_target__Target_0.f3.f3.f2 = v3.c2_target__Target_0.f3.f3.f2;
+    result.c2_target__Target_0.f3.f3.f3 = v3.c2_target__Target_0.f3.f3.f3;
+    result.c2_target__Target_0.f3.f4.f0.tag = v3.c2_target__Target_0.f3.f4.f0.tag;
+    result.c2_target__Target_0.f3.f4.f0.u64_0 = v3.c2_target__Target_0.f3.f4.f0.u64_0;
+    result.c2_target__Target_0.f3.f4.f0.bool_0 = v3.c2_target__Target_0.f3.f4.f0.bool_0;
+    result.c2_target__Target_0.f3.f4.f0.u64_1 = v3.c2_target__Target_0.f3.f4.f0.u64_1;
+    result.c2_target__Target_0.f3.f4.f1.tag = v3.c2_target__Target_0.f3.f4.f1.tag;
+    result.c2_target__Target_0.f3.f4.f1.bool_0 = v3.c2_target__Target_0.f3.f4.f1.bool_0;
+    result.c2_target__Target_0.f3.f4.f1.u64_0 = v3.c2_target__Target_0.f3.f4.f1.u64_0;
+    result.c2_target__Target_0.f3.f4.f1.u64_1 = v3.c2_target__Target_0.f3.f4.f1.u64_1;
+    result.c2_target__Target_0.f3.f4.f2 = v3.c2_target__Target_0.f3.f4.f2;
+    result.c2_target__Target_0.f3.f4.f3 = v3.c2_target__Target_0.f3.f4.f3;
+    result.numbers__Refusal_0 = v3.numbers__Refusal_0;
+    return result;
+}
+
+/* core::default::U8Default::default */
+static uint8_t core__default__U8Default__default(void)
+{
+    uint8_t result;
+    result = 0u;
+    return result;
+}
+
+/* c2_target_state::PointFieldsDefault::default */
+static c2_target_state__PointFields c2_target_state__PointFieldsDefault__default(void)
+{
+    c2_target_state__PointFields result;
+    uint8_t v1;
+    uint8_t v2;
+    uint8_t v3;
+    uint8_t v4;
+    uint8_t v5;
+    uint8_t v6;
+    uint8_t v7;
+    v1 = core__default__U8Default__default();
+    v2 = core__default__U8Default__default();
+    v3 = core__default__U8Default__default();
+    v4 = core__default__U8Default__default();
+    v5 = core__default__U8Default__default();
+    v6 = core__default__U8Default__default();
+    v7 = core__default__U8Default__default();
+    result.f0 = v1;
+    result.f1 = v2;
+    result.f2 = v3;
+    result.f3 = v4;
+    result.f4 = v5;
+    result.f5 = v6;
+    result.f6 = v7;
+    return result;
+}
+
 /* c2_target_state::fields::low */
 static uint8_t c2_target_state__fields__low(uint64_t a1)
 {
@@ -908,33 +1173,55 @@ static uint8_t c2_target_state__fields__low(uint64_t a1)
     return result;
 }
 
+/* c2_target_state::encode::hearing */
+static c2_target_state__PointFields c2_target_state__encode__hearing(uint8_t a1, uint64_t a2, uint64_t a3)
+{
+    c2_target_state__PointFields result;
+    uint8_t v4;
+    uint8_t v5;
+    c2_target_state__PointFields v6;
+    uint8_t v7;
+    uint8_t v8;
+    uint8_t v9;
+    uint8_t v10;
+    v4 = c2_target_state__fields__low(a2);
+    v5 = c2_target_state__fields__low(a3);
+    v6 = c2_target_state__PointFieldsDefault__default();
+    v7 = v6.f3;
+    v8 = v6.f4;
+    v9 = v6.f5;
+    v10 = v6.f6;
+    result.f0 = a1;
+    result.f1 = v4;
+    result.f2 = v5;
+    result.f3 = v7;
+    result.f4 = v8;
+    result.f5 = v9;
+    result.f6 = v10;
+    return result;
+}
+
 /* c2_target_state::encode::effect_byte */
 static uint8_t c2_target_state__encode__effect_byte(const c2_target__Effect *a1)
 {
     uint8_t result;
     uint64_t v2;
-    uint64_t v3;
-    uint8_t v4;
+    uint8_t v3;
     switch (a1->tag) {
-    case 0u:
-        v4 = 0u;
-        break;
     case 1u:
         v2 = a1->u64_0;
-        v4 = c2_target_state__fields__low(v2);
-        break;
+        goto end2;
     case 2u:
-        v3 = a1->u64_0;
-        v4 = c2_target_state__fields__low(v3);
-        break;
-    case 3u:
-        v4 = 0u;
-        break;
-    default: /* 4 */
-        v4 = 0u;
-        break;
+        v2 = a1->u64_0;
+        goto end2;
+    default: /* 0, 3, 4 */
+        v3 = 0u;
+        goto end1;
     }
-    result = v4;
+    end2:;
+    v3 = c2_target_state__fields__low(v2);
+    end1:;
+    result = v3;
     return result;
 }
 
@@ -964,35 +1251,38 @@ static uint8_t c2_target_state__encode__effect_code(const c2_target__Effect *a1)
     return result;
 }
 
-/* c2_target_state::encode::fields */
-static c2_target_state__PointFields c2_target_state__encode__fields(uint8_t a1, uint64_t a2, uint64_t a3,
-    uint64_t a4, uint64_t a5, const c2_target__Effect *a6)
+/* c2_target_state::encode::with_effect */
+static c2_target_state__PointFields c2_target_state__encode__with_effect(uint8_t a1,
+    const c2_target__Effect *a2)
 {
     c2_target_state__PointFields result;
+    uint8_t v3;
+    uint8_t v4;
+    c2_target_state__PointFields v5;
+    uint8_t v6;
     uint8_t v7;
     uint8_t v8;
     uint8_t v9;
-    uint8_t v10;
-    uint8_t v11;
-    uint8_t v12;
-    v7 = c2_target_state__fields__low(a2);
-    v8 = c2_target_state__fields__low(a3);
-    v9 = c2_target_state__fields__low(a4);
-    v10 = c2_target_state__fields__low(a5);
-    v11 = c2_target_state__encode__effect_code(a6);
-    v12 = c2_target_state__encode__effect_byte(a6);
+    v3 = c2_target_state__encode__effect_code(a2);
+    v4 = c2_target_state__encode__effect_byte(a2);
+    v5 = c2_target_state__PointFieldsDefault__default();
+    v6 = v5.f1;
+    v7 = v5.f2;
+    v8 = v5.f3;
+    v9 = v5.f4;
     result.f0 = a1;
-    result.f1 = v7;
-    result.f2 = v8;
-    result.f3 = v9;
-    result.f4 = v10;
-    result.f5 = v11;
-    result.f6 = v12;
+    result.f1 = v6;
+    result.f2 = v7;
+    result.f3 = v8;
+    result.f4 = v9;
+    result.f5 = v3;
+    result.f6 = v4;
     return result;
 }
 
-/* c2_target_state::encode::point_fields */
-static c2_target_state__PointFields c2_target_state__encode__point_fields(const c2_target__Point *a1)
+/* c2_target_state::encode::PointFieldsFromPoint::from */
+static c2_target_state__PointFields c2_target_state__encode__PointFieldsFromPoint__from(
+    const c2_target__Point *a1)
 {
     c2_target_state__PointFields result;
     uint64_t v2;
@@ -1016,84 +1306,154 @@ static c2_target_state__PointFields c2_target_state__encode__point_fields(const 
     c2_target__Effect v20;
     c2_target__Effect v21;
     c2_target_state__PointFields v22;
-    c2_target__Effect v23;
-    c2_target__Effect v24;
+    uint8_t v23;
+    c2_target_state__PointFields v24;
     c2_target__Effect v25;
-    c2_target__Effect v26;
-    c2_target__Effect v27;
-    c2_target__Effect v28;
-    c2_target__Effect v29;
+    uint8_t v26;
+    uint8_t v27;
+    uint8_t v28;
+    uint8_t v29;
+    uint8_t v30;
+    uint8_t v31;
+    uint8_t v32;
+    c2_target_state__PointFields v33;
+    uint8_t v34;
+    uint8_t v35;
+    uint8_t v36;
+    uint8_t v37;
+    uint8_t v38;
+    uint8_t v39;
+    uint8_t v40;
+    uint8_t v41;
+    c2_target_state__PointFields v42;
+    uint8_t v43;
+    uint8_t v44;
+    uint8_t v45;
+    uint8_t v46;
+    uint8_t v47;
+    uint8_t v48;
+    uint8_t v49;
+    c2_target_state__PointFields v50;
+    uint8_t v51;
+    uint8_t v52;
+    uint8_t v53;
+    uint8_t v54;
+    uint8_t v55;
     switch (a1->tag) {
     case 0u:
-        v23.tag = 0u;
-        v23.u64_0 = 0;
-        v22 = c2_target_state__encode__fields(0u, UINT64_C(0), UINT64_C(0), UINT64_C(0), UINT64_C(0), &v23);
+        v22 = c2_target_state__PointFieldsDefault__default();
         break;
     case 1u:
         v2 = a1->u64_0;
         v3 = a1->u64_1;
-        v24.tag = 0u;
-        v24.u64_0 = 0;
-        v22 = c2_target_state__encode__fields(1u, v2, v3, UINT64_C(0), UINT64_C(0), &v24);
+        v22 = c2_target_state__encode__hearing(1u, v2, v3);
         break;
     case 2u:
         v4 = a1->u64_0;
         v5 = a1->u64_1;
-        v25.tag = 0u;
-        v25.u64_0 = 0;
-        v22 = c2_target_state__encode__fields(2u, v4, v5, UINT64_C(0), UINT64_C(0), &v25);
+        v22 = c2_target_state__encode__hearing(2u, v4, v5);
         break;
     case 3u:
         v6 = a1->u64_0;
         v7 = a1->u64_1;
-        v26.tag = 0u;
-        v26.u64_0 = 0;
-        v22 = c2_target_state__encode__fields(3u, v6, v7, UINT64_C(0), UINT64_C(0), &v26);
+        v22 = c2_target_state__encode__hearing(3u, v6, v7);
         break;
     case 4u:
         v8 = a1->u64_0;
         v9 = a1->u64_1;
-        v27.tag = 0u;
-        v27.u64_0 = 0;
-        v22 = c2_target_state__encode__fields(4u, v8, v9, UINT64_C(0), UINT64_C(0), &v27);
+        v22 = c2_target_state__encode__hearing(4u, v8, v9);
         break;
     case 5u:
         v10 = a1->u64_0;
         v11 = a1->u64_1;
-        v28.tag = 0u;
-        v28.u64_0 = 0;
-        v22 = c2_target_state__encode__fields(5u, v10, v11, UINT64_C(0), UINT64_C(0), &v28);
+        v22 = c2_target_state__encode__hearing(5u, v10, v11);
         break;
     case 6u:
         v12 = a1->u64_0;
-        v29.tag = 0u;
-        v29.u64_0 = 0;
-        v22 = c2_target_state__encode__fields(6u, UINT64_C(0), UINT64_C(0), v12, UINT64_C(0), &v29);
+        v23 = c2_target_state__fields__low(v12);
+        v25.tag = 0u;
+        v25.u64_0 = 0;
+        v24 = c2_target_state__encode__with_effect(6u, &v25);
+        v26 = v24.f0;
+        v27 = v24.f1;
+        v28 = v24.f2;
+        v29 = v24.f4;
+        v30 = v24.f5;
+        v31 = v24.f6;
+        v22.f0 = v26;
+        v22.f1 = v27;
+        v22.f2 = v28;
+        v22.f3 = v23;
+        v22.f4 = v29;
+        v22.f5 = v30;
+        v22.f6 = v31;
         break;
     case 7u:
         v13 = a1->u64_0;
         v14.tag = a1->c2_target__Effect_0.tag;
         v14.u64_0 = a1->c2_target__Effect_0.u64_0;
-        v22 = c2_target_state__encode__fields(7u, UINT64_C(0), UINT64_C(0), v13, UINT64_C(0), &v14);
+        v32 = c2_target_state__fields__low(v13);
+        v33 = c2_target_state__encode__with_effect(7u, &v14);
+        v34 = v33.f0;
+        v35 = v33.f1;
+        v36 = v33.f2;
+        v37 = v33.f4;
+        v38 = v33.f5;
+        v39 = v33.f6;
+        v22.f0 = v34;
+        v22.f1 = v35;
+        v22.f2 = v36;
+        v22.f3 = v32;
+        v22.f4 = v37;
+        v22.f5 = v38;
+        v22.f6 = v39;
         break;
     case 8u:
         v15 = a1->u64_0;
         v16 = a1->u64_1;
         v17.tag = a1->c2_target__Effect_0.tag;
         v17.u64_0 = a1->c2_target__Effect_0.u64_0;
-        v22 = c2_target_state__encode__fields(8u, UINT64_C(0), UINT64_C(0), v16, v15, &v17);
+        v40 = c2_target_state__fields__low(v15);
+        v41 = c2_target_state__fields__low(v16);
+        v42 = c2_target_state__encode__with_effect(8u, &v17);
+        v43 = v42.f0;
+        v44 = v42.f1;
+        v45 = v42.f2;
+        v46 = v42.f5;
+        v47 = v42.f6;
+        v22.f0 = v43;
+        v22.f1 = v44;
+        v22.f2 = v45;
+        v22.f3 = v41;
+        v22.f4 = v40;
+        v22.f5 = v46;
+        v22.f6 = v47;
         break;
     case 9u:
         v18 = a1->u64_0;
         v19 = a1->u64_1;
         v20.tag = a1->c2_target__Effect_0.tag;
         v20.u64_0 = a1->c2_target__Effect_0.u64_0;
-        v22 = c2_target_state__encode__fields(9u, UINT64_C(0), v19, v18, UINT64_C(0), &v20);
+        v48 = c2_target_state__fields__low(v18);
+        v49 = c2_target_state__fields__low(v19);
+        v50 = c2_target_state__encode__with_effect(9u, &v20);
+        v51 = v50.f0;
+        v52 = v50.f1;
+        v53 = v50.f4;
+        v54 = v50.f5;
+        v55 = v50.f6;
+        v22.f0 = v51;
+        v22.f1 = v52;
+        v22.f2 = v49;
+        v22.f3 = v48;
+        v22.f4 = v53;
+        v22.f5 = v54;
+        v22.f6 = v55;
         break;
     default: /* 10 */
         v21.tag = a1->c2_target__Effect_0.tag;
         v21.u64_0 = a1->c2_target__Effect_0.u64_0;
-        v22 = c2_target_state__encode__fields(10u, UINT64_C(0), UINT64_C(0), UINT64_C(0), UINT64_C(0), &v21);
+        v22 = c2_target_state__encode__with_effect(10u, &v21);
         break;
     }
     result.f0 = v22.f0;
@@ -1106,17 +1466,21 @@ static c2_target_state__PointFields c2_target_state__encode__point_fields(const 
     return result;
 }
 
-/* c2_target_state::fields::flag */
-static uint8_t c2_target_state__fields__flag(_Bool a1)
+/* core::convert::others::U8FromBool::from */
+static uint8_t core__convert__others__U8FromBool__from(_Bool a1)
+{
+    uint8_t result;
+    result = (uint8_t)a1;
+    return result;
+}
+
+/* core::AnyInto::into_bool_u8 */
+static uint8_t core__AnyInto__into_bool_u8(_Bool a1)
 {
     uint8_t result;
     _Bool v2;
     v2 = a1;
-    if (v2) {
-        result = 1u;
-        return result;
-    }
-    result = 0u;
+    result = core__convert__others__U8FromBool__from(v2);
     return result;
 }
 
@@ -1124,207 +1488,14 @@ static uint8_t c2_target_state__fields__flag(_Bool a1)
 static c2_target c2_target_state__encode__point_moved(const c2_target *a1, const c2_target__Target *a2)
 {
     c2_target result;
-    c2_target__Point v3;
-    c2_target_state__PointFields v4;
+    c2_target_state__PointFields v3;
+    c2_target__Point v4;
     uint64_t v5;
     uint8_t v6;
-    v3.tag = a2->f0.tag;
-    v3.u64_0 = a2->f0.u64_0;
-    v3.u64_1 = a2->f0.u64_1;
-    v3.c2_target__Effect_0.tag = a2->f0.c2_target__Effect_0.tag;
-    v3.c2_target__Effect_0.u64_0 = a2->f0.c2_target__Effect_0.u64_0;
-    v4 = c2_target_state__encode__point_fields(&v3);
-    v5 = a2->f1;
-    v6 = c2_target_state__fields__flag(a2->f2);
-    result.place = v5;
-    result.start = a1->start;
-    result.rest = a1->rest;
-    result.next = a1->next;
-    result.count = a1->count;
-    result.point = v4.f0;
-    result.heard = v4.f1;
-    result.value = v4.f2;
-    result.left = v4.f3;
-    result.zeros = v4.f4;
-    result.effect = v4.f5;
-    result.byte = v4.f6;
-    result.collision = v6;
-    result.address = a1->address;
-    result.on = a1->on;
-    result.keys = a1->keys;
-    result.met1 = a1->met1;
-    result.met2 = a1->met2;
-    result.met3 = a1->met3;
-    result.met4 = a1->met4;
-    result.command = a1->command;
-    result.write = a1->write;
-    result.page = a1->page;
-    result.high = a1->high;
-    result.output = a1->output;
-    result.passed = a1->passed;
-    result.busy = a1->busy;
-    result.late = a1->late;
-    return result;
-}
-
-/* c2_target_state::fields::word */
-static uint16_t c2_target_state__fields__word(uint64_t a1)
-{
-    uint16_t result;
-    uint64_t v2;
-    v2 = a1 % UINT64_C(65536);
-    result = (uint16_t)v2;
-    return result;
-}
-
-/* c2_target_state::encode::command_numbers */
-static c2_target_state__CommandFields c2_target_state__encode__command_numbers(uint8_t a1, _Bool a2,
-    uint64_t a3, uint64_t a4, uint64_t a5, uint64_t a6)
-{
-    c2_target_state__CommandFields result;
-    uint8_t v7;
-    uint8_t v8;
-    uint8_t v9;
-    uint16_t v10;
-    uint16_t v11;
-    v7 = c2_target_state__fields__flag(a2);
-    v8 = c2_target_state__fields__low(a3);
-    v9 = c2_target_state__fields__low(a4);
-    v10 = c2_target_state__fields__word(a5);
-    v11 = c2_target_state__fields__word(a6);
-    result.f0 = a1;
-    result.f1 = v7;
-    result.f2 = v8;
-    result.f3 = v9;
-    result.f4 = v10;
-    result.f5 = v11;
-    return result;
-}
-
-/* c2_target_state::encode::command_fields */
-static c2_target_state__CommandFields c2_target_state__encode__command_fields(const c2_target__Command *a1)
-{
-    c2_target_state__CommandFields result;
-    uint64_t v2;
-    _Bool v3;
-    _Bool v4;
-    uint64_t v5;
-    _Bool v6;
-    uint64_t v7;
-    uint64_t v8;
-    uint64_t v9;
-    uint64_t v10;
-    c2_target_state__CommandFields v11;
-    switch (a1->tag) {
-    case 0u:
-        v11 = c2_target_state__encode__command_numbers(0u, 0, UINT64_C(0), UINT64_C(0), UINT64_C(0), UINT64_C(0));
-        break;
-    case 1u:
-        v11 = c2_target_state__encode__command_numbers(1u, 0, UINT64_C(0), UINT64_C(0), UINT64_C(0), UINT64_C(0));
-        break;
-    case 2u:
-        v2 = a1->u64_0;
-        v11 = c2_target_state__encode__command_numbers(2u, 0, v2, UINT64_C(0), UINT64_C(0), UINT64_C(0));
-        break;
-    case 3u:
-        v3 = a1->bool_0;
-        v11 = c2_target_state__encode__command_numbers(3u, v3, UINT64_C(0), UINT64_C(0), UINT64_C(0), UINT64_C(0));
-        break;
-    case 4u:
-        v4 = a1->bool_0;
-        v5 = a1->u64_0;
-        v11 = c2_target_state__encode__command_numbers(4u, v4, UINT64_C(0), v5, UINT64_C(0), UINT64_C(0));
-        break;
-    case 5u:
-        v6 = a1->bool_0;
-        v7 = a1->u64_0;
-        v11 = c2_target_state__encode__command_numbers(5u, v6, UINT64_C(0), UINT64_C(0), v7, UINT64_C(0));
-        break;
-    case 6u:
-        v8 = a1->u64_0;
-        v9 = a1->u64_1;
-        v11 = c2_target_state__encode__command_numbers(6u, 0, UINT64_C(0), UINT64_C(0), v8, v9);
-        break;
-    default: /* 7 */
-        v10 = a1->u64_0;
-        v11 = c2_target_state__encode__command_numbers(7u, 0, UINT64_C(0), UINT64_C(0), UINT64_C(0), v10);
-        break;
-    }
-    result.f0 = v11.f0;
-    result.f1 = v11.f1;
-    result.f2 = v11.f2;
-    result.f3 = v11.f3;
-    result.f4 = v11.f4;
-    result.f5 = v11.f5;
-    return result;
-}
-
-/* c2_target_state::encode::output_numbers */
-static c2_target_state__OutputFields c2_target_state__encode__output_numbers(uint8_t a1, _Bool a2,
-    uint64_t a3, uint64_t a4)
-{
-    c2_target_state__OutputFields result;
-    uint8_t v5;
-    uint16_t v6;
     uint16_t v7;
-    v5 = c2_target_state__fields__flag(a2);
-    v6 = c2_target_state__fields__word(a3);
-    v7 = c2_target_state__fields__word(a4);
-    result.f0 = a1;
-    result.f1 = v5;
-    result.f2 = v6;
-    result.f3 = v7;
-    return result;
-}
-
-/* c2_target_state::encode::output_fields */
-static c2_target_state__OutputFields c2_target_state__encode__output_fields(const c2_target__Output *a1)
-{
-    c2_target_state__OutputFields result;
-    _Bool v2;
-    uint64_t v3;
-    uint64_t v4;
-    uint64_t v5;
-    uint64_t v6;
-    c2_target_state__OutputFields v7;
-    switch (a1->tag) {
-    case 0u:
-        v7 = c2_target_state__encode__output_numbers(0u, 0, UINT64_C(0), UINT64_C(0));
-        break;
-    case 1u:
-        v2 = a1->bool_0;
-        v7 = c2_target_state__encode__output_numbers(1u, v2, UINT64_C(0), UINT64_C(0));
-        break;
-    case 2u:
-        v3 = a1->u64_0;
-        v4 = a1->u64_1;
-        v7 = c2_target_state__encode__output_numbers(2u, 0, v3, v4);
-        break;
-    default: /* 3 */
-        v5 = a1->u64_0;
-        v6 = a1->u64_1;
-        v7 = c2_target_state__encode__output_numbers(3u, 0, v5, v6);
-        break;
-    }
-    result.f0 = v7.f0;
-    result.f1 = v7.f1;
-    result.f2 = v7.f2;
-    result.f3 = v7.f3;
-    return result;
-}
-
-/* c2_target_state::encode::state_with */
-static c2_target c2_target_state__encode__state_with(const c2_target__Target *a1,
-    const c2_target_state__PointFields *a2, const c2_target_state__CommandFields *a3,
-    const c2_target_state__OutputFields *a4)
-{
-    c2_target result;
-    c2_target__Device v5;
-    c2_target__Met v6;
-    c2_target__Link v7;
-    uint64_t v8;
-    uint8_t v9;
-    uint8_t v10;
+    uint16_t v8;
+    uint16_t v9;
+    uint16_t v10;
     uint8_t v11;
     uint8_t v12;
     uint8_t v13;
@@ -1333,135 +1504,68 @@ static c2_target c2_target_state__encode__state_with(const c2_target__Target *a1
     uint8_t v16;
     uint8_t v17;
     uint8_t v18;
-    v5.f0 = a1->f3.f0;
-    v5.f1 = a1->f3.f1;
-    v5.f2 = a1->f3.f2;
-    v5.f3.f0 = a1->f3.f3.f0;
-    v5.f3.f1 = a1->f3.f3.f1;
-    v5.f3.f2 = a1->f3.f3.f2;
-    v5.f3.f3 = a1->f3.f3.f3;
-    v5.f4.f0.tag = a1->f3.f4.f0.tag;
-    v5.f4.f0.u64_0 = a1->f3.f4.f0.u64_0;
-    v5.f4.f0.bool_0 = a1->f3.f4.f0.bool_0;
-    v5.f4.f0.u64_1 = a1->f3.f4.f0.u64_1;
-    v5.f4.f1.tag = a1->f3.f4.f1.tag;
-    v5.f4.f1.bool_0 = a1->f3.f4.f1.bool_0;
-    v5.f4.f1.u64_0 = a1->f3.f4.f1.u64_0;
-    v5.f4.f1.u64_1 = a1->f3.f4.f1.u64_1;
-    v5.f4.f2 = a1->f3.f4.f2;
-    v5.f4.f3 = a1->f3.f4.f3;
-    v6.f0 = v5.f3.f0;
-    v6.f1 = v5.f3.f1;
-    v6.f2 = v5.f3.f2;
-    v6.f3 = v5.f3.f3;
-    v7.f0.tag = v5.f4.f0.tag;
-    v7.f0.u64_0 = v5.f4.f0.u64_0;
-    v7.f0.bool_0 = v5.f4.f0.bool_0;
-    v7.f0.u64_1 = v5.f4.f0.u64_1;
-    v7.f1.tag = v5.f4.f1.tag;
-    v7.f1.bool_0 = v5.f4.f1.bool_0;
-    v7.f1.u64_0 = v5.f4.f1.u64_0;
-    v7.f1.u64_1 = v5.f4.f1.u64_1;
-    v7.f2 = v5.f4.f2;
-    v7.f3 = v5.f4.f3;
-    v8 = a1->f1;
-    v9 = c2_target_state__fields__flag(a1->f2);
-    v10 = c2_target_state__fields__low(v5.f0);
-    v11 = c2_target_state__fields__flag(v5.f1);
-    v12 = c2_target_state__fields__low(v5.f2);
-    v13 = c2_target_state__fields__flag(v6.f0);
-    v14 = c2_target_state__fields__flag(v6.f1);
-    v15 = c2_target_state__fields__flag(v6.f2);
-    v16 = c2_target_state__fields__flag(v6.f3);
-    v17 = c2_target_state__fields__low(v7.f2);
-    v18 = c2_target_state__fields__low(v7.f3);
-    result.place = v8;
-    result.start = a3->f4;
-    result.rest = a3->f5;
-    result.next = a4->f2;
-    result.count = a4->f3;
-    result.point = a2->f0;
-    result.heard = a2->f1;
-    result.value = a2->f2;
-    result.left = a2->f3;
-    result.zeros = a2->f4;
-    result.effect = a2->f5;
-    result.byte = a2->f6;
-    result.collision = v9;
-    result.address = v10;
-    result.on = v11;
-    result.keys = v12;
-    result.met1 = v13;
-    result.met2 = v14;
-    result.met3 = v15;
-    result.met4 = v16;
-    result.command = a3->f0;
-    result.write = a3->f1;
-    result.page = a3->f2;
-    result.high = a3->f3;
-    result.output = a4->f0;
-    result.passed = a4->f1;
-    result.busy = v17;
-    result.late = v18;
-    return result;
-}
-
-/* c2_target_state::encode::state_of */
-static c2_target c2_target_state__encode__state_of(const c2_target__Target *a1)
-{
-    c2_target result;
-    c2_target__Device v2;
-    c2_target__Link v3;
-    c2_target__Point v4;
-    c2_target__Command v5;
-    c2_target__Output v6;
-    c2_target_state__PointFields v7;
-    c2_target_state__CommandFields v8;
-    c2_target_state__OutputFields v9;
-    v2.f0 = a1->f3.f0;
-    v2.f1 = a1->f3.f1;
-    v2.f2 = a1->f3.f2;
-    v2.f3.f0 = a1->f3.f3.f0;
-    v2.f3.f1 = a1->f3.f3.f1;
-    v2.f3.f2 = a1->f3.f3.f2;
-    v2.f3.f3 = a1->f3.f3.f3;
-    v2.f4.f0.tag = a1->f3.f4.f0.tag;
-    v2.f4.f0.u64_0 = a1->f3.f4.f0.u64_0;
-    v2.f4.f0.bool_0 = a1->f3.f4.f0.bool_0;
-    v2.f4.f0.u64_1 = a1->f3.f4.f0.u64_1;
-    v2.f4.f1.tag = a1->f3.f4.f1.tag;
-    v2.f4.f1.bool_0 = a1->f3.f4.f1.bool_0;
-    v2.f4.f1.u64_0 = a1->f3.f4.f1.u64_0;
-    v2.f4.f1.u64_1 = a1->f3.f4.f1.u64_1;
-    v2.f4.f2 = a1->f3.f4.f2;
-    v2.f4.f3 = a1->f3.f4.f3;
-    v3.f0.tag = v2.f4.f0.tag;
-    v3.f0.u64_0 = v2.f4.f0.u64_0;
-    v3.f0.bool_0 = v2.f4.f0.bool_0;
-    v3.f0.u64_1 = v2.f4.f0.u64_1;
-    v3.f1.tag = v2.f4.f1.tag;
-    v3.f1.bool_0 = v2.f4.f1.bool_0;
-    v3.f1.u64_0 = v2.f4.f1.u64_0;
-    v3.f1.u64_1 = v2.f4.f1.u64_1;
-    v3.f2 = v2.f4.f2;
-    v3.f3 = v2.f4.f3;
-    v4.tag = a1->f0.tag;
-    v4.u64_0 = a1->f0.u64_0;
-    v4.u64_1 = a1->f0.u64_1;
-    v4.c2_target__Effect_0.tag = a1->f0.c2_target__Effect_0.tag;
-    v4.c2_target__Effect_0.u64_0 = a1->f0.c2_target__Effect_0.u64_0;
-    v5.tag = v3.f0.tag;
-    v5.u64_0 = v3.f0.u64_0;
-    v5.bool_0 = v3.f0.bool_0;
-    v5.u64_1 = v3.f0.u64_1;
-    v6.tag = v3.f1.tag;
-    v6.bool_0 = v3.f1.bool_0;
-    v6.u64_0 = v3.f1.u64_0;
-    v6.u64_1 = v3.f1.u64_1;
-    v7 = c2_target_state__encode__point_fields(&v4);
-    v8 = c2_target_state__encode__command_fields(&v5);
-    v9 = c2_target_state__encode__output_fields(&v6);
-    result = c2_target_state__encode__state_with(a1, &v7, &v8, &v9);
+    uint8_t v19;
+    uint8_t v20;
+    uint8_t v21;
+    uint8_t v22;
+    uint8_t v23;
+    uint8_t v24;
+    uint8_t v25;
+    v4.tag = a2->f0.tag;
+    v4.u64_0 = a2->f0.u64_0;
+    v4.u64_1 = a2->f0.u64_1;
+    v4.c2_target__Effect_0.tag = a2->f0.c2_target__Effect_0.tag;
+    v4.c2_target__Effect_0.u64_0 = a2->f0.c2_target__Effect_0.u64_0;
+    v3 = c2_target_state__encode__PointFieldsFromPoint__from(&v4);
+    v5 = a2->f1;
+    v6 = core__AnyInto__into_bool_u8(a2->f2);
+    v7 = a1->start;
+    v8 = a1->rest;
+    v9 = a1->next;
+    v10 = a1->count;
+    v11 = a1->address;
+    v12 = a1->on;
+    v13 = a1->keys;
+    v14 = a1->met1;
+    v15 = a1->met2;
+    v16 = a1->met3;
+    v17 = a1->met4;
+    v18 = a1->command;
+    v19 = a1->write;
+    v20 = a1->page;
+    v21 = a1->high;
+    v22 = a1->output;
+    v23 = a1->passed;
+    v24 = a1->busy;
+    v25 = a1->late;
+    result.place = v5;
+    result.start = v7;
+    result.rest = v8;
+    result.next = v9;
+    result.count = v10;
+    result.point = v3.f0;
+    result.heard = v3.f1;
+    result.value = v3.f2;
+    result.left = v3.f3;
+    result.zeros = v3.f4;
+    result.effect = v3.f5;
+    result.byte = v3.f6;
+    result.collision = v6;
+    result.address = v11;
+    result.on = v12;
+    result.keys = v13;
+    result.met1 = v14;
+    result.met2 = v15;
+    result.met3 = v16;
+    result.met4 = v17;
+    result.command = v18;
+    result.write = v19;
+    result.page = v20;
+    result.high = v21;
+    result.output = v22;
+    result.passed = v23;
+    result.busy = v24;
+    result.late = v25;
     return result;
 }
 
@@ -1471,54 +1575,25 @@ static _Bool c2_target_state__model__is_inside(uint8_t a1, uint8_t a2)
     _Bool result;
     _Bool v3;
     _Bool v4;
+    _Bool v5;
     v3 = a2 < 4u;
     if (v3) {
-        v4 = 0u < a1;
-        if (v4) {
-            result = a1 < 10u;
-            return result;
+        v5 = a1 < 1u;
+        if (v5) {
+            goto end2;
         }
-        result = 0;
-        return result;
+        v5 = a1 < 10u;
+        if (v5) {
+            v4 = 1;
+            goto end1;
+        }
+        goto end2;
+        end2:;
+        v4 = 0;
+        end1:;
+        v3 = v4;
     }
-    result = 0;
-    return result;
-}
-
-/* c2_target_state::model::refused */
-static c2_replied c2_target_state__model__refused(uint32_t a1, const c2_target *a2)
-{
-    c2_replied result;
-    result.number = a1;
-    result.reply = UINT32_C(1);
-    result.target.place = a2->place;
-    result.target.start = a2->start;
-    result.target.rest = a2->rest;
-    result.target.next = a2->next;
-    result.target.count = a2->count;
-    result.target.point = a2->point;
-    result.target.heard = a2->heard;
-    result.target.value = a2->value;
-    result.target.left = a2->left;
-    result.target.zeros = a2->zeros;
-    result.target.effect = a2->effect;
-    result.target.byte = a2->byte;
-    result.target.collision = a2->collision;
-    result.target.address = a2->address;
-    result.target.on = a2->on;
-    result.target.keys = a2->keys;
-    result.target.met1 = a2->met1;
-    result.target.met2 = a2->met2;
-    result.target.met3 = a2->met3;
-    result.target.met4 = a2->met4;
-    result.target.command = a2->command;
-    result.target.write = a2->write;
-    result.target.page = a2->page;
-    result.target.high = a2->high;
-    result.target.output = a2->output;
-    result.target.passed = a2->passed;
-    result.target.busy = a2->busy;
-    result.target.late = a2->late;
+    result = v3;
     return result;
 }
 
@@ -1534,17 +1609,192 @@ static uint64_t c2_target_known__flash_size(uint32_t a1, uint32_t a2)
     return result;
 }
 
+/* core::cmp::Ordering::is_le */
+static _Bool core__cmp__Ordering__is_le(core__cmp__Ordering a1)
+{
+    _Bool result;
+    _Bool v2;
+    switch (a1) {
+    case 0u:
+        v2 = 1;
+        break;
+    case 1u:
+        v2 = 1;
+        break;
+    default: /* 2 */
+        v2 = 0;
+        break;
+    }
+    result = v2;
+    return result;
+}
+
+/* core::cmp::numbers::UsizeOrd::cmp */
+static core__cmp__Ordering core__cmp__numbers__UsizeOrd__cmp(const uint64_t *a1, const uint64_t *a2)
+{
+    core__cmp__Ordering result;
+    uint64_t v3;
+    uint64_t v4;
+    uint64_t v5;
+    uint64_t v6;
+    _Bool v7;
+    core__cmp__Ordering v8;
+    _Bool v9;
+    core__cmp__Ordering v10;
+    v5 = *a1;
+    v6 = *a2;
+    v3 = v5;
+    v4 = v6;
+    v7 = v3 == v4;
+    if (v7) {
+        v8 = 1u;
+    } else {
+        v9 = v3 < v4;
+        if (v9) {
+            v10 = 0u;
+        } else {
+            v10 = 2u;
+        }
+        v8 = v10;
+    }
+    result = v8;
+    return result;
+}
+
+/* core::cmp::numbers::UsizePartialOrd::partial_cmp */
+static core__Option_Ordering core__cmp__numbers__UsizePartialOrd__partial_cmp(const uint64_t *a1,
+    const uint64_t *a2)
+{
+    core__Option_Ordering result;
+    core__cmp__Ordering v3;
+    v3 = core__cmp__numbers__UsizeOrd__cmp(a1, a2);
+    result.tag = 1u;
+    result.core__cmp__Ordering_0 = v3;
+    return result;
+}
+
+/* core::PartialOrd::le_u64 */
+static _Bool core__PartialOrd__le_u64(const uint64_t *a1, const uint64_t *a2)
+{
+    _Bool result;
+    core__cmp__Ordering v3;
+    core__Option_Ordering v4;
+    _Bool v5;
+    v4 = core__cmp__numbers__UsizePartialOrd__partial_cmp(a1, a2);
+    switch (v4.tag) {
+    case 1u:
+        v3 = v4.core__cmp__Ordering_0;
+        v5 = core__cmp__Ordering__is_le(v3);
+        break;
+    default: /* 0 */
+        v5 = 0;
+        break;
+    }
+    result = v5;
+    return result;
+}
+
+/* core::cmp::Ordering::is_lt */
+static _Bool core__cmp__Ordering__is_lt(core__cmp__Ordering a1)
+{
+    _Bool result;
+    _Bool v2;
+    switch (a1) {
+    case 0u:
+        v2 = 1;
+        break;
+    case 1u:
+        v2 = 0;
+        break;
+    default: /* 2 */
+        v2 = 0;
+        break;
+    }
+    result = v2;
+    return result;
+}
+
+/* core::PartialOrd::lt_u64 */
+static _Bool core__PartialOrd__lt_u64(const uint64_t *a1, const uint64_t *a2)
+{
+    _Bool result;
+    core__cmp__Ordering v3;
+    core__Option_Ordering v4;
+    _Bool v5;
+    v4 = core__cmp__numbers__UsizePartialOrd__partial_cmp(a1, a2);
+    switch (v4.tag) {
+    case 1u:
+        v3 = v4.core__cmp__Ordering_0;
+        v5 = core__cmp__Ordering__is_lt(v3);
+        break;
+    default: /* 0 */
+        v5 = 0;
+        break;
+    }
+    result = v5;
+    return result;
+}
+
+/* core::RangeInclusive::contains_u64 */
+static _Bool core__RangeInclusive__contains_u64(const core__RangeInclusive_u64 *a1, const uint64_t *a2)
+{
+    _Bool result;
+    _Bool v3;
+    const uint64_t *v4;
+    _Bool v5;
+    _Bool v6;
+    const uint64_t *v7;
+    const uint64_t *v8;
+    v4 = &a1->f0;
+    v3 = core__PartialOrd__le_u64(v4, a2);
+    v5 = !v3;
+    if (v5) {
+        result = 0;
+        return result;
+    }
+    v3 = a1->f2;
+    if (v3) {
+        v7 = &a1->f1;
+        v6 = core__PartialOrd__lt_u64(a2, v7);
+    } else {
+        v8 = &a1->f1;
+        v6 = core__PartialOrd__le_u64(a2, v8);
+    }
+    result = v6;
+    return result;
+}
+
+/* core::RangeInclusive::new_u64 */
+static core__RangeInclusive_u64 core__RangeInclusive__new_u64(uint64_t a1, uint64_t a2)
+{
+    core__RangeInclusive_u64 result;
+    uint64_t v3;
+    uint64_t v4;
+    v3 = a1;
+    v4 = a2;
+    result.f0 = v3;
+    result.f1 = v4;
+    result.f2 = 0;
+    return result;
+}
+
 /* c2_target_known::is_count */
 static _Bool c2_target_known__is_count(uint64_t a1)
 {
     _Bool result;
-    _Bool v2;
-    v2 = UINT64_C(1) <= a1;
-    if (v2) {
-        result = a1 <= UINT64_C(256);
-        return result;
-    }
-    result = 0;
+    uint64_t v2;
+    core__RangeInclusive_u64 v3;
+    core__RangeInclusive_u64 v4;
+    const core__RangeInclusive_u64 *v5;
+    const uint64_t *v6;
+    v2 = a1;
+    v3 = core__RangeInclusive__new_u64(UINT64_C(1), UINT64_C(256));
+    v4.f0 = v3.f0;
+    v4.f1 = v3.f1;
+    v4.f2 = v3.f2;
+    v5 = &v4;
+    v6 = &v2;
+    result = core__RangeInclusive__contains_u64(v5, v6);
     return result;
 }
 
@@ -1555,18 +1805,16 @@ static _Bool c2_target_known__known_block(uint64_t a1, uint64_t a2, uint64_t a3)
     _Bool v4;
     _Bool v5;
     uint64_t v6;
-    v4 = c2_target_known__is_count(a3);
-    if (v4) {
+    v5 = c2_target_known__is_count(a3);
+    if (v5) {
         v5 = a2 <= a1;
-        if (v5) {
-            v6 = a1 - a2;
-            result = a3 <= v6;
-            return result;
-        }
-        result = 0;
-        return result;
     }
-    result = 0;
+    v4 = v5;
+    if (v4) {
+        v6 = a1 - a2;
+        v4 = a3 <= v6;
+    }
+    result = v4;
     return result;
 }
 
@@ -1583,17 +1831,13 @@ static _Bool c2_target_known__known_command(uint64_t a1, uint64_t a2, const c2_t
     _Bool v10;
     switch (a3->tag) {
     case 0u:
-        v10 = 1;
-        break;
     case 1u:
+    case 3u:
         v10 = 1;
         break;
     case 2u:
         v4 = a3->u64_0;
         v10 = v4 < a1;
-        break;
-    case 3u:
-        v10 = 1;
         break;
     case 4u:
         v5 = a3->u64_0;
@@ -1623,28 +1867,25 @@ static _Bool c2_target_known__known_output(uint64_t a1, const c2_target__Output 
     _Bool result;
     uint64_t v3;
     uint64_t v4;
-    uint64_t v5;
-    uint64_t v6;
-    _Bool v7;
+    _Bool v5;
     switch (a2->tag) {
     case 0u:
-        v7 = 1;
-        break;
     case 1u:
-        v7 = 1;
-        break;
+        v5 = 1;
+        goto end1;
     case 2u:
         v3 = a2->u64_0;
         v4 = a2->u64_1;
-        v7 = c2_target_known__known_block(a1, v3, v4);
-        break;
+        goto end2;
     default: /* 3 */
-        v5 = a2->u64_0;
-        v6 = a2->u64_1;
-        v7 = c2_target_known__known_block(a1, v5, v6);
-        break;
+        v3 = a2->u64_0;
+        v4 = a2->u64_1;
+        goto end2;
     }
-    result = v7;
+    end2:;
+    v5 = c2_target_known__known_block(a1, v3, v4);
+    end1:;
+    result = v5;
     return result;
 }
 
@@ -1652,100 +1893,32 @@ static _Bool c2_target_known__known_output(uint64_t a1, const c2_target__Output 
 static _Bool c2_target_known__known_link(uint64_t a1, uint64_t a2, const c2_target__Link *a3)
 {
     _Bool result;
-    c2_target__Command v4;
-    c2_target__Output v5;
-    _Bool v6;
-    _Bool v7;
-    _Bool v8;
-    v4.tag = a3->f0.tag;
-    v4.u64_0 = a3->f0.u64_0;
-    v4.bool_0 = a3->f0.bool_0;
-    v4.u64_1 = a3->f0.u64_1;
-    v5.tag = a3->f1.tag;
-    v5.bool_0 = a3->f1.bool_0;
-    v5.u64_0 = a3->f1.u64_0;
-    v5.u64_1 = a3->f1.u64_1;
-    v6 = c2_target_known__known_command(a1, a2, &v4);
-    if (v6) {
-        v7 = c2_target_known__known_output(a2, &v5);
-        if (v7) {
-            v8 = a3->f2 < UINT64_C(256);
-            if (v8) {
-                result = a3->f3 < UINT64_C(256);
-                return result;
-            }
-            result = 0;
-            return result;
-        }
-        result = 0;
-        return result;
-    }
-    result = 0;
-    return result;
-}
-
-/* c2_target_known::known_device */
-static _Bool c2_target_known__known_device(const c2_settings *a1, const c2_target__Device *a2, uint64_t a3)
-{
-    _Bool result;
-    c2_target__Link v4;
+    _Bool v4;
     _Bool v5;
-    uint64_t v6;
-    v4.f0.tag = a2->f4.f0.tag;
-    v4.f0.u64_0 = a2->f4.f0.u64_0;
-    v4.f0.bool_0 = a2->f4.f0.bool_0;
-    v4.f0.u64_1 = a2->f4.f0.u64_1;
-    v4.f1.tag = a2->f4.f1.tag;
-    v4.f1.bool_0 = a2->f4.f1.bool_0;
-    v4.f1.u64_0 = a2->f4.f1.u64_0;
-    v4.f1.u64_1 = a2->f4.f1.u64_1;
-    v4.f2 = a2->f4.f2;
-    v4.f3 = a2->f4.f3;
-    v5 = a2->f0 < UINT64_C(256);
+    _Bool v6;
+    c2_target__Command v7;
+    c2_target__Output v8;
+    v7.tag = a3->f0.tag;
+    v7.u64_0 = a3->f0.u64_0;
+    v7.bool_0 = a3->f0.bool_0;
+    v7.u64_1 = a3->f0.u64_1;
+    v6 = c2_target_known__known_command(a1, a2, &v7);
+    if (v6) {
+        v8.tag = a3->f1.tag;
+        v8.bool_0 = a3->f1.bool_0;
+        v8.u64_0 = a3->f1.u64_0;
+        v8.u64_1 = a3->f1.u64_1;
+        v6 = c2_target_known__known_output(a2, &v8);
+    }
+    v5 = v6;
     if (v5) {
-        v6 = (uint64_t)a1->page_count;
-        result = c2_target_known__known_link(v6, a3, &v4);
-        return result;
+        v5 = a3->f2 < UINT64_C(256);
     }
-    result = 0;
-    return result;
-}
-
-/* c2_target_known::after_write */
-static _Bool c2_target_known__after_write(uint64_t a1, uint64_t a2)
-{
-    _Bool result;
-    _Bool v3;
-    v3 = a1 == UINT64_C(0);
-    if (v3) {
-        result = a2 < UINT64_C(256);
-        return result;
+    v4 = v5;
+    if (v4) {
+        v4 = a3->f3 < UINT64_C(256);
     }
-    result = 0;
-    return result;
-}
-
-/* c2_target_known::long_bits */
-static _Bool c2_target_known__long_bits(uint64_t a1)
-{
-    _Bool result;
-    _Bool v2;
-    v2 = a1 == UINT64_C(0);
-    if (v2) {
-        result = 1;
-        return result;
-    }
-    v2 = a1 == UINT64_C(16);
-    if (v2) {
-        result = 1;
-        return result;
-    }
-    v2 = a1 == UINT64_C(24);
-    if (v2) {
-        result = 1;
-        return result;
-    }
-    result = a1 == UINT64_C(32);
+    result = v4;
     return result;
 }
 
@@ -1755,22 +1928,36 @@ static _Bool c2_target_known__after_its_wait(uint64_t a1, const c2_target__Effec
     _Bool result;
     uint64_t v3;
     _Bool v4;
+    _Bool v5;
+    _Bool v6;
     switch (a2->tag) {
     case 0u:
-        v4 = c2_target_known__long_bits(a1);
-        break;
-    case 1u:
-        v4 = 0;
+        switch (a1) {
+        case 0u:
+        case 16u:
+        case 24u:
+        case 32u:
+            v5 = 1;
+            break;
+        default:
+            v5 = 0;
+            break;
+        }
+        v4 = v5;
         break;
     case 2u:
         v3 = a2->u64_0;
-        v4 = c2_target_known__after_write(a1, v3);
+        v6 = a1 == UINT64_C(0);
+        if (v6) {
+            v6 = v3 < UINT64_C(256);
+        }
+        v4 = v6;
         break;
-    case 3u:
-        v4 = 0;
-        break;
-    default: /* 4 */
+    case 4u:
         v4 = a1 == UINT64_C(8);
+        break;
+    default: /* 1, 3 */
+        v4 = 0;
         break;
     }
     result = v4;
@@ -1786,84 +1973,9 @@ static _Bool c2_target_known__hearing(uint64_t a1, uint64_t a2, uint64_t a3)
     v4 = a2 < a1;
     if (v4) {
         v5 = UINT64_C(1) << a2;
-        result = a3 < v5;
-        return result;
-    }
-    result = 0;
-    return result;
-}
-
-/* c2_target_known::known_effect */
-static _Bool c2_target_known__known_effect(const c2_target__Effect *a1)
-{
-    _Bool result;
-    uint64_t v2;
-    uint64_t v3;
-    _Bool v4;
-    switch (a1->tag) {
-    case 0u:
-        v4 = 1;
-        break;
-    case 1u:
-        v2 = a1->u64_0;
-        v4 = v2 < UINT64_C(256);
-        break;
-    case 2u:
-        v3 = a1->u64_0;
-        v4 = v3 < UINT64_C(256);
-        break;
-    case 3u:
-        v4 = 1;
-        break;
-    default: /* 4 */
-        v4 = 1;
-        break;
+        v4 = a3 < v5;
     }
     result = v4;
-    return result;
-}
-
-/* c2_target_known::known_long_data */
-static _Bool c2_target_known__known_long_data(uint64_t a1)
-{
-    _Bool result;
-    _Bool v2;
-    v2 = UINT64_C(1) <= a1;
-    if (v2) {
-        result = a1 <= UINT64_C(32);
-        return result;
-    }
-    result = 0;
-    return result;
-}
-
-/* c2_target_known::byte_sent */
-static _Bool c2_target_known__byte_sent(uint64_t a1, uint64_t a2)
-{
-    _Bool result;
-    _Bool v3;
-    uint64_t v4;
-    v3 = a1 <= UINT64_C(8);
-    if (v3) {
-        v4 = UINT64_C(1) << a1;
-        result = a2 < v4;
-        return result;
-    }
-    result = 0;
-    return result;
-}
-
-/* c2_target_known::zeros_sent */
-static _Bool c2_target_known__zeros_sent(uint64_t a1, uint64_t a2)
-{
-    _Bool result;
-    _Bool v3;
-    v3 = a1 <= UINT64_C(32);
-    if (v3) {
-        result = a2 == UINT64_C(0);
-        return result;
-    }
-    result = 0;
     return result;
 }
 
@@ -1872,60 +1984,71 @@ static _Bool c2_target_known__is_sent(uint64_t a1, uint64_t a2, const c2_target_
 {
     _Bool result;
     _Bool v4;
+    _Bool v5;
+    _Bool v6;
+    uint64_t v7;
     switch (a3->tag) {
     case 0u:
-        v4 = c2_target_known__zeros_sent(a1, a2);
-        break;
-    case 1u:
-        v4 = 0;
-        break;
-    case 2u:
-        v4 = 0;
+        v5 = a1 <= UINT64_C(32);
+        if (v5) {
+            v5 = a2 == UINT64_C(0);
+        }
+        v4 = v5;
         break;
     case 3u:
-        v4 = c2_target_known__byte_sent(a1, a2);
+    case 4u:
+        v6 = a1 <= UINT64_C(8);
+        if (v6) {
+            v7 = UINT64_C(1) << a1;
+            v6 = a2 < v7;
+        }
+        v4 = v6;
         break;
-    default: /* 4 */
-        v4 = c2_target_known__byte_sent(a1, a2);
+    default: /* 1, 2 */
+        v4 = 0;
         break;
     }
     result = v4;
     return result;
 }
 
-/* c2_target_known::known_send */
-static _Bool c2_target_known__known_send(uint64_t a1, uint64_t a2, const c2_target__Effect *a3)
+/* c2_target_known::known_effect */
+static _Bool c2_target_known__known_effect(const c2_target__Effect *a1)
 {
     _Bool result;
-    _Bool v4;
-    v4 = UINT64_C(1) <= a1;
-    if (v4) {
-        result = c2_target_known__is_sent(a1, a2, a3);
-        return result;
+    uint64_t v2;
+    _Bool v3;
+    switch (a1->tag) {
+    case 1u:
+        v2 = a1->u64_0;
+        goto end2;
+    case 2u:
+        v2 = a1->u64_0;
+        goto end2;
+    default: /* 0, 3, 4 */
+        v3 = 1;
+        goto end1;
     }
-    result = 0;
+    end2:;
+    v3 = v2 < UINT64_C(256);
+    end1:;
+    result = v3;
     return result;
 }
 
-/* c2_target_known::known_waiting */
-static _Bool c2_target_known__known_waiting(uint64_t a1, uint64_t a2, uint64_t a3,
-    const c2_target__Effect *a4)
+/* core::int::usize::saturating_sub */
+static uint64_t core__int__usize__saturating_sub(uint64_t a1, uint64_t a2)
 {
-    _Bool result;
-    _Bool v5;
-    uint64_t v6;
-    v5 = a1 <= a2;
-    if (v5) {
-        result = 0;
-        return result;
+    uint64_t result;
+    _Bool v3;
+    uint64_t v4;
+    v3 = a2 <= a1;
+    if (v3) {
+        v4 = a1 - a2;
+    } else {
+        v4 = UINT64_C(0);
     }
-    v6 = a2 + UINT64_C(1);
-    v5 = v6 < a1;
-    if (v5) {
-        result = c2_target_known__after_its_wait(a3, a4);
-        return result;
-    }
-    result = 0;
+    result = v4;
     return result;
 }
 
@@ -1939,81 +2062,98 @@ static _Bool c2_target_known__known_point(uint64_t a1, const c2_target__Point *a
     uint64_t v6;
     uint64_t v7;
     uint64_t v8;
-    uint64_t v9;
+    c2_target__Effect v9;
     uint64_t v10;
     uint64_t v11;
-    uint64_t v12;
+    c2_target__Effect v12;
     uint64_t v13;
     uint64_t v14;
     c2_target__Effect v15;
-    uint64_t v16;
-    uint64_t v17;
-    c2_target__Effect v18;
-    uint64_t v19;
-    uint64_t v20;
-    c2_target__Effect v21;
-    c2_target__Effect v22;
-    _Bool v23;
+    c2_target__Effect v16;
+    _Bool v17;
+    core__RangeInclusive_u64 v18;
+    core__RangeInclusive_u64 v19;
+    const core__RangeInclusive_u64 *v20;
+    const uint64_t *v21;
+    _Bool v22;
+    uint64_t v23;
+    _Bool v24;
     switch (a2->tag) {
     case 0u:
-        v23 = 1;
-        break;
+        v17 = 1;
+        goto end1;
     case 1u:
         v3 = a2->u64_0;
         v4 = a2->u64_1;
-        v23 = c2_target_known__hearing(UINT64_C(2), v3, v4);
-        break;
+        goto end2;
     case 2u:
+        v3 = a2->u64_0;
+        v4 = a2->u64_1;
+        goto end2;
+    case 3u:
+        v3 = a2->u64_0;
+        v4 = a2->u64_1;
+        goto end2;
+    case 4u:
         v5 = a2->u64_0;
         v6 = a2->u64_1;
-        v23 = c2_target_known__hearing(UINT64_C(2), v5, v6);
-        break;
-    case 3u:
-        v7 = a2->u64_0;
-        v8 = a2->u64_1;
-        v23 = c2_target_known__hearing(UINT64_C(2), v7, v8);
-        break;
-    case 4u:
-        v9 = a2->u64_0;
-        v10 = a2->u64_1;
-        v23 = c2_target_known__hearing(UINT64_C(8), v9, v10);
-        break;
+        goto end3;
     case 5u:
-        v11 = a2->u64_0;
-        v12 = a2->u64_1;
-        v23 = c2_target_known__hearing(UINT64_C(8), v11, v12);
-        break;
+        v5 = a2->u64_0;
+        v6 = a2->u64_1;
+        goto end3;
     case 6u:
-        v13 = a2->u64_0;
-        v23 = c2_target_known__known_long_data(v13);
-        break;
+        v7 = a2->u64_0;
+        v18 = core__RangeInclusive__new_u64(UINT64_C(1), UINT64_C(32));
+        v19.f0 = v18.f0;
+        v19.f1 = v18.f1;
+        v19.f2 = v18.f2;
+        v20 = &v19;
+        v21 = &v7;
+        v17 = core__RangeInclusive__contains_u64(v20, v21);
+        goto end1;
     case 7u:
-        v14 = a2->u64_0;
+        v8 = a2->u64_0;
+        v9.tag = a2->c2_target__Effect_0.tag;
+        v9.u64_0 = a2->c2_target__Effect_0.u64_0;
+        v17 = c2_target_known__after_its_wait(v8, &v9);
+        goto end1;
+    case 8u:
+        v10 = a2->u64_0;
+        v11 = a2->u64_1;
+        v12.tag = a2->c2_target__Effect_0.tag;
+        v12.u64_0 = a2->c2_target__Effect_0.u64_0;
+        v23 = core__int__usize__saturating_sub(a1, UINT64_C(1));
+        v22 = v10 < v23;
+        if (v22) {
+            v22 = c2_target_known__after_its_wait(v11, &v12);
+        }
+        v17 = v22;
+        goto end1;
+    case 9u:
+        v13 = a2->u64_0;
+        v14 = a2->u64_1;
         v15.tag = a2->c2_target__Effect_0.tag;
         v15.u64_0 = a2->c2_target__Effect_0.u64_0;
-        v23 = c2_target_known__after_its_wait(v14, &v15);
-        break;
-    case 8u:
-        v16 = a2->u64_0;
-        v17 = a2->u64_1;
-        v18.tag = a2->c2_target__Effect_0.tag;
-        v18.u64_0 = a2->c2_target__Effect_0.u64_0;
-        v23 = c2_target_known__known_waiting(a1, v16, v17, &v18);
-        break;
-    case 9u:
-        v19 = a2->u64_0;
-        v20 = a2->u64_1;
-        v21.tag = a2->c2_target__Effect_0.tag;
-        v21.u64_0 = a2->c2_target__Effect_0.u64_0;
-        v23 = c2_target_known__known_send(v19, v20, &v21);
-        break;
+        v24 = UINT64_C(1) <= v13;
+        if (v24) {
+            v24 = c2_target_known__is_sent(v13, v14, &v15);
+        }
+        v17 = v24;
+        goto end1;
     default: /* 10 */
-        v22.tag = a2->c2_target__Effect_0.tag;
-        v22.u64_0 = a2->c2_target__Effect_0.u64_0;
-        v23 = c2_target_known__known_effect(&v22);
-        break;
+        v16.tag = a2->c2_target__Effect_0.tag;
+        v16.u64_0 = a2->c2_target__Effect_0.u64_0;
+        v17 = c2_target_known__known_effect(&v16);
+        goto end1;
     }
-    result = v23;
+    end3:;
+    v17 = c2_target_known__hearing(UINT64_C(8), v5, v6);
+    goto end1;
+    end2:;
+    v17 = c2_target_known__hearing(UINT64_C(2), v3, v4);
+    end1:;
+    result = v17;
     return result;
 }
 
@@ -2026,34 +2166,7 @@ static uint64_t c2_target_known__most_keys(const c2_target__Point *a1)
     case 0u:
         v2 = UINT64_C(3);
         break;
-    case 1u:
-        v2 = UINT64_C(2);
-        break;
-    case 2u:
-        v2 = UINT64_C(2);
-        break;
-    case 3u:
-        v2 = UINT64_C(2);
-        break;
-    case 4u:
-        v2 = UINT64_C(2);
-        break;
-    case 5u:
-        v2 = UINT64_C(2);
-        break;
-    case 6u:
-        v2 = UINT64_C(2);
-        break;
-    case 7u:
-        v2 = UINT64_C(2);
-        break;
-    case 8u:
-        v2 = UINT64_C(2);
-        break;
-    case 9u:
-        v2 = UINT64_C(2);
-        break;
-    default: /* 10 */
+    default: /* 1, 2, 3, 4, 5, 6, 7, 8, 9, 10 */
         v2 = UINT64_C(2);
         break;
     }
@@ -2065,59 +2178,80 @@ static uint64_t c2_target_known__most_keys(const c2_target__Point *a1)
 static _Bool c2_target_known__known(const c2_settings *a1, const c2_target__Target *a2, slice_u8 a3)
 {
     _Bool result;
-    c2_target__Point v4;
-    c2_target__Device v5;
-    uint64_t v6;
-    uint64_t v7;
+    c2_target__Device v4;
+    _Bool v5;
+    _Bool v6;
+    _Bool v7;
     _Bool v8;
-    _Bool v9;
+    uint64_t v9;
     uint64_t v10;
     uint64_t v11;
-    _Bool v12;
+    c2_target__Point v12;
     uint64_t v13;
-    v4.tag = a2->f0.tag;
-    v4.u64_0 = a2->f0.u64_0;
-    v4.u64_1 = a2->f0.u64_1;
-    v4.c2_target__Effect_0.tag = a2->f0.c2_target__Effect_0.tag;
-    v4.c2_target__Effect_0.u64_0 = a2->f0.c2_target__Effect_0.u64_0;
-    v5.f0 = a2->f3.f0;
-    v5.f1 = a2->f3.f1;
-    v5.f2 = a2->f3.f2;
-    v5.f3.f0 = a2->f3.f3.f0;
-    v5.f3.f1 = a2->f3.f3.f1;
-    v5.f3.f2 = a2->f3.f3.f2;
-    v5.f3.f3 = a2->f3.f3.f3;
-    v5.f4.f0.tag = a2->f3.f4.f0.tag;
-    v5.f4.f0.u64_0 = a2->f3.f4.f0.u64_0;
-    v5.f4.f0.bool_0 = a2->f3.f4.f0.bool_0;
-    v5.f4.f0.u64_1 = a2->f3.f4.f0.u64_1;
-    v5.f4.f1.tag = a2->f3.f4.f1.tag;
-    v5.f4.f1.bool_0 = a2->f3.f4.f1.bool_0;
-    v5.f4.f1.u64_0 = a2->f3.f4.f1.u64_0;
-    v5.f4.f1.u64_1 = a2->f3.f4.f1.u64_1;
-    v5.f4.f2 = a2->f3.f4.f2;
-    v5.f4.f3 = a2->f3.f4.f3;
-    v6 = a3.length;
-    v7 = c2_target_known__flash_size(a1->page_size, a1->page_count);
-    v8 = v6 == v7;
+    c2_target__Point v14;
+    uint64_t v15;
+    uint64_t v16;
+    c2_target__Link v17;
+    v4.f0 = a2->f3.f0;
+    v4.f1 = a2->f3.f1;
+    v4.f2 = a2->f3.f2;
+    v4.f3.f0 = a2->f3.f3.f0;
+    v4.f3.f1 = a2->f3.f3.f1;
+    v4.f3.f2 = a2->f3.f3.f2;
+    v4.f3.f3 = a2->f3.f3.f3;
+    v4.f4.f0.tag = a2->f3.f4.f0.tag;
+    v4.f4.f0.u64_0 = a2->f3.f4.f0.u64_0;
+    v4.f4.f0.bool_0 = a2->f3.f4.f0.bool_0;
+    v4.f4.f0.u64_1 = a2->f3.f4.f0.u64_1;
+    v4.f4.f1.tag = a2->f3.f4.f1.tag;
+    v4.f4.f1.bool_0 = a2->f3.f4.f1.bool_0;
+    v4.f4.f1.u64_0 = a2->f3.f4.f1.u64_0;
+    v4.f4.f1.u64_1 = a2->f3.f4.f1.u64_1;
+    v4.f4.f2 = a2->f3.f4.f2;
+    v4.f4.f3 = a2->f3.f4.f3;
+    v9 = a3.length;
+    v10 = c2_target_known__flash_size(a1->page_size, a1->page_count);
+    v8 = v9 == v10;
     if (v8) {
-        v10 = (uint64_t)a1->wait_limit;
-        v9 = c2_target_known__known_point(v10, &v4);
-        if (v9) {
-            v11 = c2_target_known__most_keys(&v4);
-            v12 = v5.f2 <= v11;
-            if (v12) {
-                v13 = a3.length;
-                result = c2_target_known__known_device(a1, &v5, v13);
-                return result;
-            }
-            result = 0;
-            return result;
-        }
-        result = 0;
-        return result;
+        v11 = core__convert__UsizeFromU8__from(a1->wait_limit);
+        v12.tag = a2->f0.tag;
+        v12.u64_0 = a2->f0.u64_0;
+        v12.u64_1 = a2->f0.u64_1;
+        v12.c2_target__Effect_0.tag = a2->f0.c2_target__Effect_0.tag;
+        v12.c2_target__Effect_0.u64_0 = a2->f0.c2_target__Effect_0.u64_0;
+        v8 = c2_target_known__known_point(v11, &v12);
     }
-    result = 0;
+    v7 = v8;
+    if (v7) {
+        v14.tag = a2->f0.tag;
+        v14.u64_0 = a2->f0.u64_0;
+        v14.u64_1 = a2->f0.u64_1;
+        v14.c2_target__Effect_0.tag = a2->f0.c2_target__Effect_0.tag;
+        v14.c2_target__Effect_0.u64_0 = a2->f0.c2_target__Effect_0.u64_0;
+        v13 = c2_target_known__most_keys(&v14);
+        v7 = v4.f2 <= v13;
+    }
+    v6 = v7;
+    if (v6) {
+        v6 = v4.f0 < UINT64_C(256);
+    }
+    v5 = v6;
+    if (v5) {
+        v15 = (uint64_t)a1->page_count;
+        v16 = a3.length;
+        v17.f0.tag = v4.f4.f0.tag;
+        v17.f0.u64_0 = v4.f4.f0.u64_0;
+        v17.f0.bool_0 = v4.f4.f0.bool_0;
+        v17.f0.u64_1 = v4.f4.f0.u64_1;
+        v17.f1.tag = v4.f4.f1.tag;
+        v17.f1.bool_0 = v4.f4.f1.bool_0;
+        v17.f1.u64_0 = v4.f4.f1.u64_0;
+        v17.f1.u64_1 = v4.f4.f1.u64_1;
+        v17.f2 = v4.f4.f2;
+        v17.f3 = v4.f4.f3;
+        v5 = c2_target_known__known_link(v15, v16, &v17);
+    }
+    result = v5;
     return result;
 }
 
@@ -2128,94 +2262,205 @@ static _Bool c2_target_step__steps__is_step(uint8_t a1)
     _Bool v2;
     v2 = a1 <= 6u;
     if (v2) {
-        result = a1 != 1u;
-        return result;
+        v2 = a1 != 1u;
     }
-    result = 0;
+    result = v2;
     return result;
 }
 
-/* settings::registers::may_be_named */
-static _Bool settings__registers__may_be_named(_Bool a1, uint8_t a2, uint8_t a3)
+/* core::AnyFrom::from_Refusal */
+static numbers__Refusal core__AnyFrom__from_Refusal(numbers__Refusal a1)
+{
+    numbers__Refusal result;
+    result = a1;
+    return result;
+}
+
+/* core::ResultFromResidualErrResidual::from_residua_45a805 */
+static core__Result_unit_Refusal core__ResultFromResidualErrResidual__from_residua_45a805(
+    const core__ErrResidual_Refusal *a1)
+{
+    core__Result_unit_Refusal result;
+    numbers__Refusal v2;
+    numbers__Refusal v3;
+    v3 = a1->f0;
+    v2 = core__AnyFrom__from_Refusal(v3);
+    result.tag = 1u;
+    result.numbers__Refusal_0 = v2;
+    return result;
+}
+
+/* core::ResultTry::branch_unit_Refusal */
+static core__ControlFlow_ErrResidual_Refusal_unit core__ResultTry__branch_unit_Refusal(
+    const core__Result_unit_Refusal *a1)
+{
+    core__ControlFlow_ErrResidual_Refusal_unit result;
+    numbers__Refusal v3;
+    core__ControlFlow_ErrResidual_Refusal_unit v4;
+    numbers__Refusal v6;
+    core__ErrResidual_Refusal v7;
+    switch (a1->tag) {
+    case 0u:
+        v4.tag = 0u;
+        v4.core__ErrResidual_Refusal_0.f0 = 0;
+        break;
+    default: /* 1 */
+        v3 = a1->numbers__Refusal_0;
+        v6 = v3;
+        v7.f0 = v6;
+        v4.tag = 1u;
+        v4.core__ErrResidual_Refusal_0.f0 = v7.f0;
+        break;
+    }
+    result.tag = v4.tag;
+    result.core__ErrResidual_Refusal_0.f0 = v4.core__ErrResidual_Refusal_0.f0;
+    return result;
+}
+
+/* core::slice_T::is_empty_u8 */
+static _Bool core__slice_T__is_empty_u8(slice_u8 a1)
 {
     _Bool result;
-    _Bool v4;
-    _Bool v5;
-    v4 = a1;
-    if (v4) {
-        v5 = a2 < 3u;
-        if (v5) {
-            result = 0;
-            return result;
-        }
-        result = a2 != a3;
+    uint64_t v2;
+    v2 = a1.length;
+    result = v2 == UINT64_C(0);
+    return result;
+}
+
+/* core::IterIterator::next_u8 */
+static core__Option_ref_u8 core__IterIterator__next_u8(core__Iter_u8 *a1)
+{
+    core__Option_ref_u8 result;
+    slice_u8 v2;
+    _Bool v3;
+    uint64_t v4;
+    const uint8_t *v5;
+    uint64_t v6;
+    const uint8_t *v7;
+    slice_u8 v8;
+    const uint8_t *v9;
+    const uint8_t *v10;
+    v2.at = a1->f0.at;
+    v2.length = a1->f0.length;
+    v3 = core__slice_T__is_empty_u8(v2);
+    if (v3) {
+        result.tag = 0u;
+        result.ref_u8_0 = 0;
         return result;
     }
+    v4 = UINT64_C(1);
+    v5 = v2.at + (size_t)v4;
+    v6 = v2.length - UINT64_C(1);
+    v7 = v5;
+    v8.at = v7;
+    v8.length = v6;
+    a1->f0.at = v8.at;
+    a1->f0.length = v8.length;
+    v4 = UINT64_C(0);
+    v9 = v2.at + (size_t)v4;
+    v10 = v9;
+    result.tag = 1u;
+    result.ref_u8_0 = v10;
+    return result;
+}
+
+/* settings::registers::fn::are_registers::all */
+static _Bool settings__registers__fn__are_registers__all(settings__all_Self_ref_u8 *a1, const uint8_t *a2)
+{
+    _Bool result;
+    const uint8_t *v3;
+    _Bool v4;
+    uint8_t v5;
+    uint8_t v6;
+    uint8_t v7;
+    v3 = a1->f0;
+    v5 = *a2;
+    v4 = 3u <= v5;
+    if (v4) {
+        v6 = *a2;
+        v7 = *v3;
+        v4 = v6 != v7;
+    }
+    result = v4;
+    return result;
+}
+
+/* settings::registers::fn::are_registers::all_FnMut::call_mut */
+static _Bool settings__registers__fn__are_registers__all_FnMut__call_mut(settings__all_Self_ref_u8 *a1,
+    const uint8_t *a2)
+{
+    _Bool result;
+    settings__all_Self_ref_u8 *v3;
+    v3 = a1;
+    result = settings__registers__fn__are_registers__all(v3, a2);
+    return result;
+}
+
+/* core::Iterator::all_Iter_u8_ref_u8_are_registers_f5c56d */
+static _Bool core__Iterator__all_Iter_u8_ref_u8_are_registers_f5c56d(core__Iter_u8 *a1,
+    const settings__all_Self_ref_u8 *a2)
+{
+    _Bool result;
+    settings__all_Self_ref_u8 v3;
+    const uint8_t *v4;
+    core__Option_ref_u8 v5;
+    core__Iter_u8 *v6;
+    _Bool v7;
+    settings__all_Self_ref_u8 *v8;
+    const uint8_t *v9;
+    _Bool v10;
+    v3.f0 = a2->f0;
+    for (;;) {
+        v6 = a1;
+        v5 = core__IterIterator__next_u8(v6);
+        switch (v5.tag) {
+        case 1u:
+            v4 = v5.ref_u8_0;
+            v8 = &v3;
+            v9 = v4;
+            v7 = settings__registers__fn__are_registers__all_FnMut__call_mut(v8, v9);
+            v10 = !v7;
+            if (v10) {
+                result = 0;
+                return result;
+            }
+            break;
+        default: /* 0 */
+            goto end1;
+        }
+    }
+    end1:;
     result = 1;
     return result;
 }
 
-/* settings::registers::entries_fit */
-static _Bool settings__registers__entries_fit(uint8_t a1, const c2_pairs *a2)
+/* core::slice_T::iter_u8 */
+static core__Iter_u8 core__slice_T__iter_u8(slice_u8 a1)
+{
+    core__Iter_u8 result;
+    result.f0.at = a1.at;
+    result.f0.length = a1.length;
+    return result;
+}
+
+/* settings::registers::are_registers */
+static _Bool settings__registers__are_registers(uint8_t a1, slice_u8 a2)
 {
     _Bool result;
-    array_4_u8 v3;
-    _Bool v4;
-    _Bool v5;
-    const uint8_t *v6;
+    uint8_t v3;
+    core__Iter_u8 v4;
+    core__Iter_u8 v5;
+    core__Iter_u8 *v6;
     const uint8_t *v7;
-    uint8_t v8;
-    _Bool v9;
-    _Bool v10;
-    const uint8_t *v11;
-    const uint8_t *v12;
-    uint8_t v13;
-    _Bool v14;
-    _Bool v15;
-    const uint8_t *v16;
-    const uint8_t *v17;
-    uint8_t v18;
-    _Bool v19;
-    const uint8_t *v20;
-    const uint8_t *v21;
-    uint8_t v22;
-    v3.at[0] = a2->registers[0];
-    v3.at[1] = a2->registers[1];
-    v3.at[2] = a2->registers[2];
-    v3.at[3] = a2->registers[3];
-    v4 = 4u < a2->count;
-    if (v4) {
-        result = 0;
-        return result;
-    }
-    v4 = 0u < a2->count;
-    v6 = v3.at;
-    v7 = v6 + (size_t)UINT64_C(0);
-    v8 = *v7;
-    v5 = settings__registers__may_be_named(v4, v8, a1);
-    if (v5) {
-        v10 = 1u < a2->count;
-        v11 = v3.at;
-        v12 = v11 + (size_t)UINT64_C(1);
-        v13 = *v12;
-        v9 = settings__registers__may_be_named(v10, v13, a1);
-        if (v9) {
-            v15 = 2u < a2->count;
-            v16 = v3.at;
-            v17 = v16 + (size_t)UINT64_C(2);
-            v18 = *v17;
-            v14 = settings__registers__may_be_named(v15, v18, a1);
-            if (v14) {
-                v19 = 3u < a2->count;
-                v20 = v3.at;
-                v21 = v20 + (size_t)UINT64_C(3);
-                v22 = *v21;
-                result = settings__registers__may_be_named(v19, v22, a1);
-                return result;
-            }
-        }
-    }
-    result = 0;
+    settings__all_Self_ref_u8 v8;
+    v3 = a1;
+    v4 = core__slice_T__iter_u8(a2);
+    v5.f0.at = v4.f0.at;
+    v5.f0.length = v4.f0.length;
+    v6 = &v5;
+    v7 = &v3;
+    v8.f0 = v7;
+    result = core__Iterator__all_Iter_u8_ref_u8_are_registers_f5c56d(v6, &v8);
     return result;
 }
 
@@ -2223,170 +2468,213 @@ static _Bool settings__registers__entries_fit(uint8_t a1, const c2_pairs *a2)
 static _Bool settings__registers__are_pairs(uint8_t a1, const c2_pairs *a2)
 {
     _Bool result;
-    _Bool v3;
-    v3 = a2->count == 0u;
-    if (v3) {
-        result = 1;
-        return result;
+    c2_pairs v3;
+    uint64_t v4;
+    uint8_t v5;
+    _Bool v6;
+    const uint8_t *v7;
+    slice_u8 v8;
+    v3.count = a2->count;
+    v3.registers[0] = a2->registers[0];
+    v3.registers[1] = a2->registers[1];
+    v3.registers[2] = a2->registers[2];
+    v3.registers[3] = a2->registers[3];
+    v3.values[0] = a2->values[0];
+    v3.values[1] = a2->values[1];
+    v3.values[2] = a2->values[2];
+    v3.values[3] = a2->values[3];
+    v5 = v3.count;
+    v4 = core__convert__UsizeFromU8__from(v5);
+    v6 = v4 <= UINT64_C(4);
+    if (v6) {
+        v7 = v3.registers;
+        v8.at = v7;
+        v8.length = v4;
+        v6 = settings__registers__are_registers(a1, v8);
     }
-    result = settings__registers__entries_fit(a1, a2);
+    result = v6;
     return result;
 }
 
 /* settings::accepted::wait_refusal */
-static uint32_t settings__accepted__wait_refusal(const c2_settings *a1)
+static core__Result_unit_Refusal settings__accepted__wait_refusal(const c2_settings *a1)
 {
-    uint32_t result;
-    c2_pairs v2;
-    _Bool v3;
-    _Bool v4;
-    v2.count = a1->pairs.count;
-    v2.registers[0] = a1->pairs.registers[0];
-    v2.registers[1] = a1->pairs.registers[1];
-    v2.registers[2] = a1->pairs.registers[2];
-    v2.registers[3] = a1->pairs.registers[3];
-    v2.values[0] = a1->pairs.values[0];
-    v2.values[1] = a1->pairs.values[1];
-    v2.values[2] = a1->pairs.values[2];
-    v2.values[3] = a1->pairs.values[3];
-    v3 = a1->wait_limit == 0u;
-    if (v3) {
-        result = UINT32_C(18);
+    core__Result_unit_Refusal result;
+    _Bool v2;
+    numbers__Refusal v3;
+    c2_pairs v4;
+    _Bool v5;
+    numbers__Refusal v6;
+    v2 = a1->wait_limit == 0u;
+    if (v2) {
+        v3 = 10u;
+        result.tag = 1u;
+        result.numbers__Refusal_0 = v3;
         return result;
     }
-    v4 = settings__registers__are_pairs(a1->fpdat, &v2);
-    if (v4) {
-        result = UINT32_C(0);
+    v4.count = a1->pairs.count;
+    v4.registers[0] = a1->pairs.registers[0];
+    v4.registers[1] = a1->pairs.registers[1];
+    v4.registers[2] = a1->pairs.registers[2];
+    v4.registers[3] = a1->pairs.registers[3];
+    v4.values[0] = a1->pairs.values[0];
+    v4.values[1] = a1->pairs.values[1];
+    v4.values[2] = a1->pairs.values[2];
+    v4.values[3] = a1->pairs.values[3];
+    v2 = settings__registers__are_pairs(a1->fpdat, &v4);
+    v5 = !v2;
+    if (v5) {
+        v6 = 11u;
+        result.tag = 1u;
+        result.numbers__Refusal_0 = v6;
         return result;
     }
-    result = UINT32_C(19);
+    result.tag = 0u;
+    result.numbers__Refusal_0 = 0;
     return result;
 }
 
 /* settings::accepted::count_refusal */
-static uint32_t settings__accepted__count_refusal(const c2_settings *a1, uint32_t a2)
+static core__Result_unit_Refusal settings__accepted__count_refusal(const c2_settings *a1, uint32_t a2)
 {
-    uint32_t result;
+    core__Result_unit_Refusal result;
     _Bool v3;
+    _Bool v4;
+    numbers__Refusal v5;
     v3 = a1->page_count == UINT32_C(0);
-    if (v3) {
-        result = UINT32_C(3);
-        return result;
+    if (!v3) {
+        v3 = a2 < a1->page_count;
+        v4 = v3;
+        if (!v4) {
+            goto end2;
+        }
     }
-    v3 = a1->page_count <= a2;
-    if (v3) {
-        result = settings__accepted__wait_refusal(a1);
-        return result;
-    }
-    result = UINT32_C(3);
+    v5 = 2u;
+    result.tag = 1u;
+    result.numbers__Refusal_0 = v5;
+    return result;
+    goto end1;
+    end2:;
+    end1:;
+    result = settings__accepted__wait_refusal(a1);
     return result;
 }
 
 /* settings::accepted::refusal */
-static uint32_t settings__accepted__refusal(const c2_settings *a1)
+static core__Result_unit_Refusal settings__accepted__refusal(const c2_settings *a1)
 {
-    uint32_t result;
+    core__Result_unit_Refusal result;
     _Bool v2;
+    numbers__Refusal v3;
+    core__Result_unit_Refusal v4;
+    numbers__Refusal v5;
     v2 = a1->fpdat < 3u;
     if (v2) {
-        result = UINT32_C(1);
+        v3 = 0u;
+        result.tag = 1u;
+        result.numbers__Refusal_0 = v3;
         return result;
     }
-    v2 = a1->page_size == UINT32_C(512);
-    if (v2) {
-        result = settings__accepted__count_refusal(a1, UINT32_C(128));
-        return result;
+    switch (a1->page_size) {
+    case 512u:
+        v4 = settings__accepted__count_refusal(a1, UINT32_C(128));
+        break;
+    case 1024u:
+        v4 = settings__accepted__count_refusal(a1, UINT32_C(64));
+        break;
+    default:
+        v5 = 1u;
+        v4.tag = 1u;
+        v4.numbers__Refusal_0 = v5;
+        break;
     }
-    v2 = a1->page_size == UINT32_C(1024);
-    if (v2) {
-        result = settings__accepted__count_refusal(a1, UINT32_C(64));
-        return result;
-    }
-    result = UINT32_C(2);
+    result.tag = v4.tag;
+    result.numbers__Refusal_0 = v4.numbers__Refusal_0;
     return result;
 }
 
 /* c2_target_wanted::setup_refusal */
-static uint32_t c2_target_wanted__setup_refusal(const c2_settings *a1, const c2_pairs *a2)
+static core__Result_unit_Refusal c2_target_wanted__setup_refusal(const c2_settings *a1, const c2_pairs *a2)
 {
-    uint32_t result;
-    uint32_t v3;
-    _Bool v4;
-    _Bool v5;
-    v3 = settings__accepted__refusal(a1);
-    v4 = v3 != UINT32_C(0);
-    if (v4) {
-        result = v3;
+    core__Result_unit_Refusal result;
+    core__ErrResidual_Refusal v4;
+    core__ControlFlow_ErrResidual_Refusal_unit v5;
+    core__Result_unit_Refusal v6;
+    _Bool v7;
+    core__Result_unit_Refusal v8;
+    numbers__Refusal v9;
+    v6 = settings__accepted__refusal(a1);
+    v5 = core__ResultTry__branch_unit_Refusal(&v6);
+    switch (v5.tag) {
+    case 0u:
+        break;
+    default: /* 1 */
+        v4.f0 = v5.core__ErrResidual_Refusal_0.f0;
+        result = core__ResultFromResidualErrResidual__from_residua_45a805(&v4);
         return result;
     }
-    v5 = settings__registers__are_pairs(a1->fpdat, a2);
-    if (v5) {
-        result = UINT32_C(0);
-        return result;
+    v7 = settings__registers__are_pairs(a1->fpdat, a2);
+    if (v7) {
+        v8.tag = 0u;
+        v8.numbers__Refusal_0 = 0;
+    } else {
+        v9 = 11u;
+        v8.tag = 1u;
+        v8.numbers__Refusal_0 = v9;
     }
-    result = UINT32_C(19);
+    result.tag = v8.tag;
+    result.numbers__Refusal_0 = v8.numbers__Refusal_0;
     return result;
 }
 
 /* c2_target_step::steps::refusal */
-static uint32_t c2_target_step__steps__refusal(const c2_settings *a1, const c2_pairs *a2,
+static core__Result_unit_Refusal c2_target_step__steps__refusal(const c2_settings *a1, const c2_pairs *a2,
     const c2_target__Target *a3, slice_u8 a4, uint8_t a5)
 {
-    uint32_t result;
-    uint32_t v6;
-    _Bool v7;
-    _Bool v8;
-    _Bool v9;
-    v6 = c2_target_wanted__setup_refusal(a1, a2);
-    v7 = v6 != UINT32_C(0);
-    if (v7) {
-        result = v6;
+    core__Result_unit_Refusal result;
+    core__ErrResidual_Refusal v7;
+    core__ControlFlow_ErrResidual_Refusal_unit v8;
+    core__Result_unit_Refusal v9;
+    _Bool v10;
+    _Bool v11;
+    core__Result_unit_Refusal v12;
+    numbers__Refusal v13;
+    _Bool v14;
+    _Bool v15;
+    core__Result_unit_Refusal v16;
+    numbers__Refusal v17;
+    v9 = c2_target_wanted__setup_refusal(a1, a2);
+    v8 = core__ResultTry__branch_unit_Refusal(&v9);
+    switch (v8.tag) {
+    case 0u:
+        break;
+    default: /* 1 */
+        v7.f0 = v8.core__ErrResidual_Refusal_0.f0;
+        result = core__ResultFromResidualErrResidual__from_residua_45a805(&v7);
         return result;
     }
-    v8 = c2_target_known__known(a1, a3, a4);
-    if (v8) {
-        v9 = c2_target_step__steps__is_step(a5);
-        if (v9) {
-            result = UINT32_C(0);
-            return result;
+    v10 = c2_target_known__known(a1, a3, a4);
+    v11 = !v10;
+    if (v11) {
+        v13 = 9u;
+        v12.tag = 1u;
+        v12.numbers__Refusal_0 = v13;
+    } else {
+        v14 = c2_target_step__steps__is_step(a5);
+        v15 = !v14;
+        if (v15) {
+            v17 = 8u;
+            v16.tag = 1u;
+            v16.numbers__Refusal_0 = v17;
+        } else {
+            v16.tag = 0u;
+            v16.numbers__Refusal_0 = 0;
         }
-        result = UINT32_C(16);
-        return result;
+        v12.tag = v16.tag;
+        v12.numbers__Refusal_0 = v16.numbers__Refusal_0;
     }
-    result = UINT32_C(17);
-    return result;
-}
-
-/* c2_target_step::steps::accepted */
-static c2_target__Replied c2_target_step__steps__accepted(const c2_target__Target *a1)
-{
-    c2_target__Replied result;
-    result.f0 = UINT32_C(0);
-    result.f1 = UINT32_C(1);
-    result.f2.f0.tag = a1->f0.tag;
-    result.f2.f0.u64_0 = a1->f0.u64_0;
-    result.f2.f0.u64_1 = a1->f0.u64_1;
-    result.f2.f0.c2_target__Effect_0.tag = a1->f0.c2_target__Effect_0.tag;
-    result.f2.f0.c2_target__Effect_0.u64_0 = a1->f0.c2_target__Effect_0.u64_0;
-    result.f2.f1 = a1->f1;
-    result.f2.f2 = a1->f2;
-    result.f2.f3.f0 = a1->f3.f0;
-    result.f2.f3.f1 = a1->f3.f1;
-    result.f2.f3.f2 = a1->f3.f2;
-    result.f2.f3.f3.f0 = a1->f3.f3.f0;
-    result.f2.f3.f3.f1 = a1->f3.f3.f1;
-    result.f2.f3.f3.f2 = a1->f3.f3.f2;
-    result.f2.f3.f3.f3 = a1->f3.f3.f3;
-    result.f2.f3.f4.f0.tag = a1->f3.f4.f0.tag;
-    result.f2.f3.f4.f0.u64_0 = a1->f3.f4.f0.u64_0;
-    result.f2.f3.f4.f0.bool_0 = a1->f3.f4.f0.bool_0;
-    result.f2.f3.f4.f0.u64_1 = a1->f3.f4.f0.u64_1;
-    result.f2.f3.f4.f1.tag = a1->f3.f4.f1.tag;
-    result.f2.f3.f4.f1.bool_0 = a1->f3.f4.f1.bool_0;
-    result.f2.f3.f4.f1.u64_0 = a1->f3.f4.f1.u64_0;
-    result.f2.f3.f4.f1.u64_1 = a1->f3.f4.f1.u64_1;
-    result.f2.f3.f4.f2 = a1->f3.f4.f2;
-    result.f2.f3.f4.f3 = a1->f3.f4.f3;
+    result.tag = v12.tag;
+    result.numbers__Refusal_0 = v12.numbers__Refusal_0;
     return result;
 }
 
@@ -2394,117 +2682,85 @@ static c2_target__Replied c2_target_step__steps__accepted(const c2_target__Targe
 static c2_target__Target c2_target_step__steps__after_pause(const c2_target__Target *a1)
 {
     c2_target__Target result;
-    c2_target__Point v2;
-    c2_target__Device v3;
-    c2_target__Met v4;
-    c2_target__Link v5;
-    _Bool v6;
-    c2_target__Device v7;
-    v2.tag = a1->f0.tag;
-    v2.u64_0 = a1->f0.u64_0;
-    v2.u64_1 = a1->f0.u64_1;
-    v2.c2_target__Effect_0.tag = a1->f0.c2_target__Effect_0.tag;
-    v2.c2_target__Effect_0.u64_0 = a1->f0.c2_target__Effect_0.u64_0;
-    v3.f0 = a1->f3.f0;
-    v3.f1 = a1->f3.f1;
-    v3.f2 = a1->f3.f2;
-    v3.f3.f0 = a1->f3.f3.f0;
-    v3.f3.f1 = a1->f3.f3.f1;
-    v3.f3.f2 = a1->f3.f3.f2;
-    v3.f3.f3 = a1->f3.f3.f3;
-    v3.f4.f0.tag = a1->f3.f4.f0.tag;
-    v3.f4.f0.u64_0 = a1->f3.f4.f0.u64_0;
-    v3.f4.f0.bool_0 = a1->f3.f4.f0.bool_0;
-    v3.f4.f0.u64_1 = a1->f3.f4.f0.u64_1;
-    v3.f4.f1.tag = a1->f3.f4.f1.tag;
-    v3.f4.f1.bool_0 = a1->f3.f4.f1.bool_0;
-    v3.f4.f1.u64_0 = a1->f3.f4.f1.u64_0;
-    v3.f4.f1.u64_1 = a1->f3.f4.f1.u64_1;
-    v3.f4.f2 = a1->f3.f4.f2;
-    v3.f4.f3 = a1->f3.f4.f3;
-    v4.f0 = v3.f3.f0;
-    v4.f1 = v3.f3.f1;
-    v4.f2 = v3.f3.f2;
-    v4.f3 = v3.f3.f3;
-    v5.f0.tag = v3.f4.f0.tag;
-    v5.f0.u64_0 = v3.f4.f0.u64_0;
-    v5.f0.bool_0 = v3.f4.f0.bool_0;
-    v5.f0.u64_1 = v3.f4.f0.u64_1;
-    v5.f1.tag = v3.f4.f1.tag;
-    v5.f1.bool_0 = v3.f4.f1.bool_0;
-    v5.f1.u64_0 = v3.f4.f1.u64_0;
-    v5.f1.u64_1 = v3.f4.f1.u64_1;
-    v5.f2 = v3.f4.f2;
-    v5.f3 = v3.f4.f3;
-    v6 = v3.f2 == UINT64_C(3);
-    if (v6) {
-        v7.f0 = v3.f0;
-        v7.f1 = 1;
-        v7.f2 = v3.f2;
-        v7.f3.f0 = v4.f0;
-        v7.f3.f1 = v4.f1;
-        v7.f3.f2 = v4.f2;
-        v7.f3.f3 = v4.f3;
-        v7.f4.f0.tag = v5.f0.tag;
-        v7.f4.f0.u64_0 = v5.f0.u64_0;
-        v7.f4.f0.bool_0 = v5.f0.bool_0;
-        v7.f4.f0.u64_1 = v5.f0.u64_1;
-        v7.f4.f1.tag = v5.f1.tag;
-        v7.f4.f1.bool_0 = v5.f1.bool_0;
-        v7.f4.f1.u64_0 = v5.f1.u64_0;
-        v7.f4.f1.u64_1 = v5.f1.u64_1;
-        v7.f4.f2 = v5.f2;
-        v7.f4.f3 = v5.f3;
-        result.f0.tag = v2.tag;
-        result.f0.u64_0 = v2.u64_0;
-        result.f0.u64_1 = v2.u64_1;
-        result.f0.c2_target__Effect_0.tag = v2.c2_target__Effect_0.tag;
-        result.f0.c2_target__Effect_0.u64_0 = v2.c2_target__Effect_0.u64_0;
-        result.f1 = a1->f1;
-        result.f2 = a1->f2;
-        result.f3.f0 = v7.f0;
-        result.f3.f1 = v7.f1;
-        result.f3.f2 = v7.f2;
-        result.f3.f3.f0 = v7.f3.f0;
-        result.f3.f3.f1 = v7.f3.f1;
-        result.f3.f3.f2 = v7.f3.f2;
-        result.f3.f3.f3 = v7.f3.f3;
-        result.f3.f4.f0.tag = v7.f4.f0.tag;
-        result.f3.f4.f0.u64_0 = v7.f4.f0.u64_0;
-        result.f3.f4.f0.bool_0 = v7.f4.f0.bool_0;
-        result.f3.f4.f0.u64_1 = v7.f4.f0.u64_1;
-        result.f3.f4.f1.tag = v7.f4.f1.tag;
-        result.f3.f4.f1.bool_0 = v7.f4.f1.bool_0;
-        result.f3.f4.f1.u64_0 = v7.f4.f1.u64_0;
-        result.f3.f4.f1.u64_1 = v7.f4.f1.u64_1;
-        result.f3.f4.f2 = v7.f4.f2;
-        result.f3.f4.f3 = v7.f4.f3;
-        return result;
+    _Bool v2;
+    _Bool v3;
+    uint64_t v4;
+    uint64_t v5;
+    c2_target__Met v6;
+    c2_target__Link v7;
+    c2_target__Device v8;
+    c2_target__Point v9;
+    uint64_t v10;
+    _Bool v11;
+    v3 = a1->f3.f2 == UINT64_C(3);
+    if (!v3) {
+        v3 = a1->f3.f1;
     }
-    result.f0.tag = a1->f0.tag;
-    result.f0.u64_0 = a1->f0.u64_0;
-    result.f0.u64_1 = a1->f0.u64_1;
-    result.f0.c2_target__Effect_0.tag = a1->f0.c2_target__Effect_0.tag;
-    result.f0.c2_target__Effect_0.u64_0 = a1->f0.c2_target__Effect_0.u64_0;
-    result.f1 = a1->f1;
-    result.f2 = a1->f2;
-    result.f3.f0 = a1->f3.f0;
-    result.f3.f1 = a1->f3.f1;
-    result.f3.f2 = a1->f3.f2;
-    result.f3.f3.f0 = a1->f3.f3.f0;
-    result.f3.f3.f1 = a1->f3.f3.f1;
-    result.f3.f3.f2 = a1->f3.f3.f2;
-    result.f3.f3.f3 = a1->f3.f3.f3;
-    result.f3.f4.f0.tag = a1->f3.f4.f0.tag;
-    result.f3.f4.f0.u64_0 = a1->f3.f4.f0.u64_0;
-    result.f3.f4.f0.bool_0 = a1->f3.f4.f0.bool_0;
-    result.f3.f4.f0.u64_1 = a1->f3.f4.f0.u64_1;
-    result.f3.f4.f1.tag = a1->f3.f4.f1.tag;
-    result.f3.f4.f1.bool_0 = a1->f3.f4.f1.bool_0;
-    result.f3.f4.f1.u64_0 = a1->f3.f4.f1.u64_0;
-    result.f3.f4.f1.u64_1 = a1->f3.f4.f1.u64_1;
-    result.f3.f4.f2 = a1->f3.f4.f2;
-    result.f3.f4.f3 = a1->f3.f4.f3;
+    v2 = v3;
+    v4 = a1->f3.f0;
+    v5 = a1->f3.f2;
+    v6.f0 = a1->f3.f3.f0;
+    v6.f1 = a1->f3.f3.f1;
+    v6.f2 = a1->f3.f3.f2;
+    v6.f3 = a1->f3.f3.f3;
+    v7.f0.tag = a1->f3.f4.f0.tag;
+    v7.f0.u64_0 = a1->f3.f4.f0.u64_0;
+    v7.f0.bool_0 = a1->f3.f4.f0.bool_0;
+    v7.f0.u64_1 = a1->f3.f4.f0.u64_1;
+    v7.f1.tag = a1->f3.f4.f1.tag;
+    v7.f1.bool_0 = a1->f3.f4.f1.bool_0;
+    v7.f1.u64_0 = a1->f3.f4.f1.u64_0;
+    v7.f1.u64_1 = a1->f3.f4.f1.u64_1;
+    v7.f2 = a1->f3.f4.f2;
+    v7.f3 = a1->f3.f4.f3;
+    v8.f0 = v4;
+    v8.f1 = v2;
+    v8.f2 = v5;
+    v8.f3.f0 = v6.f0;
+    v8.f3.f1 = v6.f1;
+    v8.f3.f2 = v6.f2;
+    v8.f3.f3 = v6.f3;
+    v8.f4.f0.tag = v7.f0.tag;
+    v8.f4.f0.u64_0 = v7.f0.u64_0;
+    v8.f4.f0.bool_0 = v7.f0.bool_0;
+    v8.f4.f0.u64_1 = v7.f0.u64_1;
+    v8.f4.f1.tag = v7.f1.tag;
+    v8.f4.f1.bool_0 = v7.f1.bool_0;
+    v8.f4.f1.u64_0 = v7.f1.u64_0;
+    v8.f4.f1.u64_1 = v7.f1.u64_1;
+    v8.f4.f2 = v7.f2;
+    v8.f4.f3 = v7.f3;
+    v9.tag = a1->f0.tag;
+    v9.u64_0 = a1->f0.u64_0;
+    v9.u64_1 = a1->f0.u64_1;
+    v9.c2_target__Effect_0.tag = a1->f0.c2_target__Effect_0.tag;
+    v9.c2_target__Effect_0.u64_0 = a1->f0.c2_target__Effect_0.u64_0;
+    v10 = a1->f1;
+    v11 = a1->f2;
+    result.f0.tag = v9.tag;
+    result.f0.u64_0 = v9.u64_0;
+    result.f0.u64_1 = v9.u64_1;
+    result.f0.c2_target__Effect_0.tag = v9.c2_target__Effect_0.tag;
+    result.f0.c2_target__Effect_0.u64_0 = v9.c2_target__Effect_0.u64_0;
+    result.f1 = v10;
+    result.f2 = v11;
+    result.f3.f0 = v8.f0;
+    result.f3.f1 = v8.f1;
+    result.f3.f2 = v8.f2;
+    result.f3.f3.f0 = v8.f3.f0;
+    result.f3.f3.f1 = v8.f3.f1;
+    result.f3.f3.f2 = v8.f3.f2;
+    result.f3.f3.f3 = v8.f3.f3;
+    result.f3.f4.f0.tag = v8.f4.f0.tag;
+    result.f3.f4.f0.u64_0 = v8.f4.f0.u64_0;
+    result.f3.f4.f0.bool_0 = v8.f4.f0.bool_0;
+    result.f3.f4.f0.u64_1 = v8.f4.f0.u64_1;
+    result.f3.f4.f1.tag = v8.f4.f1.tag;
+    result.f3.f4.f1.bool_0 = v8.f4.f1.bool_0;
+    result.f3.f4.f1.u64_0 = v8.f4.f1.u64_0;
+    result.f3.f4.f1.u64_1 = v8.f4.f1.u64_1;
+    result.f3.f4.f2 = v8.f4.f2;
+    result.f3.f4.f3 = v8.f4.f3;
     return result;
 }
 
@@ -2514,18 +2770,20 @@ static c2_target__Target c2_target_step__interface__idle(const c2_target__Target
 {
     c2_target__Target result;
     c2_target__Point v4;
+    _Bool v5;
     v4.tag = 0u;
     v4.u64_0 = 0;
     v4.u64_1 = 0;
     v4.c2_target__Effect_0.tag = 0;
     v4.c2_target__Effect_0.u64_0 = 0;
+    v5 = a1->f2;
     result.f0.tag = v4.tag;
     result.f0.u64_0 = v4.u64_0;
     result.f0.u64_1 = v4.u64_1;
     result.f0.c2_target__Effect_0.tag = v4.c2_target__Effect_0.tag;
     result.f0.c2_target__Effect_0.u64_0 = v4.c2_target__Effect_0.u64_0;
     result.f1 = a2;
-    result.f2 = a1->f2;
+    result.f2 = v5;
     result.f3.f0 = a3->f0;
     result.f3.f1 = a3->f1;
     result.f3.f2 = a3->f2;
@@ -2607,46 +2865,167 @@ static c2_target__Target c2_target_step__steps__after_reset(const c2_target__Tar
 }
 
 /* c2_target_step::steps::still */
-static c2_target__Replied c2_target_step__steps__still(const c2_target__Target *a1, uint8_t a2)
+static c2_target__Turned c2_target_step__steps__still(const c2_target__Target *a1, uint8_t a2)
 {
-    c2_target__Replied result;
-    _Bool v3;
+    c2_target__Turned result;
+    c2_target__Target v3;
     c2_target__Target v4;
-    c2_target__Target v5;
-    v3 = a2 == 4u;
-    if (v3) {
+    switch (a2) {
+    case 4u:
         v4 = c2_target_step__steps__after_reset(a1);
-        result = c2_target_step__steps__accepted(&v4);
-        return result;
+        break;
+    case 5u:
+        v4 = c2_target_step__steps__after_pause(a1);
+        break;
+    default:
+        v4.f0.tag = a1->f0.tag;
+        v4.f0.u64_0 = a1->f0.u64_0;
+        v4.f0.u64_1 = a1->f0.u64_1;
+        v4.f0.c2_target__Effect_0.tag = a1->f0.c2_target__Effect_0.tag;
+        v4.f0.c2_target__Effect_0.u64_0 = a1->f0.c2_target__Effect_0.u64_0;
+        v4.f1 = a1->f1;
+        v4.f2 = a1->f2;
+        v4.f3.f0 = a1->f3.f0;
+        v4.f3.f1 = a1->f3.f1;
+        v4.f3.f2 = a1->f3.f2;
+        v4.f3.f3.f0 = a1->f3.f3.f0;
+        v4.f3.f3.f1 = a1->f3.f3.f1;
+        v4.f3.f3.f2 = a1->f3.f3.f2;
+        v4.f3.f3.f3 = a1->f3.f3.f3;
+        v4.f3.f4.f0.tag = a1->f3.f4.f0.tag;
+        v4.f3.f4.f0.u64_0 = a1->f3.f4.f0.u64_0;
+        v4.f3.f4.f0.bool_0 = a1->f3.f4.f0.bool_0;
+        v4.f3.f4.f0.u64_1 = a1->f3.f4.f0.u64_1;
+        v4.f3.f4.f1.tag = a1->f3.f4.f1.tag;
+        v4.f3.f4.f1.bool_0 = a1->f3.f4.f1.bool_0;
+        v4.f3.f4.f1.u64_0 = a1->f3.f4.f1.u64_0;
+        v4.f3.f4.f1.u64_1 = a1->f3.f4.f1.u64_1;
+        v4.f3.f4.f2 = a1->f3.f4.f2;
+        v4.f3.f4.f3 = a1->f3.f4.f3;
+        break;
     }
-    v3 = a2 == 5u;
-    if (v3) {
-        v5 = c2_target_step__steps__after_pause(a1);
-        result = c2_target_step__steps__accepted(&v5);
-        return result;
-    }
-    result = c2_target_step__steps__accepted(a1);
+    v3.f0.tag = v4.f0.tag;
+    v3.f0.u64_0 = v4.f0.u64_0;
+    v3.f0.u64_1 = v4.f0.u64_1;
+    v3.f0.c2_target__Effect_0.tag = v4.f0.c2_target__Effect_0.tag;
+    v3.f0.c2_target__Effect_0.u64_0 = v4.f0.c2_target__Effect_0.u64_0;
+    v3.f1 = v4.f1;
+    v3.f2 = v4.f2;
+    v3.f3.f0 = v4.f3.f0;
+    v3.f3.f1 = v4.f3.f1;
+    v3.f3.f2 = v4.f3.f2;
+    v3.f3.f3.f0 = v4.f3.f3.f0;
+    v3.f3.f3.f1 = v4.f3.f3.f1;
+    v3.f3.f3.f2 = v4.f3.f3.f2;
+    v3.f3.f3.f3 = v4.f3.f3.f3;
+    v3.f3.f4.f0.tag = v4.f3.f4.f0.tag;
+    v3.f3.f4.f0.u64_0 = v4.f3.f4.f0.u64_0;
+    v3.f3.f4.f0.bool_0 = v4.f3.f4.f0.bool_0;
+    v3.f3.f4.f0.u64_1 = v4.f3.f4.f0.u64_1;
+    v3.f3.f4.f1.tag = v4.f3.f4.f1.tag;
+    v3.f3.f4.f1.bool_0 = v4.f3.f4.f1.bool_0;
+    v3.f3.f4.f1.u64_0 = v4.f3.f4.f1.u64_0;
+    v3.f3.f4.f1.u64_1 = v4.f3.f4.f1.u64_1;
+    v3.f3.f4.f2 = v4.f3.f4.f2;
+    v3.f3.f4.f3 = v4.f3.f4.f3;
+    result.f0 = 1;
+    result.f1.f0.tag = v3.f0.tag;
+    result.f1.f0.u64_0 = v3.f0.u64_0;
+    result.f1.f0.u64_1 = v3.f0.u64_1;
+    result.f1.f0.c2_target__Effect_0.tag = v3.f0.c2_target__Effect_0.tag;
+    result.f1.f0.c2_target__Effect_0.u64_0 = v3.f0.c2_target__Effect_0.u64_0;
+    result.f1.f1 = v3.f1;
+    result.f1.f2 = v3.f2;
+    result.f1.f3.f0 = v3.f3.f0;
+    result.f1.f3.f1 = v3.f3.f1;
+    result.f1.f3.f2 = v3.f3.f2;
+    result.f1.f3.f3.f0 = v3.f3.f3.f0;
+    result.f1.f3.f3.f1 = v3.f3.f3.f1;
+    result.f1.f3.f3.f2 = v3.f3.f3.f2;
+    result.f1.f3.f3.f3 = v3.f3.f3.f3;
+    result.f1.f3.f4.f0.tag = v3.f3.f4.f0.tag;
+    result.f1.f3.f4.f0.u64_0 = v3.f3.f4.f0.u64_0;
+    result.f1.f3.f4.f0.bool_0 = v3.f3.f4.f0.bool_0;
+    result.f1.f3.f4.f0.u64_1 = v3.f3.f4.f0.u64_1;
+    result.f1.f3.f4.f1.tag = v3.f3.f4.f1.tag;
+    result.f1.f3.f4.f1.bool_0 = v3.f3.f4.f1.bool_0;
+    result.f1.f3.f4.f1.u64_0 = v3.f3.f4.f1.u64_0;
+    result.f1.f3.f4.f1.u64_1 = v3.f3.f4.f1.u64_1;
+    result.f1.f3.f4.f2 = v3.f3.f4.f2;
+    result.f1.f3.f4.f3 = v3.f3.f4.f3;
     return result;
 }
 
-/* c2_target_step::flash::fill */
-static void c2_target_step__flash__fill(slice_mut_u8 a1)
+/* core::clone::U8Clone::clone */
+static core__Result_u8_AllocError core__clone__U8Clone__clone(const uint8_t *a1)
 {
-    uint64_t v2;
-    uint64_t v3;
-    _Bool v4;
-    uint8_t *v5;
-    v2 = UINT64_C(0);
+    core__Result_u8_AllocError result;
+    uint8_t v2;
+    v2 = *a1;
+    result.tag = 0u;
+    result.u8_0 = v2;
+    return result;
+}
+
+/* core::clone::surely_u8 */
+static uint8_t core__clone__surely_u8(const uint8_t *a1)
+{
+    uint8_t result;
+    uint8_t v2;
+    core__Result_u8_AllocError v3;
+    uint8_t v4;
+    v3 = core__clone__U8Clone__clone(a1);
+    switch (v3.tag) {
+    default: /* 0 */
+        v2 = v3.u8_0;
+        v4 = v2;
+        break;
+    }
+    result = v4;
+    return result;
+}
+
+/* core::slice_T::fill_u8 */
+static void core__slice_T__fill_u8(slice_mut_u8 a1, uint8_t a2)
+{
+    uint8_t v3;
+    uint64_t v4;
+    uint64_t v5;
+    _Bool v6;
+    uint64_t v7;
+    _Bool v8;
+    uint8_t v9;
+    const uint8_t *v10;
+    uint8_t *v11;
+    uint8_t v12;
+    uint64_t v13;
+    uint64_t v14;
+    uint8_t *v15;
+    v3 = a2;
+    v4 = a1.length;
+    v6 = v4 == UINT64_C(0);
+    if (v6) {
+        return;
+    }
+    v5 = UINT64_C(0);
     for (;;) {
-        v3 = a1.length;
-        v4 = v2 < v3;
-        if (!v4) {
+        v7 = v4 - UINT64_C(1);
+        v8 = v5 < v7;
+        if (!v8) {
             break;
         }
-        v5 = a1.at + (size_t)v2;
-        *v5 = 255u;
-        v2 = v2 + UINT64_C(1);
+        v10 = &v3;
+        v9 = core__clone__surely_u8(v10);
+        v7 = v5;
+        v11 = a1.at + (size_t)v7;
+        *v11 = v9;
+        v5 = v5 + UINT64_C(1);
     }
+    v12 = v3;
+    v13 = v4 - UINT64_C(1);
+    v14 = v13;
+    v15 = a1.at + (size_t)v14;
+    *v15 = v12;
     return;
 }
 
@@ -2666,84 +3045,60 @@ static void c2_target_step__flash__erase(slice_mut_u8 a1, uint64_t a2, uint64_t 
     v9 = v7;
     v10.at = v9;
     v10.length = v8;
-    c2_target_step__flash__fill(v10);
-    return;
-}
-
-/* c2_target_step::flash::confirm_writes */
-static void c2_target_step__flash__confirm_writes(const c2_settings *a1, uint64_t a2, uint64_t a3,
-    slice_mut_u8 a4)
-{
-    _Bool v5;
-    uint8_t *v7;
-    slice_mut_u8 v8;
-    uint64_t v9;
-    v5 = a3 == UINT64_C(0);
-    if (v5) {
-        v7 = a4.at;
-        v8.at = v7;
-        v8.length = a4.length;
-        v9 = (uint64_t)a1->page_size;
-        c2_target_step__flash__erase(v8, v9, a2);
-    }
+    core__slice_T__fill_u8(v10, 255u);
     return;
 }
 
 /* c2_target_step::flash::store */
-static void c2_target_step__flash__store(slice_mut_u8 a1, uint64_t a2, uint64_t a3)
+static void c2_target_step__flash__store(slice_mut_u8 a1, uint64_t a2, uint8_t a3)
 {
-    const uint8_t *v4;
+    uint8_t *v4;
     uint8_t v5;
     uint8_t v6;
-    uint8_t v7;
-    uint8_t *v8;
     v4 = a1.at + (size_t)a2;
     v5 = *v4;
-    v6 = (uint8_t)a3;
-    v7 = (uint8_t)((unsigned)v5 & v6);
-    v8 = a1.at + (size_t)a2;
-    *v8 = v7;
+    v6 = (uint8_t)((unsigned)v5 & a3);
+    *v4 = v6;
     return;
 }
 
 /* c2_target_step::flash::put_writes */
-static void c2_target_step__flash__put_writes(const c2_settings *a1, const c2_target__Command *a2,
-    uint64_t a3, slice_mut_u8 a4)
+static void c2_target_step__flash__put_writes(const c2_settings *a1, const c2_target__Command *a2, uint8_t a3,
+    slice_mut_u8 a4)
 {
     uint64_t v5;
     uint64_t v6;
-    uint8_t *v7;
-    slice_mut_u8 v8;
+    _Bool v7;
     uint8_t *v9;
     slice_mut_u8 v10;
+    uint64_t v11;
+    uint8_t *v13;
+    slice_mut_u8 v14;
     switch (a2->tag) {
     case 2u:
         v5 = a2->u64_0;
-        v7 = a4.at;
-        v8.at = v7;
-        v8.length = a4.length;
-        c2_target_step__flash__confirm_writes(a1, v5, a3, v8);
-        return;
+        v7 = a3 == 0u;
+        if (v7) {
+            v9 = a4.at;
+            v10.at = v9;
+            v10.length = a4.length;
+            v11 = (uint64_t)a1->page_size;
+            c2_target_step__flash__erase(v10, v11, v5);
+            goto end1;
+        }
+        goto end2;
     case 6u:
         v6 = a2->u64_0;
-        v9 = a4.at;
-        v10.at = v9;
-        v10.length = a4.length;
-        c2_target_step__flash__store(v10, v6, a3);
-        return;
-    case 0u:
-        return;
-    case 1u:
-        return;
-    case 3u:
-        return;
-    case 4u:
-        return;
-    case 5u:
-        return;
-    default: /* 7 */
-        return;
+        v13 = a4.at;
+        v14.at = v13;
+        v14.length = a4.length;
+        c2_target_step__flash__store(v14, v6, a3);
+        goto end1;
+    default: /* 0, 1, 3, 4, 5, 7 */
+        goto end2;
     }
+    end2:;
+    end1:;
     return;
 }
 
@@ -2755,11 +3110,10 @@ static _Bool c2_target_step__interface__linked(const c2_target__Device *a1, cons
     uint64_t v4;
     v3 = a1->f1;
     if (v3) {
-        v4 = (uint64_t)a2->fpdat;
-        result = a1->f0 == v4;
-        return result;
+        v4 = core__convert__UsizeFromU8__from(a2->fpdat);
+        v3 = a1->f0 == v4;
     }
-    result = 0;
+    result = v3;
     return result;
 }
 
@@ -2767,47 +3121,34 @@ static _Bool c2_target_step__interface__linked(const c2_target__Device *a1, cons
 static void c2_target_step__interface__effect_writes(const c2_settings *a1, const c2_target__Effect *a2,
     const c2_target__Device *a3, slice_mut_u8 a4)
 {
-    c2_target__Link v5;
-    c2_target__Command v6;
-    uint64_t v7;
-    _Bool v8;
-    uint8_t *v9;
-    slice_mut_u8 v10;
-    v5.f0.tag = a3->f4.f0.tag;
-    v5.f0.u64_0 = a3->f4.f0.u64_0;
-    v5.f0.bool_0 = a3->f4.f0.bool_0;
-    v5.f0.u64_1 = a3->f4.f0.u64_1;
-    v5.f1.tag = a3->f4.f1.tag;
-    v5.f1.bool_0 = a3->f4.f1.bool_0;
-    v5.f1.u64_0 = a3->f4.f1.u64_0;
-    v5.f1.u64_1 = a3->f4.f1.u64_1;
-    v5.f2 = a3->f4.f2;
-    v5.f3 = a3->f4.f3;
-    v6.tag = v5.f0.tag;
-    v6.u64_0 = v5.f0.u64_0;
-    v6.bool_0 = v5.f0.bool_0;
-    v6.u64_1 = v5.f0.u64_1;
+    uint64_t v5;
+    _Bool v6;
+    c2_target__Command v8;
+    uint8_t v9;
+    uint8_t *v10;
+    slice_mut_u8 v11;
     switch (a2->tag) {
     case 2u:
-        v7 = a2->u64_0;
-        v8 = c2_target_step__interface__linked(a3, a1);
-        if (v8) {
-            v9 = a4.at;
-            v10.at = v9;
-            v10.length = a4.length;
-            c2_target_step__flash__put_writes(a1, &v6, v7, v10);
-            return;
+        v5 = a2->u64_0;
+        v6 = c2_target_step__interface__linked(a3, a1);
+        if (v6) {
+            v8.tag = a3->f4.f0.tag;
+            v8.u64_0 = a3->f4.f0.u64_0;
+            v8.bool_0 = a3->f4.f0.bool_0;
+            v8.u64_1 = a3->f4.f0.u64_1;
+            v9 = (uint8_t)v5;
+            v10 = a4.at;
+            v11.at = v10;
+            v11.length = a4.length;
+            c2_target_step__flash__put_writes(a1, &v8, v9, v11);
+            goto end1;
         }
-        return;
-    case 0u:
-        return;
-    case 1u:
-        return;
-    case 3u:
-        return;
-    default: /* 4 */
-        return;
+        goto end2;
+    default: /* 0, 1, 3, 4 */
+        goto end2;
     }
+    end2:;
+    end1:;
     return;
 }
 
@@ -2815,144 +3156,258 @@ static void c2_target_step__interface__effect_writes(const c2_settings *a1, cons
 static void c2_target_step__strobes__strobe_writes(const c2_settings *a1, const c2_target__Target *a2,
     slice_mut_u8 a3)
 {
-    c2_target__Point v4;
-    c2_target__Device v5;
-    c2_target__Effect v6;
+    c2_target__Effect v4;
+    c2_target__Device v6;
     uint8_t *v7;
     slice_mut_u8 v8;
-    v4.tag = a2->f0.tag;
-    v4.u64_0 = a2->f0.u64_0;
-    v4.u64_1 = a2->f0.u64_1;
-    v4.c2_target__Effect_0.tag = a2->f0.c2_target__Effect_0.tag;
-    v4.c2_target__Effect_0.u64_0 = a2->f0.c2_target__Effect_0.u64_0;
-    v5.f0 = a2->f3.f0;
-    v5.f1 = a2->f3.f1;
-    v5.f2 = a2->f3.f2;
-    v5.f3.f0 = a2->f3.f3.f0;
-    v5.f3.f1 = a2->f3.f3.f1;
-    v5.f3.f2 = a2->f3.f3.f2;
-    v5.f3.f3 = a2->f3.f3.f3;
-    v5.f4.f0.tag = a2->f3.f4.f0.tag;
-    v5.f4.f0.u64_0 = a2->f3.f4.f0.u64_0;
-    v5.f4.f0.bool_0 = a2->f3.f4.f0.bool_0;
-    v5.f4.f0.u64_1 = a2->f3.f4.f0.u64_1;
-    v5.f4.f1.tag = a2->f3.f4.f1.tag;
-    v5.f4.f1.bool_0 = a2->f3.f4.f1.bool_0;
-    v5.f4.f1.u64_0 = a2->f3.f4.f1.u64_0;
-    v5.f4.f1.u64_1 = a2->f3.f4.f1.u64_1;
-    v5.f4.f2 = a2->f3.f4.f2;
-    v5.f4.f3 = a2->f3.f4.f3;
-    switch (v4.tag) {
+    switch (a2->f0.tag) {
     case 10u:
-        v6.tag = v4.c2_target__Effect_0.tag;
-        v6.u64_0 = v4.c2_target__Effect_0.u64_0;
+        v4.tag = a2->f0.c2_target__Effect_0.tag;
+        v4.u64_0 = a2->f0.c2_target__Effect_0.u64_0;
+        v6.f0 = a2->f3.f0;
+        v6.f1 = a2->f3.f1;
+        v6.f2 = a2->f3.f2;
+        v6.f3.f0 = a2->f3.f3.f0;
+        v6.f3.f1 = a2->f3.f3.f1;
+        v6.f3.f2 = a2->f3.f3.f2;
+        v6.f3.f3 = a2->f3.f3.f3;
+        v6.f4.f0.tag = a2->f3.f4.f0.tag;
+        v6.f4.f0.u64_0 = a2->f3.f4.f0.u64_0;
+        v6.f4.f0.bool_0 = a2->f3.f4.f0.bool_0;
+        v6.f4.f0.u64_1 = a2->f3.f4.f0.u64_1;
+        v6.f4.f1.tag = a2->f3.f4.f1.tag;
+        v6.f4.f1.bool_0 = a2->f3.f4.f1.bool_0;
+        v6.f4.f1.u64_0 = a2->f3.f4.f1.u64_0;
+        v6.f4.f1.u64_1 = a2->f3.f4.f1.u64_1;
+        v6.f4.f2 = a2->f3.f4.f2;
+        v6.f4.f3 = a2->f3.f4.f3;
         v7 = a3.at;
         v8.at = v7;
         v8.length = a3.length;
-        c2_target_step__interface__effect_writes(a1, &v6, &v5, v8);
-        return;
-    case 0u:
-        return;
-    case 1u:
-        return;
-    case 2u:
-        return;
-    case 3u:
-        return;
-    case 4u:
-        return;
-    case 5u:
-        return;
-    case 6u:
-        return;
-    case 7u:
-        return;
-    case 8u:
-        return;
-    default: /* 9 */
-        return;
+        c2_target_step__interface__effect_writes(a1, &v4, &v6, v8);
+        break;
+    default: /* 0, 1, 2, 3, 4, 5, 6, 7, 8, 9 */
+        break;
     }
     return;
 }
 
-/* c2_target_step::strobes::after_long_data */
-static c2_target__Point c2_target_step__strobes__after_long_data(uint64_t a1)
+/* c2_target_step::interface::begun */
+static c2_target__Device c2_target_step__interface__begun(const c2_target__Device *a1)
 {
-    c2_target__Point result;
-    _Bool v2;
-    uint64_t v3;
-    c2_target__Effect v4;
-    v2 = UINT64_C(1) < a1;
-    if (v2) {
-        v3 = a1 - UINT64_C(1);
-        result.tag = 6u;
-        result.u64_0 = v3;
-        result.u64_1 = 0;
-        result.c2_target__Effect_0.tag = 0;
-        result.c2_target__Effect_0.u64_0 = 0;
-        return result;
+    c2_target__Device result;
+    uint64_t v2;
+    _Bool v3;
+    uint64_t v4;
+    uint64_t v5;
+    _Bool v6;
+    c2_target__Met v7;
+    c2_target__Link v8;
+    v3 = a1->f2 == UINT64_C(3);
+    if (v3) {
+        v4 = UINT64_C(0);
+    } else {
+        v4 = a1->f2;
     }
-    v4.tag = 0u;
-    v4.u64_0 = 0;
-    result.tag = 7u;
-    result.u64_0 = UINT64_C(0);
-    result.c2_target__Effect_0.tag = v4.tag;
-    result.c2_target__Effect_0.u64_0 = v4.u64_0;
-    result.u64_1 = 0;
+    v2 = v4;
+    v5 = a1->f0;
+    v6 = a1->f1;
+    v7.f0 = a1->f3.f0;
+    v7.f1 = a1->f3.f1;
+    v7.f2 = a1->f3.f2;
+    v7.f3 = a1->f3.f3;
+    v8.f0.tag = a1->f4.f0.tag;
+    v8.f0.u64_0 = a1->f4.f0.u64_0;
+    v8.f0.bool_0 = a1->f4.f0.bool_0;
+    v8.f0.u64_1 = a1->f4.f0.u64_1;
+    v8.f1.tag = a1->f4.f1.tag;
+    v8.f1.bool_0 = a1->f4.f1.bool_0;
+    v8.f1.u64_0 = a1->f4.f1.u64_0;
+    v8.f1.u64_1 = a1->f4.f1.u64_1;
+    v8.f2 = a1->f4.f2;
+    v8.f3 = a1->f4.f3;
+    result.f0 = v5;
+    result.f1 = v6;
+    result.f2 = v2;
+    result.f3.f0 = v7.f0;
+    result.f3.f1 = v7.f1;
+    result.f3.f2 = v7.f2;
+    result.f3.f3 = v7.f3;
+    result.f4.f0.tag = v8.f0.tag;
+    result.f4.f0.u64_0 = v8.f0.u64_0;
+    result.f4.f0.bool_0 = v8.f0.bool_0;
+    result.f4.f0.u64_1 = v8.f0.u64_1;
+    result.f4.f1.tag = v8.f1.tag;
+    result.f4.f1.bool_0 = v8.f1.bool_0;
+    result.f4.f1.u64_0 = v8.f1.u64_0;
+    result.f4.f1.u64_1 = v8.f1.u64_1;
+    result.f4.f2 = v8.f2;
+    result.f4.f3 = v8.f3;
     return result;
 }
 
-/* c2_target_step::delays::wide */
-static uint64_t c2_target_step__delays__wide(uint8_t a1)
+/* c2_target_step::strobes::after_address */
+static c2_target__Point c2_target_step__strobes__after_address(uint64_t a1, uint64_t a2)
+{
+    c2_target__Point result;
+    _Bool v3;
+    c2_target__Point v4;
+    c2_target__Effect v5;
+    v3 = a1 < UINT64_C(8);
+    if (v3) {
+        v4.tag = 4u;
+        v4.u64_0 = a1;
+        v4.u64_1 = a2;
+        v4.c2_target__Effect_0.tag = 0;
+        v4.c2_target__Effect_0.u64_0 = 0;
+    } else {
+        v5.tag = 1u;
+        v5.u64_0 = a2;
+        v4.tag = 10u;
+        v4.c2_target__Effect_0.tag = v5.tag;
+        v4.c2_target__Effect_0.u64_0 = v5.u64_0;
+        v4.u64_0 = 0;
+        v4.u64_1 = 0;
+    }
+    result.tag = v4.tag;
+    result.u64_0 = v4.u64_0;
+    result.u64_1 = v4.u64_1;
+    result.c2_target__Effect_0.tag = v4.c2_target__Effect_0.tag;
+    result.c2_target__Effect_0.u64_0 = v4.c2_target__Effect_0.u64_0;
+    return result;
+}
+
+/* c2_target_step::strobes::after_data */
+static c2_target__Point c2_target_step__strobes__after_data(uint64_t a1, uint64_t a2)
+{
+    c2_target__Point result;
+    _Bool v3;
+    c2_target__Point v4;
+    c2_target__Effect v5;
+    v3 = a1 < UINT64_C(8);
+    if (v3) {
+        v4.tag = 5u;
+        v4.u64_0 = a1;
+        v4.u64_1 = a2;
+        v4.c2_target__Effect_0.tag = 0;
+        v4.c2_target__Effect_0.u64_0 = 0;
+    } else {
+        v5.tag = 2u;
+        v5.u64_0 = a2;
+        v4.tag = 7u;
+        v4.u64_0 = UINT64_C(0);
+        v4.c2_target__Effect_0.tag = v5.tag;
+        v4.c2_target__Effect_0.u64_0 = v5.u64_0;
+        v4.u64_1 = 0;
+    }
+    result.tag = v4.tag;
+    result.u64_0 = v4.u64_0;
+    result.u64_1 = v4.u64_1;
+    result.c2_target__Effect_0.tag = v4.c2_target__Effect_0.tag;
+    result.c2_target__Effect_0.u64_0 = v4.c2_target__Effect_0.u64_0;
+    return result;
+}
+
+/* c2_target_step::interface::in_busy */
+static _Bool c2_target_step__interface__in_busy(const c2_target__Link *a1)
+{
+    _Bool result;
+    result = UINT64_C(0) < a1->f2;
+    return result;
+}
+
+/* c2_target_step::commands::some_output */
+static _Bool c2_target_step__commands__some_output(const c2_target__Output *a1)
+{
+    _Bool result;
+    _Bool v2;
+    _Bool v3;
+    switch (a1->tag) {
+    case 0u:
+        v3 = 1;
+        break;
+    default: /* 1, 2, 3 */
+        v3 = 0;
+        break;
+    }
+    v2 = v3;
+    result = !v2;
+    return result;
+}
+
+/* c2_target_step::interface::out_ready */
+static _Bool c2_target_step__interface__out_ready(const c2_target__Link *a1)
+{
+    _Bool result;
+    _Bool v2;
+    _Bool v3;
+    c2_target__Output v4;
+    v3 = a1->f2 == UINT64_C(0);
+    if (v3) {
+        v3 = a1->f3 == UINT64_C(0);
+    }
+    v2 = v3;
+    if (v2) {
+        v4.tag = a1->f1.tag;
+        v4.bool_0 = a1->f1.bool_0;
+        v4.u64_0 = a1->f1.u64_0;
+        v4.u64_1 = a1->f1.u64_1;
+        v2 = c2_target_step__commands__some_output(&v4);
+    }
+    result = v2;
+    return result;
+}
+
+/* core::convert::others::UsizeFromBool::from */
+static uint64_t core__convert__others__UsizeFromBool__from(_Bool a1)
 {
     uint64_t result;
     result = (uint64_t)a1;
     return result;
 }
 
-/* c2_target_step::delays::delay */
-static uint64_t c2_target_step__delays__delay(slice_u8 a1, uint64_t a2)
+/* c2_target_step::interface::status_bits */
+static uint64_t c2_target_step__interface__status_bits(const c2_target__Link *a1)
 {
     uint64_t result;
-    uint64_t v3;
-    _Bool v4;
-    const uint8_t *v5;
-    uint8_t v6;
-    const uint8_t *v7;
-    uint8_t v8;
-    v3 = a1.length;
-    v4 = a2 < v3;
-    if (v4) {
-        v5 = a1.at + (size_t)a2;
-        v6 = *v5;
-        result = c2_target_step__delays__wide(v6);
-        return result;
-    }
-    v3 = a1.length;
-    v4 = UINT64_C(0) < v3;
-    if (v4) {
-        v7 = a1.at + (size_t)UINT64_C(0);
-        v8 = *v7;
-        result = c2_target_step__delays__wide(v8);
-        return result;
-    }
-    result = UINT64_C(0);
+    uint64_t v2;
+    _Bool v3;
+    uint64_t v4;
+    _Bool v5;
+    uint64_t v6;
+    v3 = c2_target_step__interface__out_ready(a1);
+    v2 = core__convert__others__UsizeFromBool__from(v3);
+    v5 = c2_target_step__interface__in_busy(a1);
+    v4 = core__convert__others__UsizeFromBool__from(v5);
+    v6 = UINT64_C(2) * v4;
+    result = v2 + v6;
     return result;
 }
 
-/* c2_target_step::delays::next_place */
-static uint64_t c2_target_step__delays__next_place(slice_u8 a1, uint64_t a2)
+/* c2_target_step::interface::shown */
+static uint64_t c2_target_step__interface__shown(const c2_target__Device *a1, const c2_settings *a2)
 {
     uint64_t result;
-    uint64_t v3;
-    _Bool v4;
-    v3 = a1.length;
-    v4 = a2 < v3;
-    if (v4) {
-        result = a2 + UINT64_C(1);
-        return result;
+    _Bool v3;
+    uint64_t v4;
+    c2_target__Link v5;
+    v3 = c2_target_step__interface__linked(a1, a2);
+    if (v3) {
+        v5.f0.tag = a1->f4.f0.tag;
+        v5.f0.u64_0 = a1->f4.f0.u64_0;
+        v5.f0.bool_0 = a1->f4.f0.bool_0;
+        v5.f0.u64_1 = a1->f4.f0.u64_1;
+        v5.f1.tag = a1->f4.f1.tag;
+        v5.f1.bool_0 = a1->f4.f1.bool_0;
+        v5.f1.u64_0 = a1->f4.f1.u64_0;
+        v5.f1.u64_1 = a1->f4.f1.u64_1;
+        v5.f2 = a1->f4.f2;
+        v5.f3 = a1->f4.f3;
+        v4 = c2_target_step__interface__status_bits(&v5);
+    } else {
+        v4 = a1->f0;
     }
-    result = UINT64_C(1);
+    result = v4;
     return result;
 }
 
@@ -2962,34 +3417,211 @@ static c2_target__Point c2_target_step__strobes__sending(uint64_t a1, uint64_t a
 {
     c2_target__Point result;
     _Bool v4;
+    c2_target__Point v5;
     v4 = a1 == UINT64_C(0);
     if (v4) {
-        result.tag = 10u;
-        result.c2_target__Effect_0.tag = a3->tag;
-        result.c2_target__Effect_0.u64_0 = a3->u64_0;
-        result.u64_0 = 0;
-        result.u64_1 = 0;
-        return result;
+        v5.tag = 10u;
+        v5.c2_target__Effect_0.tag = a3->tag;
+        v5.c2_target__Effect_0.u64_0 = a3->u64_0;
+        v5.u64_0 = 0;
+        v5.u64_1 = 0;
+    } else {
+        v5.tag = 9u;
+        v5.u64_0 = a1;
+        v5.u64_1 = a2;
+        v5.c2_target__Effect_0.tag = a3->tag;
+        v5.c2_target__Effect_0.u64_0 = a3->u64_0;
     }
-    result.tag = 9u;
-    result.u64_0 = a1;
-    result.u64_1 = a2;
-    result.c2_target__Effect_0.tag = a3->tag;
-    result.c2_target__Effect_0.u64_0 = a3->u64_0;
+    result.tag = v5.tag;
+    result.u64_0 = v5.u64_0;
+    result.u64_1 = v5.u64_1;
+    result.c2_target__Effect_0.tag = v5.c2_target__Effect_0.tag;
+    result.c2_target__Effect_0.u64_0 = v5.c2_target__Effect_0.u64_0;
     return result;
 }
 
-/* c2_target_step::commands::status_byte */
-static uint64_t c2_target_step__commands__status_byte(_Bool a1)
+/* c2_target_step::strobes::frame_begins */
+static c2_target__Point c2_target_step__strobes__frame_begins(const c2_settings *a1,
+    const c2_target__Device *a2, uint64_t a3)
 {
-    uint64_t result;
-    _Bool v2;
-    v2 = a1;
-    if (v2) {
-        result = UINT64_C(13);
-        return result;
+    c2_target__Point result;
+    c2_target__Point v4;
+    uint64_t v5;
+    c2_target__Effect v6;
+    switch (a3) {
+    case 0u:
+        v4.tag = 3u;
+        v4.u64_0 = UINT64_C(0);
+        v4.u64_1 = UINT64_C(0);
+        v4.c2_target__Effect_0.tag = 0;
+        v4.c2_target__Effect_0.u64_0 = 0;
+        break;
+    case 1u:
+        v4.tag = 2u;
+        v4.u64_0 = UINT64_C(0);
+        v4.u64_1 = UINT64_C(0);
+        v4.c2_target__Effect_0.tag = 0;
+        v4.c2_target__Effect_0.u64_0 = 0;
+        break;
+    case 2u:
+        v5 = c2_target_step__interface__shown(a2, a1);
+        v6.tag = 3u;
+        v6.u64_0 = 0;
+        v4 = c2_target_step__strobes__sending(UINT64_C(8), v5, &v6);
+        break;
+    default:
+        v4.tag = 4u;
+        v4.u64_0 = UINT64_C(0);
+        v4.u64_1 = UINT64_C(0);
+        v4.c2_target__Effect_0.tag = 0;
+        v4.c2_target__Effect_0.u64_0 = 0;
+        break;
     }
-    result = UINT64_C(0);
+    result.tag = v4.tag;
+    result.u64_0 = v4.u64_0;
+    result.u64_1 = v4.u64_1;
+    result.c2_target__Effect_0.tag = v4.c2_target__Effect_0.tag;
+    result.c2_target__Effect_0.u64_0 = v4.c2_target__Effect_0.u64_0;
+    return result;
+}
+
+/* c2_target_step::strobes::after_ins */
+static c2_target__Point c2_target_step__strobes__after_ins(const c2_settings *a1, const c2_target__Device *a2,
+    uint64_t a3, uint64_t a4)
+{
+    c2_target__Point result;
+    _Bool v5;
+    c2_target__Point v6;
+    v5 = a3 < UINT64_C(2);
+    if (v5) {
+        v6.tag = 1u;
+        v6.u64_0 = a3;
+        v6.u64_1 = a4;
+        v6.c2_target__Effect_0.tag = 0;
+        v6.c2_target__Effect_0.u64_0 = 0;
+    } else {
+        v6 = c2_target_step__strobes__frame_begins(a1, a2, a4);
+    }
+    result.tag = v6.tag;
+    result.u64_0 = v6.u64_0;
+    result.u64_1 = v6.u64_1;
+    result.c2_target__Effect_0.tag = v6.c2_target__Effect_0.tag;
+    result.c2_target__Effect_0.u64_0 = v6.c2_target__Effect_0.u64_0;
+    return result;
+}
+
+/* c2_target_step::strobes::after_long_data */
+static c2_target__Point c2_target_step__strobes__after_long_data(uint64_t a1)
+{
+    c2_target__Point result;
+    _Bool v2;
+    c2_target__Point v3;
+    uint64_t v4;
+    c2_target__Effect v5;
+    v2 = UINT64_C(1) < a1;
+    if (v2) {
+        v4 = a1 - UINT64_C(1);
+        v3.tag = 6u;
+        v3.u64_0 = v4;
+        v3.u64_1 = 0;
+        v3.c2_target__Effect_0.tag = 0;
+        v3.c2_target__Effect_0.u64_0 = 0;
+    } else {
+        v5.tag = 0u;
+        v5.u64_0 = 0;
+        v3.tag = 7u;
+        v3.u64_0 = UINT64_C(0);
+        v3.c2_target__Effect_0.tag = v5.tag;
+        v3.c2_target__Effect_0.u64_0 = v5.u64_0;
+        v3.u64_1 = 0;
+    }
+    result.tag = v3.tag;
+    result.u64_0 = v3.u64_0;
+    result.u64_1 = v3.u64_1;
+    result.c2_target__Effect_0.tag = v3.c2_target__Effect_0.tag;
+    result.c2_target__Effect_0.u64_0 = v3.c2_target__Effect_0.u64_0;
+    return result;
+}
+
+/* c2_target_step::strobes::after_read_length */
+static c2_target__Point c2_target_step__strobes__after_read_length(uint64_t a1, uint64_t a2)
+{
+    c2_target__Point result;
+    c2_target__Effect v3;
+    _Bool v4;
+    c2_target__Point v5;
+    _Bool v6;
+    c2_target__Effect v7;
+    uint64_t v8;
+    uint64_t v9;
+    v4 = a1 < UINT64_C(2);
+    if (v4) {
+        v5.tag = 3u;
+        v5.u64_0 = a1;
+        v5.u64_1 = a2;
+        v5.c2_target__Effect_0.tag = 0;
+        v5.c2_target__Effect_0.u64_0 = 0;
+    } else {
+        v6 = a2 == UINT64_C(0);
+        if (v6) {
+            v7.tag = 4u;
+            v7.u64_0 = 0;
+        } else {
+            v7.tag = 0u;
+            v7.u64_0 = 0;
+        }
+        v3.tag = v7.tag;
+        v3.u64_0 = v7.u64_0;
+        v8 = a2 + UINT64_C(1);
+        v9 = UINT64_C(8) * v8;
+        v5.tag = 7u;
+        v5.u64_0 = v9;
+        v5.c2_target__Effect_0.tag = v3.tag;
+        v5.c2_target__Effect_0.u64_0 = v3.u64_0;
+        v5.u64_1 = 0;
+    }
+    result.tag = v5.tag;
+    result.u64_0 = v5.u64_0;
+    result.u64_1 = v5.u64_1;
+    result.c2_target__Effect_0.tag = v5.c2_target__Effect_0.tag;
+    result.c2_target__Effect_0.u64_0 = v5.c2_target__Effect_0.u64_0;
+    return result;
+}
+
+/* core::UsizeSliceIndexRefSlice::pick_u8 */
+static core__Option_ref_u8 core__UsizeSliceIndexRefSlice__pick_u8(uint64_t a1, slice_u8 a2)
+{
+    core__Option_ref_u8 result;
+    uint64_t v3;
+    _Bool v4;
+    core__Option_ref_u8 v5;
+    uint64_t v6;
+    const uint8_t *v7;
+    const uint8_t *v8;
+    v3 = a2.length;
+    v4 = a1 < v3;
+    if (v4) {
+        v6 = a1;
+        v7 = a2.at + (size_t)v6;
+        v8 = v7;
+        v5.tag = 1u;
+        v5.ref_u8_0 = v8;
+    } else {
+        v5.tag = 0u;
+        v5.ref_u8_0 = 0;
+    }
+    result.tag = v5.tag;
+    result.ref_u8_0 = v5.ref_u8_0;
+    return result;
+}
+
+/* core::slice_T::get_u8_u64_ref_u8 */
+static core__Option_ref_u8 core__slice_T__get_u8_u64_ref_u8(slice_u8 a1, uint64_t a2)
+{
+    core__Option_ref_u8 result;
+    uint64_t v3;
+    v3 = a2;
+    result = core__UsizeSliceIndexRefSlice__pick_u8(v3, a1);
     return result;
 }
 
@@ -2997,19 +3629,22 @@ static uint64_t c2_target_step__commands__status_byte(_Bool a1)
 static uint64_t c2_target_step__flash__byte_at(slice_u8 a1, uint64_t a2)
 {
     uint64_t result;
-    uint64_t v3;
-    _Bool v4;
-    const uint8_t *v5;
+    const uint8_t *v3;
+    core__Option_ref_u8 v4;
+    uint64_t v5;
     uint8_t v6;
-    v3 = a1.length;
-    v4 = a2 < v3;
-    if (v4) {
-        v5 = a1.at + (size_t)a2;
-        v6 = *v5;
-        result = c2_target_step__delays__wide(v6);
-        return result;
+    v4 = core__slice_T__get_u8_u64_ref_u8(a1, a2);
+    switch (v4.tag) {
+    case 1u:
+        v3 = v4.ref_u8_0;
+        v6 = *v3;
+        v5 = core__convert__UsizeFromU8__from(v6);
+        break;
+    default: /* 0 */
+        v5 = UINT64_C(0);
+        break;
     }
-    result = UINT64_C(0);
+    result = v5;
     return result;
 }
 
@@ -3017,73 +3652,32 @@ static uint64_t c2_target_step__flash__byte_at(slice_u8 a1, uint64_t a2)
 static uint64_t c2_target_step__commands__first_byte(const c2_target__Output *a1, slice_u8 a2)
 {
     uint64_t result;
-    _Bool v3;
+    uint64_t v3;
     uint64_t v4;
-    uint64_t v5;
+    _Bool v5;
     switch (a1->tag) {
     case 0u:
-        v5 = UINT64_C(0);
-        break;
+        v4 = UINT64_C(0);
+        goto end1;
     case 1u:
-        v3 = a1->bool_0;
-        v5 = c2_target_step__commands__status_byte(v3);
-        break;
+        v5 = a1->bool_0;
+        if (v5) {
+            goto end2;
+        } else {
+            v4 = core__convert__UsizeFromU8__from(0u);
+            goto end1;
+        }
     case 2u:
-        v5 = UINT64_C(13);
-        break;
+        goto end2;
     default: /* 3 */
-        v4 = a1->u64_0;
-        v5 = c2_target_step__flash__byte_at(a2, v4);
-        break;
+        v3 = a1->u64_0;
+        v4 = c2_target_step__flash__byte_at(a2, v3);
+        goto end1;
     }
-    result = v5;
-    return result;
-}
-
-/* c2_target_step::commands::some_output */
-static _Bool c2_target_step__commands__some_output(const c2_target__Output *a1)
-{
-    _Bool result;
-    _Bool v2;
-    switch (a1->tag) {
-    case 0u:
-        v2 = 0;
-        break;
-    case 1u:
-        v2 = 1;
-        break;
-    case 2u:
-        v2 = 1;
-        break;
-    default: /* 3 */
-        v2 = 1;
-        break;
-    }
-    result = v2;
-    return result;
-}
-
-/* c2_target_step::interface::out_ready */
-static _Bool c2_target_step__interface__out_ready(const c2_target__Link *a1)
-{
-    _Bool result;
-    c2_target__Output v2;
-    _Bool v3;
-    v2.tag = a1->f1.tag;
-    v2.bool_0 = a1->f1.bool_0;
-    v2.u64_0 = a1->f1.u64_0;
-    v2.u64_1 = a1->f1.u64_1;
-    v3 = UINT64_C(0) < a1->f2;
-    if (v3) {
-        result = 0;
-        return result;
-    }
-    v3 = a1->f3 == UINT64_C(0);
-    if (v3) {
-        result = c2_target_step__commands__some_output(&v2);
-        return result;
-    }
-    result = 0;
+    end2:;
+    v4 = core__convert__UsizeFromU8__from(13u);
+    end1:;
+    result = v4;
     return result;
 }
 
@@ -3091,29 +3685,31 @@ static _Bool c2_target_step__interface__out_ready(const c2_target__Link *a1)
 static uint64_t c2_target_step__interface__output_given(const c2_target__Device *a1, slice_u8 a2)
 {
     uint64_t result;
-    c2_target__Link v3;
-    c2_target__Output v4;
-    _Bool v5;
-    v3.f0.tag = a1->f4.f0.tag;
-    v3.f0.u64_0 = a1->f4.f0.u64_0;
-    v3.f0.bool_0 = a1->f4.f0.bool_0;
-    v3.f0.u64_1 = a1->f4.f0.u64_1;
-    v3.f1.tag = a1->f4.f1.tag;
-    v3.f1.bool_0 = a1->f4.f1.bool_0;
-    v3.f1.u64_0 = a1->f4.f1.u64_0;
-    v3.f1.u64_1 = a1->f4.f1.u64_1;
-    v3.f2 = a1->f4.f2;
-    v3.f3 = a1->f4.f3;
-    v4.tag = v3.f1.tag;
-    v4.bool_0 = v3.f1.bool_0;
-    v4.u64_0 = v3.f1.u64_0;
-    v4.u64_1 = v3.f1.u64_1;
-    v5 = c2_target_step__interface__out_ready(&v3);
-    if (v5) {
-        result = c2_target_step__commands__first_byte(&v4, a2);
-        return result;
+    _Bool v3;
+    c2_target__Link v4;
+    uint64_t v5;
+    c2_target__Output v6;
+    v4.f0.tag = a1->f4.f0.tag;
+    v4.f0.u64_0 = a1->f4.f0.u64_0;
+    v4.f0.bool_0 = a1->f4.f0.bool_0;
+    v4.f0.u64_1 = a1->f4.f0.u64_1;
+    v4.f1.tag = a1->f4.f1.tag;
+    v4.f1.bool_0 = a1->f4.f1.bool_0;
+    v4.f1.u64_0 = a1->f4.f1.u64_0;
+    v4.f1.u64_1 = a1->f4.f1.u64_1;
+    v4.f2 = a1->f4.f2;
+    v4.f3 = a1->f4.f3;
+    v3 = c2_target_step__interface__out_ready(&v4);
+    if (v3) {
+        v6.tag = a1->f4.f1.tag;
+        v6.bool_0 = a1->f4.f1.bool_0;
+        v6.u64_0 = a1->f4.f1.u64_0;
+        v6.u64_1 = a1->f4.f1.u64_1;
+        v5 = c2_target_step__commands__first_byte(&v6, a2);
+    } else {
+        v5 = UINT64_C(0);
     }
-    result = UINT64_C(0);
+    result = v5;
     return result;
 }
 
@@ -3123,18 +3719,22 @@ static uint64_t c2_target_step__interface__given(const c2_target__Device *a1, co
 {
     uint64_t result;
     _Bool v4;
-    _Bool v5;
+    uint64_t v5;
+    _Bool v6;
+    uint64_t v7;
     v4 = c2_target_step__interface__linked(a1, a2);
     if (v4) {
-        result = c2_target_step__interface__output_given(a1, a3);
-        return result;
+        v5 = c2_target_step__interface__output_given(a1, a3);
+    } else {
+        v6 = a1->f0 == UINT64_C(0);
+        if (v6) {
+            v7 = core__convert__UsizeFromU8__from(a2->device_id);
+        } else {
+            v7 = UINT64_C(0);
+        }
+        v5 = v7;
     }
-    v5 = a1->f0 == UINT64_C(0);
-    if (v5) {
-        result = c2_target_step__delays__wide(a2->device_id);
-        return result;
-    }
-    result = UINT64_C(0);
+    result = v5;
     return result;
 }
 
@@ -3145,20 +3745,11 @@ static uint64_t c2_target_step__strobes__value_sent(const c2_settings *a1, const
     uint64_t result;
     uint64_t v5;
     switch (a2->tag) {
-    case 0u:
-        v5 = UINT64_C(0);
-        break;
-    case 1u:
-        v5 = UINT64_C(0);
-        break;
-    case 2u:
-        v5 = UINT64_C(0);
-        break;
-    case 3u:
-        v5 = UINT64_C(0);
-        break;
-    default: /* 4 */
+    case 4u:
         v5 = c2_target_step__interface__given(a3, a1, a4);
+        break;
+    default: /* 0, 1, 2, 3 */
+        v5 = UINT64_C(0);
         break;
     }
     result = v5;
@@ -3171,34 +3762,158 @@ static c2_target__Point c2_target_step__strobes__after_wait(const c2_settings *a
 {
     c2_target__Point result;
     _Bool v7;
-    uint64_t v8;
+    c2_target__Point v8;
     uint64_t v9;
+    uint64_t v10;
     v7 = a2 == UINT64_C(0);
     if (v7) {
-        v8 = c2_target_step__strobes__value_sent(a1, a4, a5, a6);
-        result = c2_target_step__strobes__sending(a3, v8, a4);
-        return result;
+        v9 = c2_target_step__strobes__value_sent(a1, a4, a5, a6);
+        v8 = c2_target_step__strobes__sending(a3, v9, a4);
+    } else {
+        v10 = a2 - UINT64_C(1);
+        v8.tag = 8u;
+        v8.u64_0 = v10;
+        v8.u64_1 = a3;
+        v8.c2_target__Effect_0.tag = a4->tag;
+        v8.c2_target__Effect_0.u64_0 = a4->u64_0;
     }
-    v9 = a2 - UINT64_C(1);
-    result.tag = 8u;
-    result.u64_0 = v9;
-    result.u64_1 = a3;
-    result.c2_target__Effect_0.tag = a4->tag;
-    result.c2_target__Effect_0.u64_0 = a4->u64_0;
+    result.tag = v8.tag;
+    result.u64_0 = v8.u64_0;
+    result.u64_1 = v8.u64_1;
+    result.c2_target__Effect_0.tag = v8.c2_target__Effect_0.tag;
+    result.c2_target__Effect_0.u64_0 = v8.c2_target__Effect_0.u64_0;
     return result;
 }
 
-/* c2_target_step::strobes::ends */
-static uint32_t c2_target_step__strobes__ends(uint64_t a1)
+/* c2_target_step::strobes::after_write_length */
+static c2_target__Point c2_target_step__strobes__after_write_length(uint64_t a1, uint64_t a2)
 {
-    uint32_t result;
-    _Bool v2;
-    v2 = a1 == UINT64_C(0);
-    if (v2) {
-        result = UINT32_C(1);
-        return result;
+    c2_target__Point result;
+    _Bool v3;
+    c2_target__Point v4;
+    _Bool v5;
+    c2_target__Point v6;
+    uint64_t v7;
+    uint64_t v8;
+    v3 = a1 < UINT64_C(2);
+    if (v3) {
+        v4.tag = 2u;
+        v4.u64_0 = a1;
+        v4.u64_1 = a2;
+        v4.c2_target__Effect_0.tag = 0;
+        v4.c2_target__Effect_0.u64_0 = 0;
+    } else {
+        v5 = a2 == UINT64_C(0);
+        if (v5) {
+            v6.tag = 5u;
+            v6.u64_0 = UINT64_C(0);
+            v6.u64_1 = UINT64_C(0);
+            v6.c2_target__Effect_0.tag = 0;
+            v6.c2_target__Effect_0.u64_0 = 0;
+        } else {
+            v7 = a2 + UINT64_C(1);
+            v8 = UINT64_C(8) * v7;
+            v6.tag = 6u;
+            v6.u64_0 = v8;
+            v6.u64_1 = 0;
+            v6.c2_target__Effect_0.tag = 0;
+            v6.c2_target__Effect_0.u64_0 = 0;
+        }
+        v4.tag = v6.tag;
+        v4.u64_0 = v6.u64_0;
+        v4.u64_1 = v6.u64_1;
+        v4.c2_target__Effect_0.tag = v6.c2_target__Effect_0.tag;
+        v4.c2_target__Effect_0.u64_0 = v6.c2_target__Effect_0.u64_0;
     }
-    result = UINT32_C(0);
+    result.tag = v4.tag;
+    result.u64_0 = v4.u64_0;
+    result.u64_1 = v4.u64_1;
+    result.c2_target__Effect_0.tag = v4.c2_target__Effect_0.tag;
+    result.c2_target__Effect_0.u64_0 = v4.c2_target__Effect_0.u64_0;
+    return result;
+}
+
+/* core::Option::or_ref_u8 */
+static core__Option_ref_u8 core__Option__or_ref_u8(const core__Option_ref_u8 *a1,
+    const core__Option_ref_u8 *a2)
+{
+    core__Option_ref_u8 result;
+    const uint8_t *v3;
+    core__Option_ref_u8 v4;
+    const uint8_t *v5;
+    switch (a1->tag) {
+    case 1u:
+        v3 = a1->ref_u8_0;
+        v5 = v3;
+        v4.tag = 1u;
+        v4.ref_u8_0 = v5;
+        switch (a2->tag) {
+        case 1u:
+            break;
+        default: /* 0 */
+            break;
+        }
+        break;
+    default: /* 0 */
+        v4.tag = a2->tag;
+        v4.ref_u8_0 = a2->ref_u8_0;
+        break;
+    }
+    result.tag = v4.tag;
+    result.ref_u8_0 = v4.ref_u8_0;
+    return result;
+}
+
+/* core::slice_T::first_u8 */
+static core__Option_ref_u8 core__slice_T__first_u8(slice_u8 a1)
+{
+    core__Option_ref_u8 result;
+    result = core__slice_T__get_u8_u64_ref_u8(a1, UINT64_C(0));
+    return result;
+}
+
+/* c2_target_step::delays::delay */
+static uint64_t c2_target_step__delays__delay(slice_u8 a1, uint64_t a2)
+{
+    uint64_t result;
+    const uint8_t *v3;
+    core__Option_ref_u8 v4;
+    core__Option_ref_u8 v5;
+    core__Option_ref_u8 v6;
+    uint64_t v7;
+    uint8_t v8;
+    v5 = core__slice_T__get_u8_u64_ref_u8(a1, a2);
+    v6 = core__slice_T__first_u8(a1);
+    v4 = core__Option__or_ref_u8(&v5, &v6);
+    switch (v4.tag) {
+    case 1u:
+        v3 = v4.ref_u8_0;
+        v8 = *v3;
+        v7 = core__convert__UsizeFromU8__from(v8);
+        break;
+    default: /* 0 */
+        v7 = UINT64_C(0);
+        break;
+    }
+    result = v7;
+    return result;
+}
+
+/* c2_target_step::delays::next_place */
+static uint64_t c2_target_step__delays__next_place(slice_u8 a1, uint64_t a2)
+{
+    uint64_t result;
+    uint64_t v3;
+    _Bool v4;
+    uint64_t v5;
+    v3 = a1.length;
+    v4 = a2 < v3;
+    if (v4) {
+        v5 = a2 + UINT64_C(1);
+    } else {
+        v5 = UINT64_C(1);
+    }
+    result = v5;
     return result;
 }
 
@@ -3207,25 +3922,34 @@ static _Bool c2_target_step__strobes__marked(uint8_t a1, _Bool a2)
 {
     _Bool result;
     _Bool v3;
-    v3 = a1 == 2u;
-    if (v3) {
-        result = 1;
-        return result;
+    _Bool v4;
+    _Bool v5;
+    v5 = a1 < 2u;
+    if (v5) {
+        goto end2;
     }
-    v3 = a1 == 3u;
-    if (v3) {
-        result = 1;
-        return result;
+    v5 = a1 < 4u;
+    if (v5) {
+        v4 = 1;
+        goto end1;
     }
-    result = a2;
+    goto end2;
+    end2:;
+    v4 = 0;
+    end1:;
+    v3 = v4;
+    if (!v3) {
+        v3 = a2;
+    }
+    result = v3;
     return result;
 }
 
 /* c2_target_step::strobes::shows */
-static c2_target__Replied c2_target_step__strobes__shows(const c2_target__Target *a1, uint32_t a2, uint8_t a3,
+static c2_target__Turned c2_target_step__strobes__shows(const c2_target__Target *a1, _Bool a2, uint8_t a3,
     const c2_target__Point *a4, uint64_t a5, const c2_target__Device *a6)
 {
-    c2_target__Replied result;
+    c2_target__Turned result;
     _Bool v7;
     c2_target__Target v8;
     v7 = c2_target_step__strobes__marked(a3, a1->f2);
@@ -3253,32 +3977,31 @@ static c2_target__Replied c2_target_step__strobes__shows(const c2_target__Target
     v8.f3.f4.f1.u64_1 = a6->f4.f1.u64_1;
     v8.f3.f4.f2 = a6->f4.f2;
     v8.f3.f4.f3 = a6->f4.f3;
-    result.f0 = UINT32_C(0);
-    result.f1 = a2;
-    result.f2.f0.tag = v8.f0.tag;
-    result.f2.f0.u64_0 = v8.f0.u64_0;
-    result.f2.f0.u64_1 = v8.f0.u64_1;
-    result.f2.f0.c2_target__Effect_0.tag = v8.f0.c2_target__Effect_0.tag;
-    result.f2.f0.c2_target__Effect_0.u64_0 = v8.f0.c2_target__Effect_0.u64_0;
-    result.f2.f1 = v8.f1;
-    result.f2.f2 = v8.f2;
-    result.f2.f3.f0 = v8.f3.f0;
-    result.f2.f3.f1 = v8.f3.f1;
-    result.f2.f3.f2 = v8.f3.f2;
-    result.f2.f3.f3.f0 = v8.f3.f3.f0;
-    result.f2.f3.f3.f1 = v8.f3.f3.f1;
-    result.f2.f3.f3.f2 = v8.f3.f3.f2;
-    result.f2.f3.f3.f3 = v8.f3.f3.f3;
-    result.f2.f3.f4.f0.tag = v8.f3.f4.f0.tag;
-    result.f2.f3.f4.f0.u64_0 = v8.f3.f4.f0.u64_0;
-    result.f2.f3.f4.f0.bool_0 = v8.f3.f4.f0.bool_0;
-    result.f2.f3.f4.f0.u64_1 = v8.f3.f4.f0.u64_1;
-    result.f2.f3.f4.f1.tag = v8.f3.f4.f1.tag;
-    result.f2.f3.f4.f1.bool_0 = v8.f3.f4.f1.bool_0;
-    result.f2.f3.f4.f1.u64_0 = v8.f3.f4.f1.u64_0;
-    result.f2.f3.f4.f1.u64_1 = v8.f3.f4.f1.u64_1;
-    result.f2.f3.f4.f2 = v8.f3.f4.f2;
-    result.f2.f3.f4.f3 = v8.f3.f4.f3;
+    result.f0 = a2;
+    result.f1.f0.tag = v8.f0.tag;
+    result.f1.f0.u64_0 = v8.f0.u64_0;
+    result.f1.f0.u64_1 = v8.f0.u64_1;
+    result.f1.f0.c2_target__Effect_0.tag = v8.f0.c2_target__Effect_0.tag;
+    result.f1.f0.c2_target__Effect_0.u64_0 = v8.f0.c2_target__Effect_0.u64_0;
+    result.f1.f1 = v8.f1;
+    result.f1.f2 = v8.f2;
+    result.f1.f3.f0 = v8.f3.f0;
+    result.f1.f3.f1 = v8.f3.f1;
+    result.f1.f3.f2 = v8.f3.f2;
+    result.f1.f3.f3.f0 = v8.f3.f3.f0;
+    result.f1.f3.f3.f1 = v8.f3.f3.f1;
+    result.f1.f3.f3.f2 = v8.f3.f3.f2;
+    result.f1.f3.f3.f3 = v8.f3.f3.f3;
+    result.f1.f3.f4.f0.tag = v8.f3.f4.f0.tag;
+    result.f1.f3.f4.f0.u64_0 = v8.f3.f4.f0.u64_0;
+    result.f1.f3.f4.f0.bool_0 = v8.f3.f4.f0.bool_0;
+    result.f1.f3.f4.f0.u64_1 = v8.f3.f4.f0.u64_1;
+    result.f1.f3.f4.f1.tag = v8.f3.f4.f1.tag;
+    result.f1.f3.f4.f1.bool_0 = v8.f3.f4.f1.bool_0;
+    result.f1.f3.f4.f1.u64_0 = v8.f3.f4.f1.u64_0;
+    result.f1.f3.f4.f1.u64_1 = v8.f3.f4.f1.u64_1;
+    result.f1.f3.f4.f2 = v8.f3.f4.f2;
+    result.f1.f3.f4.f3 = v8.f3.f4.f3;
     return result;
 }
 
@@ -3287,713 +4010,183 @@ static uint64_t c2_target_step__strobes__zeros_of(uint64_t a1, uint64_t a2)
 {
     uint64_t result;
     _Bool v3;
+    uint64_t v4;
     v3 = a2 == UINT64_C(0);
     if (v3) {
-        result = a1;
-        return result;
+        v4 = a1;
+    } else {
+        v4 = a1 % a2;
     }
-    result = a1 % a2;
+    result = v4;
     return result;
 }
 
 /* c2_target_step::strobes::begins_wait */
-static c2_target__Replied c2_target_step__strobes__begins_wait(const c2_target__Target *a1,
-    const c2_settings *a2, uint64_t a3, const c2_target__Effect *a4, slice_u8 a5, slice_u8 a6, uint8_t a7)
+static c2_target__Turned c2_target_step__strobes__begins_wait(const c2_target__Target *a1,
+    const c2_target_step__Lent *a2, uint64_t a3, const c2_target__Effect *a4, slice_u8 a5, uint8_t a6)
 {
-    c2_target__Replied result;
-    c2_target__Device v8;
+    c2_target__Turned result;
+    uint64_t v7;
+    c2_target__Point v8;
     uint64_t v9;
-    uint64_t v10;
+    slice_u8 v10;
     uint64_t v11;
-    uint64_t v12;
-    uint32_t v13;
-    c2_target__Point v14;
-    v8.f0 = a1->f3.f0;
-    v8.f1 = a1->f3.f1;
-    v8.f2 = a1->f3.f2;
-    v8.f3.f0 = a1->f3.f3.f0;
-    v8.f3.f1 = a1->f3.f3.f1;
-    v8.f3.f2 = a1->f3.f3.f2;
-    v8.f3.f3 = a1->f3.f3.f3;
-    v8.f4.f0.tag = a1->f3.f4.f0.tag;
-    v8.f4.f0.u64_0 = a1->f3.f4.f0.u64_0;
-    v8.f4.f0.bool_0 = a1->f3.f4.f0.bool_0;
-    v8.f4.f0.u64_1 = a1->f3.f4.f0.u64_1;
-    v8.f4.f1.tag = a1->f3.f4.f1.tag;
-    v8.f4.f1.bool_0 = a1->f3.f4.f1.bool_0;
-    v8.f4.f1.u64_0 = a1->f3.f4.f1.u64_0;
-    v8.f4.f1.u64_1 = a1->f3.f4.f1.u64_1;
-    v8.f4.f2 = a1->f3.f4.f2;
-    v8.f4.f3 = a1->f3.f4.f3;
-    v9 = a1->f1;
-    v11 = c2_target_step__delays__delay(a6, v9);
-    v12 = (uint64_t)a2->wait_limit;
-    v10 = c2_target_step__strobes__zeros_of(v11, v12);
-    v13 = c2_target_step__strobes__ends(v10);
-    v14 = c2_target_step__strobes__after_wait(a2, v10, a3, a4, &v8, a5);
-    v11 = c2_target_step__delays__next_place(a6, v9);
-    result = c2_target_step__strobes__shows(a1, v13, a7, &v14, v11, &v8);
+    uint8_t v12;
+    c2_settings v13;
+    c2_target__Device v14;
+    _Bool v15;
+    slice_u8 v16;
+    c2_target__Device v17;
+    v10.at = a2->f2.at;
+    v10.length = a2->f2.length;
+    v9 = c2_target_step__delays__delay(v10, a1->f1);
+    v12 = a2->f0.wait_limit;
+    v11 = core__convert__UsizeFromU8__from(v12);
+    v7 = c2_target_step__strobes__zeros_of(v9, v11);
+    v13.device_id = a2->f0.device_id;
+    v13.fpdat = a2->f0.fpdat;
+    v13.page_size = a2->f0.page_size;
+    v13.page_count = a2->f0.page_count;
+    v13.wait_limit = a2->f0.wait_limit;
+    v13.pairs.count = a2->f0.pairs.count;
+    v13.pairs.registers[0] = a2->f0.pairs.registers[0];
+    v13.pairs.registers[1] = a2->f0.pairs.registers[1];
+    v13.pairs.registers[2] = a2->f0.pairs.registers[2];
+    v13.pairs.registers[3] = a2->f0.pairs.registers[3];
+    v13.pairs.values[0] = a2->f0.pairs.values[0];
+    v13.pairs.values[1] = a2->f0.pairs.values[1];
+    v13.pairs.values[2] = a2->f0.pairs.values[2];
+    v13.pairs.values[3] = a2->f0.pairs.values[3];
+    v14.f0 = a1->f3.f0;
+    v14.f1 = a1->f3.f1;
+    v14.f2 = a1->f3.f2;
+    v14.f3.f0 = a1->f3.f3.f0;
+    v14.f3.f1 = a1->f3.f3.f1;
+    v14.f3.f2 = a1->f3.f3.f2;
+    v14.f3.f3 = a1->f3.f3.f3;
+    v14.f4.f0.tag = a1->f3.f4.f0.tag;
+    v14.f4.f0.u64_0 = a1->f3.f4.f0.u64_0;
+    v14.f4.f0.bool_0 = a1->f3.f4.f0.bool_0;
+    v14.f4.f0.u64_1 = a1->f3.f4.f0.u64_1;
+    v14.f4.f1.tag = a1->f3.f4.f1.tag;
+    v14.f4.f1.bool_0 = a1->f3.f4.f1.bool_0;
+    v14.f4.f1.u64_0 = a1->f3.f4.f1.u64_0;
+    v14.f4.f1.u64_1 = a1->f3.f4.f1.u64_1;
+    v14.f4.f2 = a1->f3.f4.f2;
+    v14.f4.f3 = a1->f3.f4.f3;
+    v8 = c2_target_step__strobes__after_wait(&v13, v7, a3, a4, &v14, a5);
+    v15 = v7 == UINT64_C(0);
+    v16.at = a2->f2.at;
+    v16.length = a2->f2.length;
+    v9 = c2_target_step__delays__next_place(v16, a1->f1);
+    v17.f0 = a1->f3.f0;
+    v17.f1 = a1->f3.f1;
+    v17.f2 = a1->f3.f2;
+    v17.f3.f0 = a1->f3.f3.f0;
+    v17.f3.f1 = a1->f3.f3.f1;
+    v17.f3.f2 = a1->f3.f3.f2;
+    v17.f3.f3 = a1->f3.f3.f3;
+    v17.f4.f0.tag = a1->f3.f4.f0.tag;
+    v17.f4.f0.u64_0 = a1->f3.f4.f0.u64_0;
+    v17.f4.f0.bool_0 = a1->f3.f4.f0.bool_0;
+    v17.f4.f0.u64_1 = a1->f3.f4.f0.u64_1;
+    v17.f4.f1.tag = a1->f3.f4.f1.tag;
+    v17.f4.f1.bool_0 = a1->f3.f4.f1.bool_0;
+    v17.f4.f1.u64_0 = a1->f3.f4.f1.u64_0;
+    v17.f4.f1.u64_1 = a1->f3.f4.f1.u64_1;
+    v17.f4.f2 = a1->f3.f4.f2;
+    v17.f4.f3 = a1->f3.f4.f3;
+    result = c2_target_step__strobes__shows(a1, v15, a6, &v8, v9, &v17);
     return result;
 }
 
 /* c2_target_step::strobes::line */
-static uint32_t c2_target_step__strobes__line(uint8_t a1)
+static _Bool c2_target_step__strobes__line(uint8_t a1)
 {
-    uint32_t result;
-    _Bool v2;
-    v2 = a1 == 2u;
-    if (v2) {
-        result = UINT32_C(0);
-        return result;
-    }
-    result = UINT32_C(1);
+    _Bool result;
+    result = a1 != 2u;
     return result;
 }
 
 /* c2_target_step::strobes::hears */
-static c2_target__Replied c2_target_step__strobes__hears(const c2_target__Target *a1, uint8_t a2,
+static c2_target__Turned c2_target_step__strobes__hears(const c2_target__Target *a1, uint8_t a2,
     const c2_target__Point *a3)
 {
-    c2_target__Replied result;
-    c2_target__Device v4;
-    uint32_t v5;
-    c2_target__Target v6;
-    v4.f0 = a1->f3.f0;
-    v4.f1 = a1->f3.f1;
-    v4.f2 = a1->f3.f2;
-    v4.f3.f0 = a1->f3.f3.f0;
-    v4.f3.f1 = a1->f3.f3.f1;
-    v4.f3.f2 = a1->f3.f3.f2;
-    v4.f3.f3 = a1->f3.f3.f3;
-    v4.f4.f0.tag = a1->f3.f4.f0.tag;
-    v4.f4.f0.u64_0 = a1->f3.f4.f0.u64_0;
-    v4.f4.f0.bool_0 = a1->f3.f4.f0.bool_0;
-    v4.f4.f0.u64_1 = a1->f3.f4.f0.u64_1;
-    v4.f4.f1.tag = a1->f3.f4.f1.tag;
-    v4.f4.f1.bool_0 = a1->f3.f4.f1.bool_0;
-    v4.f4.f1.u64_0 = a1->f3.f4.f1.u64_0;
-    v4.f4.f1.u64_1 = a1->f3.f4.f1.u64_1;
-    v4.f4.f2 = a1->f3.f4.f2;
-    v4.f4.f3 = a1->f3.f4.f3;
-    v5 = c2_target_step__strobes__line(a2);
-    v6.f0.tag = a3->tag;
-    v6.f0.u64_0 = a3->u64_0;
-    v6.f0.u64_1 = a3->u64_1;
-    v6.f0.c2_target__Effect_0.tag = a3->c2_target__Effect_0.tag;
-    v6.f0.c2_target__Effect_0.u64_0 = a3->c2_target__Effect_0.u64_0;
-    v6.f1 = a1->f1;
-    v6.f2 = a1->f2;
-    v6.f3.f0 = v4.f0;
-    v6.f3.f1 = v4.f1;
-    v6.f3.f2 = v4.f2;
-    v6.f3.f3.f0 = v4.f3.f0;
-    v6.f3.f3.f1 = v4.f3.f1;
-    v6.f3.f3.f2 = v4.f3.f2;
-    v6.f3.f3.f3 = v4.f3.f3;
-    v6.f3.f4.f0.tag = v4.f4.f0.tag;
-    v6.f3.f4.f0.u64_0 = v4.f4.f0.u64_0;
-    v6.f3.f4.f0.bool_0 = v4.f4.f0.bool_0;
-    v6.f3.f4.f0.u64_1 = v4.f4.f0.u64_1;
-    v6.f3.f4.f1.tag = v4.f4.f1.tag;
-    v6.f3.f4.f1.bool_0 = v4.f4.f1.bool_0;
-    v6.f3.f4.f1.u64_0 = v4.f4.f1.u64_0;
-    v6.f3.f4.f1.u64_1 = v4.f4.f1.u64_1;
-    v6.f3.f4.f2 = v4.f4.f2;
-    v6.f3.f4.f3 = v4.f4.f3;
-    result.f0 = UINT32_C(0);
-    result.f1 = v5;
-    result.f2.f0.tag = v6.f0.tag;
-    result.f2.f0.u64_0 = v6.f0.u64_0;
-    result.f2.f0.u64_1 = v6.f0.u64_1;
-    result.f2.f0.c2_target__Effect_0.tag = v6.f0.c2_target__Effect_0.tag;
-    result.f2.f0.c2_target__Effect_0.u64_0 = v6.f0.c2_target__Effect_0.u64_0;
-    result.f2.f1 = v6.f1;
-    result.f2.f2 = v6.f2;
-    result.f2.f3.f0 = v6.f3.f0;
-    result.f2.f3.f1 = v6.f3.f1;
-    result.f2.f3.f2 = v6.f3.f2;
-    result.f2.f3.f3.f0 = v6.f3.f3.f0;
-    result.f2.f3.f3.f1 = v6.f3.f3.f1;
-    result.f2.f3.f3.f2 = v6.f3.f3.f2;
-    result.f2.f3.f3.f3 = v6.f3.f3.f3;
-    result.f2.f3.f4.f0.tag = v6.f3.f4.f0.tag;
-    result.f2.f3.f4.f0.u64_0 = v6.f3.f4.f0.u64_0;
-    result.f2.f3.f4.f0.bool_0 = v6.f3.f4.f0.bool_0;
-    result.f2.f3.f4.f0.u64_1 = v6.f3.f4.f0.u64_1;
-    result.f2.f3.f4.f1.tag = v6.f3.f4.f1.tag;
-    result.f2.f3.f4.f1.bool_0 = v6.f3.f4.f1.bool_0;
-    result.f2.f3.f4.f1.u64_0 = v6.f3.f4.f1.u64_0;
-    result.f2.f3.f4.f1.u64_1 = v6.f3.f4.f1.u64_1;
-    result.f2.f3.f4.f2 = v6.f3.f4.f2;
-    result.f2.f3.f4.f3 = v6.f3.f4.f3;
-    return result;
-}
-
-/* c2_target_step::strobes::after_address */
-static c2_target__Point c2_target_step__strobes__after_address(uint64_t a1, uint64_t a2)
-{
-    c2_target__Point result;
-    _Bool v3;
-    c2_target__Effect v4;
-    v3 = a1 < UINT64_C(8);
-    if (v3) {
-        result.tag = 4u;
-        result.u64_0 = a1;
-        result.u64_1 = a2;
-        result.c2_target__Effect_0.tag = 0;
-        result.c2_target__Effect_0.u64_0 = 0;
-        return result;
-    }
-    v4.tag = 1u;
-    v4.u64_0 = a2;
-    result.tag = 10u;
-    result.c2_target__Effect_0.tag = v4.tag;
-    result.c2_target__Effect_0.u64_0 = v4.u64_0;
-    result.u64_0 = 0;
-    result.u64_1 = 0;
-    return result;
-}
-
-/* c2_target_step::strobes::with_bit */
-static uint64_t c2_target_step__strobes__with_bit(uint64_t a1, uint64_t a2, uint8_t a3)
-{
-    uint64_t result;
+    c2_target__Turned result;
     _Bool v4;
     uint64_t v5;
-    v4 = a3 == 2u;
-    if (v4) {
-        result = a2;
-        return result;
-    }
-    v5 = UINT64_C(1) << a1;
-    result = a2 + v5;
-    return result;
-}
-
-/* c2_target_step::strobes::hears_address */
-static c2_target__Replied c2_target_step__strobes__hears_address(const c2_target__Target *a1, uint64_t a2,
-    uint64_t a3, uint8_t a4)
-{
-    c2_target__Replied result;
-    c2_target__Point v5;
-    uint64_t v6;
-    uint64_t v7;
-    v6 = a2 + UINT64_C(1);
-    v7 = c2_target_step__strobes__with_bit(a2, a3, a4);
-    v5 = c2_target_step__strobes__after_address(v6, v7);
-    result = c2_target_step__strobes__hears(a1, a4, &v5);
-    return result;
-}
-
-/* c2_target_step::strobes::after_data */
-static c2_target__Point c2_target_step__strobes__after_data(uint64_t a1, uint64_t a2)
-{
-    c2_target__Point result;
-    _Bool v3;
-    c2_target__Effect v4;
-    v3 = a1 < UINT64_C(8);
-    if (v3) {
-        result.tag = 5u;
-        result.u64_0 = a1;
-        result.u64_1 = a2;
-        result.c2_target__Effect_0.tag = 0;
-        result.c2_target__Effect_0.u64_0 = 0;
-        return result;
-    }
-    v4.tag = 2u;
-    v4.u64_0 = a2;
-    result.tag = 7u;
-    result.u64_0 = UINT64_C(0);
-    result.c2_target__Effect_0.tag = v4.tag;
-    result.c2_target__Effect_0.u64_0 = v4.u64_0;
-    result.u64_1 = 0;
-    return result;
-}
-
-/* c2_target_step::strobes::hears_data */
-static c2_target__Replied c2_target_step__strobes__hears_data(const c2_target__Target *a1, uint64_t a2,
-    uint64_t a3, uint8_t a4)
-{
-    c2_target__Replied result;
-    c2_target__Point v5;
-    uint64_t v6;
-    uint64_t v7;
-    v6 = a2 + UINT64_C(1);
-    v7 = c2_target_step__strobes__with_bit(a2, a3, a4);
-    v5 = c2_target_step__strobes__after_data(v6, v7);
-    result = c2_target_step__strobes__hears(a1, a4, &v5);
-    return result;
-}
-
-/* c2_target_step::interface::bit */
-static uint64_t c2_target_step__interface__bit(_Bool a1)
-{
-    uint64_t result;
-    _Bool v2;
-    v2 = a1;
-    if (v2) {
-        result = UINT64_C(1);
-        return result;
-    }
-    result = UINT64_C(0);
-    return result;
-}
-
-/* c2_target_step::interface::in_busy */
-static _Bool c2_target_step__interface__in_busy(const c2_target__Link *a1)
-{
-    _Bool result;
-    result = UINT64_C(0) < a1->f2;
-    return result;
-}
-
-/* c2_target_step::interface::status_bits */
-static uint64_t c2_target_step__interface__status_bits(const c2_target__Link *a1)
-{
-    uint64_t result;
-    uint64_t v2;
-    _Bool v3;
-    uint64_t v4;
-    _Bool v5;
-    uint64_t v6;
-    v3 = c2_target_step__interface__out_ready(a1);
-    v2 = c2_target_step__interface__bit(v3);
-    v5 = c2_target_step__interface__in_busy(a1);
-    v4 = c2_target_step__interface__bit(v5);
-    v6 = UINT64_C(2) * v4;
-    result = v2 + v6;
-    return result;
-}
-
-/* c2_target_step::interface::shown */
-static uint64_t c2_target_step__interface__shown(const c2_target__Device *a1, const c2_settings *a2)
-{
-    uint64_t result;
-    c2_target__Link v3;
-    _Bool v4;
-    v3.f0.tag = a1->f4.f0.tag;
-    v3.f0.u64_0 = a1->f4.f0.u64_0;
-    v3.f0.bool_0 = a1->f4.f0.bool_0;
-    v3.f0.u64_1 = a1->f4.f0.u64_1;
-    v3.f1.tag = a1->f4.f1.tag;
-    v3.f1.bool_0 = a1->f4.f1.bool_0;
-    v3.f1.u64_0 = a1->f4.f1.u64_0;
-    v3.f1.u64_1 = a1->f4.f1.u64_1;
-    v3.f2 = a1->f4.f2;
-    v3.f3 = a1->f4.f3;
-    v4 = c2_target_step__interface__linked(a1, a2);
-    if (v4) {
-        result = c2_target_step__interface__status_bits(&v3);
-        return result;
-    }
-    result = a1->f0;
-    return result;
-}
-
-/* c2_target_step::strobes::frame_begins */
-static c2_target__Point c2_target_step__strobes__frame_begins(const c2_settings *a1,
-    const c2_target__Device *a2, uint64_t a3)
-{
-    c2_target__Point result;
-    _Bool v4;
-    uint64_t v5;
-    c2_target__Effect v6;
-    v4 = a3 == UINT64_C(0);
-    if (v4) {
-        result.tag = 3u;
-        result.u64_0 = UINT64_C(0);
-        result.u64_1 = UINT64_C(0);
-        result.c2_target__Effect_0.tag = 0;
-        result.c2_target__Effect_0.u64_0 = 0;
-        return result;
-    }
-    v4 = a3 == UINT64_C(1);
-    if (v4) {
-        result.tag = 2u;
-        result.u64_0 = UINT64_C(0);
-        result.u64_1 = UINT64_C(0);
-        result.c2_target__Effect_0.tag = 0;
-        result.c2_target__Effect_0.u64_0 = 0;
-        return result;
-    }
-    v4 = a3 == UINT64_C(2);
-    if (v4) {
-        v5 = c2_target_step__interface__shown(a2, a1);
-        v6.tag = 3u;
-        v6.u64_0 = 0;
-        result = c2_target_step__strobes__sending(UINT64_C(8), v5, &v6);
-        return result;
-    }
-    result.tag = 4u;
-    result.u64_0 = UINT64_C(0);
-    result.u64_1 = UINT64_C(0);
-    result.c2_target__Effect_0.tag = 0;
-    result.c2_target__Effect_0.u64_0 = 0;
-    return result;
-}
-
-/* c2_target_step::strobes::after_ins */
-static c2_target__Point c2_target_step__strobes__after_ins(const c2_settings *a1, const c2_target__Device *a2,
-    uint64_t a3, uint64_t a4)
-{
-    c2_target__Point result;
-    _Bool v5;
-    v5 = a3 < UINT64_C(2);
-    if (v5) {
-        result.tag = 1u;
-        result.u64_0 = a3;
-        result.u64_1 = a4;
-        result.c2_target__Effect_0.tag = 0;
-        result.c2_target__Effect_0.u64_0 = 0;
-        return result;
-    }
-    result = c2_target_step__strobes__frame_begins(a1, a2, a4);
-    return result;
-}
-
-/* c2_target_step::strobes::hears_ins */
-static c2_target__Replied c2_target_step__strobes__hears_ins(const c2_target__Target *a1,
-    const c2_settings *a2, uint64_t a3, uint64_t a4, uint8_t a5)
-{
-    c2_target__Replied result;
-    c2_target__Device v6;
-    c2_target__Point v7;
-    uint64_t v8;
-    uint64_t v9;
-    v6.f0 = a1->f3.f0;
-    v6.f1 = a1->f3.f1;
-    v6.f2 = a1->f3.f2;
-    v6.f3.f0 = a1->f3.f3.f0;
-    v6.f3.f1 = a1->f3.f3.f1;
-    v6.f3.f2 = a1->f3.f3.f2;
-    v6.f3.f3 = a1->f3.f3.f3;
-    v6.f4.f0.tag = a1->f3.f4.f0.tag;
-    v6.f4.f0.u64_0 = a1->f3.f4.f0.u64_0;
-    v6.f4.f0.bool_0 = a1->f3.f4.f0.bool_0;
-    v6.f4.f0.u64_1 = a1->f3.f4.f0.u64_1;
-    v6.f4.f1.tag = a1->f3.f4.f1.tag;
-    v6.f4.f1.bool_0 = a1->f3.f4.f1.bool_0;
-    v6.f4.f1.u64_0 = a1->f3.f4.f1.u64_0;
-    v6.f4.f1.u64_1 = a1->f3.f4.f1.u64_1;
-    v6.f4.f2 = a1->f3.f4.f2;
-    v6.f4.f3 = a1->f3.f4.f3;
-    v8 = a3 + UINT64_C(1);
-    v9 = c2_target_step__strobes__with_bit(a3, a4, a5);
-    v7 = c2_target_step__strobes__after_ins(a2, &v6, v8, v9);
-    result = c2_target_step__strobes__hears(a1, a5, &v7);
-    return result;
-}
-
-/* c2_target_step::strobes::after_read_length */
-static c2_target__Point c2_target_step__strobes__after_read_length(uint64_t a1, uint64_t a2)
-{
-    c2_target__Point result;
-    _Bool v3;
-    c2_target__Effect v4;
-    uint64_t v5;
-    uint64_t v6;
-    c2_target__Effect v7;
-    v3 = a1 < UINT64_C(2);
-    if (v3) {
-        result.tag = 3u;
-        result.u64_0 = a1;
-        result.u64_1 = a2;
-        result.c2_target__Effect_0.tag = 0;
-        result.c2_target__Effect_0.u64_0 = 0;
-        return result;
-    }
-    v3 = a2 == UINT64_C(0);
-    if (v3) {
-        v4.tag = 4u;
-        v4.u64_0 = 0;
-        result.tag = 7u;
-        result.u64_0 = UINT64_C(8);
-        result.c2_target__Effect_0.tag = v4.tag;
-        result.c2_target__Effect_0.u64_0 = v4.u64_0;
-        result.u64_1 = 0;
-        return result;
-    }
-    v5 = a2 + UINT64_C(1);
-    v6 = UINT64_C(8) * v5;
-    v7.tag = 0u;
-    v7.u64_0 = 0;
-    result.tag = 7u;
-    result.u64_0 = v6;
-    result.c2_target__Effect_0.tag = v7.tag;
-    result.c2_target__Effect_0.u64_0 = v7.u64_0;
-    result.u64_1 = 0;
-    return result;
-}
-
-/* c2_target_step::strobes::hears_read_length */
-static c2_target__Replied c2_target_step__strobes__hears_read_length(const c2_target__Target *a1, uint64_t a2,
-    uint64_t a3, uint8_t a4)
-{
-    c2_target__Replied result;
-    c2_target__Point v5;
-    uint64_t v6;
-    uint64_t v7;
-    v6 = a2 + UINT64_C(1);
-    v7 = c2_target_step__strobes__with_bit(a2, a3, a4);
-    v5 = c2_target_step__strobes__after_read_length(v6, v7);
-    result = c2_target_step__strobes__hears(a1, a4, &v5);
-    return result;
-}
-
-/* c2_target_step::strobes::after_write_length */
-static c2_target__Point c2_target_step__strobes__after_write_length(uint64_t a1, uint64_t a2)
-{
-    c2_target__Point result;
-    _Bool v3;
-    uint64_t v4;
-    uint64_t v5;
-    v3 = a1 < UINT64_C(2);
-    if (v3) {
-        result.tag = 2u;
-        result.u64_0 = a1;
-        result.u64_1 = a2;
-        result.c2_target__Effect_0.tag = 0;
-        result.c2_target__Effect_0.u64_0 = 0;
-        return result;
-    }
-    v3 = a2 == UINT64_C(0);
-    if (v3) {
-        result.tag = 5u;
-        result.u64_0 = UINT64_C(0);
-        result.u64_1 = UINT64_C(0);
-        result.c2_target__Effect_0.tag = 0;
-        result.c2_target__Effect_0.u64_0 = 0;
-        return result;
-    }
-    v4 = a2 + UINT64_C(1);
-    v5 = UINT64_C(8) * v4;
-    result.tag = 6u;
-    result.u64_0 = v5;
-    result.u64_1 = 0;
-    result.c2_target__Effect_0.tag = 0;
-    result.c2_target__Effect_0.u64_0 = 0;
-    return result;
-}
-
-/* c2_target_step::strobes::hears_write_length */
-static c2_target__Replied c2_target_step__strobes__hears_write_length(const c2_target__Target *a1,
-    uint64_t a2, uint64_t a3, uint8_t a4)
-{
-    c2_target__Replied result;
-    c2_target__Point v5;
-    uint64_t v6;
-    uint64_t v7;
-    v6 = a2 + UINT64_C(1);
-    v7 = c2_target_step__strobes__with_bit(a2, a3, a4);
-    v5 = c2_target_step__strobes__after_write_length(v6, v7);
-    result = c2_target_step__strobes__hears(a1, a4, &v5);
-    return result;
-}
-
-/* c2_target_step::interface::less */
-static uint64_t c2_target_step__interface__less(uint64_t a1)
-{
-    uint64_t result;
-    _Bool v2;
-    v2 = UINT64_C(0) < a1;
-    if (v2) {
-        result = a1 - UINT64_C(1);
-        return result;
-    }
-    result = UINT64_C(0);
-    return result;
-}
-
-/* c2_target_step::strobes::sends */
-static c2_target__Replied c2_target_step__strobes__sends(const c2_target__Target *a1, uint64_t a2,
-    uint64_t a3, const c2_target__Effect *a4, uint8_t a5)
-{
-    c2_target__Replied result;
-    c2_target__Device v6;
-    uint64_t v7;
-    uint32_t v8;
-    c2_target__Point v9;
-    uint64_t v10;
-    uint64_t v11;
-    v6.f0 = a1->f3.f0;
-    v6.f1 = a1->f3.f1;
-    v6.f2 = a1->f3.f2;
-    v6.f3.f0 = a1->f3.f3.f0;
-    v6.f3.f1 = a1->f3.f3.f1;
-    v6.f3.f2 = a1->f3.f3.f2;
-    v6.f3.f3 = a1->f3.f3.f3;
-    v6.f4.f0.tag = a1->f3.f4.f0.tag;
-    v6.f4.f0.u64_0 = a1->f3.f4.f0.u64_0;
-    v6.f4.f0.bool_0 = a1->f3.f4.f0.bool_0;
-    v6.f4.f0.u64_1 = a1->f3.f4.f0.u64_1;
-    v6.f4.f1.tag = a1->f3.f4.f1.tag;
-    v6.f4.f1.bool_0 = a1->f3.f4.f1.bool_0;
-    v6.f4.f1.u64_0 = a1->f3.f4.f1.u64_0;
-    v6.f4.f1.u64_1 = a1->f3.f4.f1.u64_1;
-    v6.f4.f2 = a1->f3.f4.f2;
-    v6.f4.f3 = a1->f3.f4.f3;
-    v7 = a3 % UINT64_C(2);
-    v8 = (uint32_t)v7;
-    v10 = c2_target_step__interface__less(a2);
-    v11 = a3 / UINT64_C(2);
-    v9 = c2_target_step__strobes__sending(v10, v11, a4);
-    result = c2_target_step__strobes__shows(a1, v8, a5, &v9, a1->f1, &v6);
-    return result;
-}
-
-/* c2_target_step::interface::begun */
-static c2_target__Device c2_target_step__interface__begun(const c2_target__Device *a1)
-{
-    c2_target__Device result;
-    c2_target__Met v2;
-    c2_target__Link v3;
-    _Bool v4;
-    v2.f0 = a1->f3.f0;
-    v2.f1 = a1->f3.f1;
-    v2.f2 = a1->f3.f2;
-    v2.f3 = a1->f3.f3;
-    v3.f0.tag = a1->f4.f0.tag;
-    v3.f0.u64_0 = a1->f4.f0.u64_0;
-    v3.f0.bool_0 = a1->f4.f0.bool_0;
-    v3.f0.u64_1 = a1->f4.f0.u64_1;
-    v3.f1.tag = a1->f4.f1.tag;
-    v3.f1.bool_0 = a1->f4.f1.bool_0;
-    v3.f1.u64_0 = a1->f4.f1.u64_0;
-    v3.f1.u64_1 = a1->f4.f1.u64_1;
-    v3.f2 = a1->f4.f2;
-    v3.f3 = a1->f4.f3;
-    v4 = a1->f2 == UINT64_C(3);
-    if (v4) {
-        result.f0 = a1->f0;
-        result.f1 = a1->f1;
-        result.f2 = UINT64_C(0);
-        result.f3.f0 = v2.f0;
-        result.f3.f1 = v2.f1;
-        result.f3.f2 = v2.f2;
-        result.f3.f3 = v2.f3;
-        result.f4.f0.tag = v3.f0.tag;
-        result.f4.f0.u64_0 = v3.f0.u64_0;
-        result.f4.f0.bool_0 = v3.f0.bool_0;
-        result.f4.f0.u64_1 = v3.f0.u64_1;
-        result.f4.f1.tag = v3.f1.tag;
-        result.f4.f1.bool_0 = v3.f1.bool_0;
-        result.f4.f1.u64_0 = v3.f1.u64_0;
-        result.f4.f1.u64_1 = v3.f1.u64_1;
-        result.f4.f2 = v3.f2;
-        result.f4.f3 = v3.f3;
-        return result;
-    }
-    result.f0 = a1->f0;
-    result.f1 = a1->f1;
-    result.f2 = a1->f2;
-    result.f3.f0 = a1->f3.f0;
-    result.f3.f1 = a1->f3.f1;
-    result.f3.f2 = a1->f3.f2;
-    result.f3.f3 = a1->f3.f3;
-    result.f4.f0.tag = a1->f4.f0.tag;
-    result.f4.f0.u64_0 = a1->f4.f0.u64_0;
-    result.f4.f0.bool_0 = a1->f4.f0.bool_0;
-    result.f4.f0.u64_1 = a1->f4.f0.u64_1;
-    result.f4.f1.tag = a1->f4.f1.tag;
-    result.f4.f1.bool_0 = a1->f4.f1.bool_0;
-    result.f4.f1.u64_0 = a1->f4.f1.u64_0;
-    result.f4.f1.u64_1 = a1->f4.f1.u64_1;
-    result.f4.f2 = a1->f4.f2;
-    result.f4.f3 = a1->f4.f3;
-    return result;
-}
-
-/* c2_target_step::strobes::starts */
-static c2_target__Replied c2_target_step__strobes__starts(const c2_target__Target *a1, uint8_t a2)
-{
-    c2_target__Replied result;
-    c2_target__Device v3;
-    c2_target__Point v4;
-    c2_target__Device v5;
-    v3.f0 = a1->f3.f0;
-    v3.f1 = a1->f3.f1;
-    v3.f2 = a1->f3.f2;
-    v3.f3.f0 = a1->f3.f3.f0;
-    v3.f3.f1 = a1->f3.f3.f1;
-    v3.f3.f2 = a1->f3.f3.f2;
-    v3.f3.f3 = a1->f3.f3.f3;
-    v3.f4.f0.tag = a1->f3.f4.f0.tag;
-    v3.f4.f0.u64_0 = a1->f3.f4.f0.u64_0;
-    v3.f4.f0.bool_0 = a1->f3.f4.f0.bool_0;
-    v3.f4.f0.u64_1 = a1->f3.f4.f0.u64_1;
-    v3.f4.f1.tag = a1->f3.f4.f1.tag;
-    v3.f4.f1.bool_0 = a1->f3.f4.f1.bool_0;
-    v3.f4.f1.u64_0 = a1->f3.f4.f1.u64_0;
-    v3.f4.f1.u64_1 = a1->f3.f4.f1.u64_1;
-    v3.f4.f2 = a1->f3.f4.f2;
-    v3.f4.f3 = a1->f3.f4.f3;
-    v4.tag = 1u;
-    v4.u64_0 = UINT64_C(0);
-    v4.u64_1 = UINT64_C(0);
-    v4.c2_target__Effect_0.tag = 0;
-    v4.c2_target__Effect_0.u64_0 = 0;
-    v5 = c2_target_step__interface__begun(&v3);
-    result = c2_target_step__strobes__shows(a1, UINT32_C(1), a2, &v4, a1->f1, &v5);
-    return result;
-}
-
-/* c2_target_step::interface::addressed */
-static c2_target__Target c2_target_step__interface__addressed(const c2_target__Target *a1, uint64_t a2)
-{
-    c2_target__Target result;
-    c2_target__Device v3;
-    c2_target__Met v4;
-    c2_target__Link v5;
-    c2_target__Device v6;
-    v3.f0 = a1->f3.f0;
-    v3.f1 = a1->f3.f1;
-    v3.f2 = a1->f3.f2;
-    v3.f3.f0 = a1->f3.f3.f0;
-    v3.f3.f1 = a1->f3.f3.f1;
-    v3.f3.f2 = a1->f3.f3.f2;
-    v3.f3.f3 = a1->f3.f3.f3;
-    v3.f4.f0.tag = a1->f3.f4.f0.tag;
-    v3.f4.f0.u64_0 = a1->f3.f4.f0.u64_0;
-    v3.f4.f0.bool_0 = a1->f3.f4.f0.bool_0;
-    v3.f4.f0.u64_1 = a1->f3.f4.f0.u64_1;
-    v3.f4.f1.tag = a1->f3.f4.f1.tag;
-    v3.f4.f1.bool_0 = a1->f3.f4.f1.bool_0;
-    v3.f4.f1.u64_0 = a1->f3.f4.f1.u64_0;
-    v3.f4.f1.u64_1 = a1->f3.f4.f1.u64_1;
-    v3.f4.f2 = a1->f3.f4.f2;
-    v3.f4.f3 = a1->f3.f4.f3;
-    v4.f0 = v3.f3.f0;
-    v4.f1 = v3.f3.f1;
-    v4.f2 = v3.f3.f2;
-    v4.f3 = v3.f3.f3;
-    v5.f0.tag = v3.f4.f0.tag;
-    v5.f0.u64_0 = v3.f4.f0.u64_0;
-    v5.f0.bool_0 = v3.f4.f0.bool_0;
-    v5.f0.u64_1 = v3.f4.f0.u64_1;
-    v5.f1.tag = v3.f4.f1.tag;
-    v5.f1.bool_0 = v3.f4.f1.bool_0;
-    v5.f1.u64_0 = v3.f4.f1.u64_0;
-    v5.f1.u64_1 = v3.f4.f1.u64_1;
-    v5.f2 = v3.f4.f2;
-    v5.f3 = v3.f4.f3;
-    v6.f0 = a2;
-    v6.f1 = v3.f1;
-    v6.f2 = v3.f2;
-    v6.f3.f0 = v4.f0;
-    v6.f3.f1 = v4.f1;
-    v6.f3.f2 = v4.f2;
-    v6.f3.f3 = v4.f3;
-    v6.f4.f0.tag = v5.f0.tag;
-    v6.f4.f0.u64_0 = v5.f0.u64_0;
-    v6.f4.f0.bool_0 = v5.f0.bool_0;
-    v6.f4.f0.u64_1 = v5.f0.u64_1;
-    v6.f4.f1.tag = v5.f1.tag;
-    v6.f4.f1.bool_0 = v5.f1.bool_0;
-    v6.f4.f1.u64_0 = v5.f1.u64_0;
-    v6.f4.f1.u64_1 = v5.f1.u64_1;
-    v6.f4.f2 = v5.f2;
-    v6.f4.f3 = v5.f3;
-    result = c2_target_step__interface__idle(a1, a1->f1, &v6);
+    _Bool v6;
+    c2_target__Device v7;
+    c2_target__Target v8;
+    v4 = c2_target_step__strobes__line(a2);
+    v5 = a1->f1;
+    v6 = a1->f2;
+    v7.f0 = a1->f3.f0;
+    v7.f1 = a1->f3.f1;
+    v7.f2 = a1->f3.f2;
+    v7.f3.f0 = a1->f3.f3.f0;
+    v7.f3.f1 = a1->f3.f3.f1;
+    v7.f3.f2 = a1->f3.f3.f2;
+    v7.f3.f3 = a1->f3.f3.f3;
+    v7.f4.f0.tag = a1->f3.f4.f0.tag;
+    v7.f4.f0.u64_0 = a1->f3.f4.f0.u64_0;
+    v7.f4.f0.bool_0 = a1->f3.f4.f0.bool_0;
+    v7.f4.f0.u64_1 = a1->f3.f4.f0.u64_1;
+    v7.f4.f1.tag = a1->f3.f4.f1.tag;
+    v7.f4.f1.bool_0 = a1->f3.f4.f1.bool_0;
+    v7.f4.f1.u64_0 = a1->f3.f4.f1.u64_0;
+    v7.f4.f1.u64_1 = a1->f3.f4.f1.u64_1;
+    v7.f4.f2 = a1->f3.f4.f2;
+    v7.f4.f3 = a1->f3.f4.f3;
+    v8.f0.tag = a3->tag;
+    v8.f0.u64_0 = a3->u64_0;
+    v8.f0.u64_1 = a3->u64_1;
+    v8.f0.c2_target__Effect_0.tag = a3->c2_target__Effect_0.tag;
+    v8.f0.c2_target__Effect_0.u64_0 = a3->c2_target__Effect_0.u64_0;
+    v8.f1 = v5;
+    v8.f2 = v6;
+    v8.f3.f0 = v7.f0;
+    v8.f3.f1 = v7.f1;
+    v8.f3.f2 = v7.f2;
+    v8.f3.f3.f0 = v7.f3.f0;
+    v8.f3.f3.f1 = v7.f3.f1;
+    v8.f3.f3.f2 = v7.f3.f2;
+    v8.f3.f3.f3 = v7.f3.f3;
+    v8.f3.f4.f0.tag = v7.f4.f0.tag;
+    v8.f3.f4.f0.u64_0 = v7.f4.f0.u64_0;
+    v8.f3.f4.f0.bool_0 = v7.f4.f0.bool_0;
+    v8.f3.f4.f0.u64_1 = v7.f4.f0.u64_1;
+    v8.f3.f4.f1.tag = v7.f4.f1.tag;
+    v8.f3.f4.f1.bool_0 = v7.f4.f1.bool_0;
+    v8.f3.f4.f1.u64_0 = v7.f4.f1.u64_0;
+    v8.f3.f4.f1.u64_1 = v7.f4.f1.u64_1;
+    v8.f3.f4.f2 = v7.f4.f2;
+    v8.f3.f4.f3 = v7.f4.f3;
+    result.f0 = v4;
+    result.f1.f0.tag = v8.f0.tag;
+    result.f1.f0.u64_0 = v8.f0.u64_0;
+    result.f1.f0.u64_1 = v8.f0.u64_1;
+    result.f1.f0.c2_target__Effect_0.tag = v8.f0.c2_target__Effect_0.tag;
+    result.f1.f0.c2_target__Effect_0.u64_0 = v8.f0.c2_target__Effect_0.u64_0;
+    result.f1.f1 = v8.f1;
+    result.f1.f2 = v8.f2;
+    result.f1.f3.f0 = v8.f3.f0;
+    result.f1.f3.f1 = v8.f3.f1;
+    result.f1.f3.f2 = v8.f3.f2;
+    result.f1.f3.f3.f0 = v8.f3.f3.f0;
+    result.f1.f3.f3.f1 = v8.f3.f3.f1;
+    result.f1.f3.f3.f2 = v8.f3.f3.f2;
+    result.f1.f3.f3.f3 = v8.f3.f3.f3;
+    result.f1.f3.f4.f0.tag = v8.f3.f4.f0.tag;
+    result.f1.f3.f4.f0.u64_0 = v8.f3.f4.f0.u64_0;
+    result.f1.f3.f4.f0.bool_0 = v8.f3.f4.f0.bool_0;
+    result.f1.f3.f4.f0.u64_1 = v8.f3.f4.f0.u64_1;
+    result.f1.f3.f4.f1.tag = v8.f3.f4.f1.tag;
+    result.f1.f3.f4.f1.bool_0 = v8.f3.f4.f1.bool_0;
+    result.f1.f3.f4.f1.u64_0 = v8.f3.f4.f1.u64_0;
+    result.f1.f3.f4.f1.u64_1 = v8.f3.f4.f1.u64_1;
+    result.f1.f3.f4.f2 = v8.f3.f4.f2;
+    result.f1.f3.f4.f3 = v8.f3.f4.f3;
     return result;
 }
 
@@ -4001,45 +4194,70 @@ static c2_target__Target c2_target_step__interface__addressed(const c2_target__T
 static c2_target__Link c2_target_step__interface__counted(const c2_target__Link *a1)
 {
     c2_target__Link result;
-    c2_target__Command v2;
-    c2_target__Output v3;
-    _Bool v4;
-    uint64_t v5;
-    uint64_t v6;
-    v2.tag = a1->f0.tag;
-    v2.u64_0 = a1->f0.u64_0;
-    v2.bool_0 = a1->f0.bool_0;
-    v2.u64_1 = a1->f0.u64_1;
-    v3.tag = a1->f1.tag;
-    v3.bool_0 = a1->f1.bool_0;
-    v3.u64_0 = a1->f1.u64_0;
-    v3.u64_1 = a1->f1.u64_1;
-    v4 = UINT64_C(0) < a1->f2;
-    if (v4) {
-        v5 = a1->f2 - UINT64_C(1);
-        result.f0.tag = v2.tag;
-        result.f0.u64_0 = v2.u64_0;
-        result.f0.bool_0 = v2.bool_0;
-        result.f0.u64_1 = v2.u64_1;
-        result.f1.tag = v3.tag;
-        result.f1.bool_0 = v3.bool_0;
-        result.f1.u64_0 = v3.u64_0;
-        result.f1.u64_1 = v3.u64_1;
-        result.f2 = v5;
-        result.f3 = a1->f3;
-        return result;
+    _Bool v2;
+    c2_target__Link v3;
+    uint64_t v4;
+    c2_target__Command v5;
+    c2_target__Output v6;
+    uint64_t v7;
+    uint64_t v8;
+    c2_target__Command v9;
+    c2_target__Output v10;
+    uint64_t v11;
+    v2 = UINT64_C(0) < a1->f2;
+    if (v2) {
+        v4 = a1->f2 - UINT64_C(1);
+        v5.tag = a1->f0.tag;
+        v5.u64_0 = a1->f0.u64_0;
+        v5.bool_0 = a1->f0.bool_0;
+        v5.u64_1 = a1->f0.u64_1;
+        v6.tag = a1->f1.tag;
+        v6.bool_0 = a1->f1.bool_0;
+        v6.u64_0 = a1->f1.u64_0;
+        v6.u64_1 = a1->f1.u64_1;
+        v7 = a1->f3;
+        v3.f0.tag = v5.tag;
+        v3.f0.u64_0 = v5.u64_0;
+        v3.f0.bool_0 = v5.bool_0;
+        v3.f0.u64_1 = v5.u64_1;
+        v3.f1.tag = v6.tag;
+        v3.f1.bool_0 = v6.bool_0;
+        v3.f1.u64_0 = v6.u64_0;
+        v3.f1.u64_1 = v6.u64_1;
+        v3.f2 = v4;
+        v3.f3 = v7;
+    } else {
+        v8 = core__int__usize__saturating_sub(a1->f3, UINT64_C(1));
+        v9.tag = a1->f0.tag;
+        v9.u64_0 = a1->f0.u64_0;
+        v9.bool_0 = a1->f0.bool_0;
+        v9.u64_1 = a1->f0.u64_1;
+        v10.tag = a1->f1.tag;
+        v10.bool_0 = a1->f1.bool_0;
+        v10.u64_0 = a1->f1.u64_0;
+        v10.u64_1 = a1->f1.u64_1;
+        v11 = a1->f2;
+        v3.f0.tag = v9.tag;
+        v3.f0.u64_0 = v9.u64_0;
+        v3.f0.bool_0 = v9.bool_0;
+        v3.f0.u64_1 = v9.u64_1;
+        v3.f1.tag = v10.tag;
+        v3.f1.bool_0 = v10.bool_0;
+        v3.f1.u64_0 = v10.u64_0;
+        v3.f1.u64_1 = v10.u64_1;
+        v3.f2 = v11;
+        v3.f3 = v8;
     }
-    v6 = c2_target_step__interface__less(a1->f3);
-    result.f0.tag = v2.tag;
-    result.f0.u64_0 = v2.u64_0;
-    result.f0.bool_0 = v2.bool_0;
-    result.f0.u64_1 = v2.u64_1;
-    result.f1.tag = v3.tag;
-    result.f1.bool_0 = v3.bool_0;
-    result.f1.u64_0 = v3.u64_0;
-    result.f1.u64_1 = v3.u64_1;
-    result.f2 = UINT64_C(0);
-    result.f3 = v6;
+    result.f0.tag = v3.f0.tag;
+    result.f0.u64_0 = v3.f0.u64_0;
+    result.f0.bool_0 = v3.f0.bool_0;
+    result.f0.u64_1 = v3.f0.u64_1;
+    result.f1.tag = v3.f1.tag;
+    result.f1.bool_0 = v3.f1.bool_0;
+    result.f1.u64_0 = v3.f1.u64_0;
+    result.f1.u64_1 = v3.f1.u64_1;
+    result.f2 = v3.f2;
+    result.f3 = v3.f3;
     return result;
 }
 
@@ -4048,48 +4266,34 @@ static c2_target__Target c2_target_step__interface__served(const c2_target__Targ
     const c2_target__Link *a3, uint64_t a4)
 {
     c2_target__Target result;
-    c2_target__Device v5;
-    c2_target__Met v6;
-    c2_target__Device v7;
-    v5.f0 = a1->f3.f0;
-    v5.f1 = a1->f3.f1;
-    v5.f2 = a1->f3.f2;
-    v5.f3.f0 = a1->f3.f3.f0;
-    v5.f3.f1 = a1->f3.f3.f1;
-    v5.f3.f2 = a1->f3.f3.f2;
-    v5.f3.f3 = a1->f3.f3.f3;
-    v5.f4.f0.tag = a1->f3.f4.f0.tag;
-    v5.f4.f0.u64_0 = a1->f3.f4.f0.u64_0;
-    v5.f4.f0.bool_0 = a1->f3.f4.f0.bool_0;
-    v5.f4.f0.u64_1 = a1->f3.f4.f0.u64_1;
-    v5.f4.f1.tag = a1->f3.f4.f1.tag;
-    v5.f4.f1.bool_0 = a1->f3.f4.f1.bool_0;
-    v5.f4.f1.u64_0 = a1->f3.f4.f1.u64_0;
-    v5.f4.f1.u64_1 = a1->f3.f4.f1.u64_1;
-    v5.f4.f2 = a1->f3.f4.f2;
-    v5.f4.f3 = a1->f3.f4.f3;
-    v6.f0 = v5.f3.f0;
-    v6.f1 = v5.f3.f1;
-    v6.f2 = v5.f3.f2;
-    v6.f3 = v5.f3.f3;
-    v7.f0 = v5.f0;
-    v7.f1 = v5.f1;
-    v7.f2 = a2;
-    v7.f3.f0 = v6.f0;
-    v7.f3.f1 = v6.f1;
-    v7.f3.f2 = v6.f2;
-    v7.f3.f3 = v6.f3;
-    v7.f4.f0.tag = a3->f0.tag;
-    v7.f4.f0.u64_0 = a3->f0.u64_0;
-    v7.f4.f0.bool_0 = a3->f0.bool_0;
-    v7.f4.f0.u64_1 = a3->f0.u64_1;
-    v7.f4.f1.tag = a3->f1.tag;
-    v7.f4.f1.bool_0 = a3->f1.bool_0;
-    v7.f4.f1.u64_0 = a3->f1.u64_0;
-    v7.f4.f1.u64_1 = a3->f1.u64_1;
-    v7.f4.f2 = a3->f2;
-    v7.f4.f3 = a3->f3;
-    result = c2_target_step__interface__idle(a1, a4, &v7);
+    uint64_t v5;
+    _Bool v6;
+    c2_target__Met v7;
+    c2_target__Device v8;
+    v5 = a1->f3.f0;
+    v6 = a1->f3.f1;
+    v7.f0 = a1->f3.f3.f0;
+    v7.f1 = a1->f3.f3.f1;
+    v7.f2 = a1->f3.f3.f2;
+    v7.f3 = a1->f3.f3.f3;
+    v8.f0 = v5;
+    v8.f1 = v6;
+    v8.f2 = a2;
+    v8.f3.f0 = v7.f0;
+    v8.f3.f1 = v7.f1;
+    v8.f3.f2 = v7.f2;
+    v8.f3.f3 = v7.f3;
+    v8.f4.f0.tag = a3->f0.tag;
+    v8.f4.f0.u64_0 = a3->f0.u64_0;
+    v8.f4.f0.bool_0 = a3->f0.bool_0;
+    v8.f4.f0.u64_1 = a3->f0.u64_1;
+    v8.f4.f1.tag = a3->f1.tag;
+    v8.f4.f1.bool_0 = a3->f1.bool_0;
+    v8.f4.f1.u64_0 = a3->f1.u64_0;
+    v8.f4.f1.u64_1 = a3->f1.u64_1;
+    v8.f4.f2 = a3->f2;
+    v8.f4.f3 = a3->f3;
+    result = c2_target_step__interface__idle(a1, a4, &v8);
     return result;
 }
 
@@ -4102,6 +4306,7 @@ static c2_target__Target c2_target_step__interface__counts_down(const c2_target_
     c2_target__Link v4;
     _Bool v5;
     c2_target__Link v6;
+    c2_target__Link v7;
     v3.f0 = a1->f3.f0;
     v3.f1 = a1->f3.f1;
     v3.f2 = a1->f3.f2;
@@ -4119,48 +4324,42 @@ static c2_target__Target c2_target_step__interface__counts_down(const c2_target_
     v3.f4.f1.u64_1 = a1->f3.f4.f1.u64_1;
     v3.f4.f2 = a1->f3.f4.f2;
     v3.f4.f3 = a1->f3.f4.f3;
-    v4.f0.tag = v3.f4.f0.tag;
-    v4.f0.u64_0 = v3.f4.f0.u64_0;
-    v4.f0.bool_0 = v3.f4.f0.bool_0;
-    v4.f0.u64_1 = v3.f4.f0.u64_1;
-    v4.f1.tag = v3.f4.f1.tag;
-    v4.f1.bool_0 = v3.f4.f1.bool_0;
-    v4.f1.u64_0 = v3.f4.f1.u64_0;
-    v4.f1.u64_1 = v3.f4.f1.u64_1;
-    v4.f2 = v3.f4.f2;
-    v4.f3 = v3.f4.f3;
     v5 = c2_target_step__interface__linked(&v3, a2);
     if (v5) {
-        v6 = c2_target_step__interface__counted(&v4);
-        result = c2_target_step__interface__served(a1, v3.f2, &v6, a1->f1);
-        return result;
+        v7.f0.tag = v3.f4.f0.tag;
+        v7.f0.u64_0 = v3.f4.f0.u64_0;
+        v7.f0.bool_0 = v3.f4.f0.bool_0;
+        v7.f0.u64_1 = v3.f4.f0.u64_1;
+        v7.f1.tag = v3.f4.f1.tag;
+        v7.f1.bool_0 = v3.f4.f1.bool_0;
+        v7.f1.u64_0 = v3.f4.f1.u64_0;
+        v7.f1.u64_1 = v3.f4.f1.u64_1;
+        v7.f2 = v3.f4.f2;
+        v7.f3 = v3.f4.f3;
+        v6 = c2_target_step__interface__counted(&v7);
+    } else {
+        v6.f0.tag = v3.f4.f0.tag;
+        v6.f0.u64_0 = v3.f4.f0.u64_0;
+        v6.f0.bool_0 = v3.f4.f0.bool_0;
+        v6.f0.u64_1 = v3.f4.f0.u64_1;
+        v6.f1.tag = v3.f4.f1.tag;
+        v6.f1.bool_0 = v3.f4.f1.bool_0;
+        v6.f1.u64_0 = v3.f4.f1.u64_0;
+        v6.f1.u64_1 = v3.f4.f1.u64_1;
+        v6.f2 = v3.f4.f2;
+        v6.f3 = v3.f4.f3;
     }
+    v4.f0.tag = v6.f0.tag;
+    v4.f0.u64_0 = v6.f0.u64_0;
+    v4.f0.bool_0 = v6.f0.bool_0;
+    v4.f0.u64_1 = v6.f0.u64_1;
+    v4.f1.tag = v6.f1.tag;
+    v4.f1.bool_0 = v6.f1.bool_0;
+    v4.f1.u64_0 = v6.f1.u64_0;
+    v4.f1.u64_1 = v6.f1.u64_1;
+    v4.f2 = v6.f2;
+    v4.f3 = v6.f3;
     result = c2_target_step__interface__served(a1, v3.f2, &v4, a1->f1);
-    return result;
-}
-
-/* c2_target_step::commands::block_after */
-static c2_target__Output c2_target_step__commands__block_after(uint64_t a1, uint64_t a2, slice_u8 a3)
-{
-    c2_target__Output result;
-    _Bool v4;
-    uint64_t v5;
-    uint64_t v6;
-    (void)a3;
-    v4 = UINT64_C(1) < a2;
-    if (v4) {
-        v5 = a1 + UINT64_C(1);
-        v6 = a2 - UINT64_C(1);
-        result.tag = 3u;
-        result.u64_0 = v5;
-        result.u64_1 = v6;
-        result.bool_0 = 0;
-        return result;
-    }
-    result.tag = 0u;
-    result.bool_0 = 0;
-    result.u64_0 = 0;
-    result.u64_1 = 0;
     return result;
 }
 
@@ -4173,19 +4372,11 @@ static c2_target__Output c2_target_step__commands__other_bytes(const c2_target__
     uint64_t v5;
     uint64_t v6;
     c2_target__Output v7;
+    _Bool v8;
+    uint64_t v9;
+    uint64_t v10;
+    (void)a2;
     switch (a1->tag) {
-    case 0u:
-        v7.tag = 0u;
-        v7.bool_0 = 0;
-        v7.u64_0 = 0;
-        v7.u64_1 = 0;
-        break;
-    case 1u:
-        v7.tag = 0u;
-        v7.bool_0 = 0;
-        v7.u64_0 = 0;
-        v7.u64_1 = 0;
-        break;
     case 2u:
         v3 = a1->u64_0;
         v4 = a1->u64_1;
@@ -4193,13 +4384,30 @@ static c2_target__Output c2_target_step__commands__other_bytes(const c2_target__
         v7.u64_0 = v3;
         v7.u64_1 = v4;
         v7.bool_0 = 0;
-        break;
-    default: /* 3 */
+        goto end1;
+    case 3u:
         v5 = a1->u64_0;
         v6 = a1->u64_1;
-        v7 = c2_target_step__commands__block_after(v5, v6, a2);
-        break;
+        v8 = UINT64_C(1) < v6;
+        if (v8) {
+            v9 = v5 + UINT64_C(1);
+            v10 = v6 - UINT64_C(1);
+            v7.tag = 3u;
+            v7.u64_0 = v9;
+            v7.u64_1 = v10;
+            v7.bool_0 = 0;
+            goto end1;
+        }
+        goto end2;
+    default: /* 0, 1 */
+        goto end2;
     }
+    end2:;
+    v7.tag = 0u;
+    v7.bool_0 = 0;
+    v7.u64_0 = 0;
+    v7.u64_1 = 0;
+    end1:;
     result.tag = v7.tag;
     result.bool_0 = v7.bool_0;
     result.u64_0 = v7.u64_0;
@@ -4209,16 +4417,19 @@ static c2_target__Output c2_target_step__commands__other_bytes(const c2_target__
 
 /* c2_target_step::interface::awaits */
 static c2_target__Target c2_target_step__interface__awaits(const c2_target__Target *a1, uint64_t a2,
-    const c2_target_step__Taking *a3, uint64_t a4, uint64_t a5, slice_u8 a6)
+    const core__tuple_Command_Output *a3, uint64_t a4, uint64_t a5, slice_u8 a6)
 {
     c2_target__Target result;
     c2_target__Command v7;
     c2_target__Output v8;
-    _Bool v9;
+    uint64_t v9;
     uint64_t v10;
-    c2_target__Link v11;
-    uint64_t v12;
-    c2_target__Link v13;
+    core__tuple_u64_u64 v11;
+    _Bool v12;
+    core__tuple_u64_u64 v13;
+    uint64_t v14;
+    uint64_t v15;
+    c2_target__Link v16;
     v7.tag = a3->f0.tag;
     v7.u64_0 = a3->f0.u64_0;
     v7.bool_0 = a3->f0.bool_0;
@@ -4227,34 +4438,31 @@ static c2_target__Target c2_target_step__interface__awaits(const c2_target__Targ
     v8.bool_0 = a3->f1.bool_0;
     v8.u64_0 = a3->f1.u64_0;
     v8.u64_1 = a3->f1.u64_1;
-    v9 = c2_target_step__commands__some_output(&v8);
-    if (v9) {
-        v10 = c2_target_step__delays__delay(a6, a5);
-        v11.f0.tag = v7.tag;
-        v11.f0.u64_0 = v7.u64_0;
-        v11.f0.bool_0 = v7.bool_0;
-        v11.f0.u64_1 = v7.u64_1;
-        v11.f1.tag = v8.tag;
-        v11.f1.bool_0 = v8.bool_0;
-        v11.f1.u64_0 = v8.u64_0;
-        v11.f1.u64_1 = v8.u64_1;
-        v11.f2 = a4;
-        v11.f3 = v10;
-        v12 = c2_target_step__delays__next_place(a6, a5);
-        result = c2_target_step__interface__served(a1, a2, &v11, v12);
-        return result;
+    v12 = c2_target_step__commands__some_output(&v8);
+    if (v12) {
+        v14 = c2_target_step__delays__delay(a6, a5);
+        v15 = c2_target_step__delays__next_place(a6, a5);
+        v13.f0 = v14;
+        v13.f1 = v15;
+    } else {
+        v13.f0 = UINT64_C(0);
+        v13.f1 = a5;
     }
-    v13.f0.tag = v7.tag;
-    v13.f0.u64_0 = v7.u64_0;
-    v13.f0.bool_0 = v7.bool_0;
-    v13.f0.u64_1 = v7.u64_1;
-    v13.f1.tag = v8.tag;
-    v13.f1.bool_0 = v8.bool_0;
-    v13.f1.u64_0 = v8.u64_0;
-    v13.f1.u64_1 = v8.u64_1;
-    v13.f2 = a4;
-    v13.f3 = UINT64_C(0);
-    result = c2_target_step__interface__served(a1, a2, &v13, a5);
+    v11.f0 = v13.f0;
+    v11.f1 = v13.f1;
+    v9 = v11.f0;
+    v10 = v11.f1;
+    v16.f0.tag = v7.tag;
+    v16.f0.u64_0 = v7.u64_0;
+    v16.f0.bool_0 = v7.bool_0;
+    v16.f0.u64_1 = v7.u64_1;
+    v16.f1.tag = v8.tag;
+    v16.f1.bool_0 = v8.bool_0;
+    v16.f1.u64_0 = v8.u64_0;
+    v16.f1.u64_1 = v8.u64_1;
+    v16.f2 = a4;
+    v16.f3 = v9;
+    result = c2_target_step__interface__served(a1, a2, &v16, v10);
     return result;
 }
 
@@ -4265,11 +4473,12 @@ static c2_target__Target c2_target_step__interface__gets(const c2_target__Target
     c2_target__Target result;
     c2_target__Device v4;
     c2_target__Link v5;
-    c2_target__Command v6;
-    c2_target__Output v7;
-    _Bool v8;
-    c2_target__Output v9;
-    c2_target_step__Taking v10;
+    core__tuple_Command_Output v6;
+    _Bool v7;
+    c2_target__Target v8;
+    c2_target__Command v9;
+    c2_target__Output v10;
+    c2_target__Output v11;
     v4.f0 = a1->f3.f0;
     v4.f1 = a1->f3.f1;
     v4.f2 = a1->f3.f2;
@@ -4297,212 +4506,284 @@ static c2_target__Target c2_target_step__interface__gets(const c2_target__Target
     v5.f1.u64_1 = v4.f4.f1.u64_1;
     v5.f2 = v4.f4.f2;
     v5.f3 = v4.f4.f3;
-    v6.tag = v5.f0.tag;
-    v6.u64_0 = v5.f0.u64_0;
-    v6.bool_0 = v5.f0.bool_0;
-    v6.u64_1 = v5.f0.u64_1;
-    v7.tag = v5.f1.tag;
-    v7.bool_0 = v5.f1.bool_0;
-    v7.u64_0 = v5.f1.u64_0;
-    v7.u64_1 = v5.f1.u64_1;
-    v8 = c2_target_step__interface__out_ready(&v5);
-    if (v8) {
-        v9 = c2_target_step__commands__other_bytes(&v7, a2);
-        v10.f0.tag = v6.tag;
-        v10.f0.u64_0 = v6.u64_0;
-        v10.f0.bool_0 = v6.bool_0;
-        v10.f0.u64_1 = v6.u64_1;
-        v10.f1.tag = v9.tag;
-        v10.f1.bool_0 = v9.bool_0;
-        v10.f1.u64_0 = v9.u64_0;
-        v10.f1.u64_1 = v9.u64_1;
-        result = c2_target_step__interface__awaits(a1, v4.f2, &v10, v5.f2, a1->f1, a3);
-        return result;
+    v7 = c2_target_step__interface__out_ready(&v5);
+    if (v7) {
+        v9.tag = v5.f0.tag;
+        v9.u64_0 = v5.f0.u64_0;
+        v9.bool_0 = v5.f0.bool_0;
+        v9.u64_1 = v5.f0.u64_1;
+        v11.tag = v5.f1.tag;
+        v11.bool_0 = v5.f1.bool_0;
+        v11.u64_0 = v5.f1.u64_0;
+        v11.u64_1 = v5.f1.u64_1;
+        v10 = c2_target_step__commands__other_bytes(&v11, a2);
+        v6.f0.tag = v9.tag;
+        v6.f0.u64_0 = v9.u64_0;
+        v6.f0.bool_0 = v9.bool_0;
+        v6.f0.u64_1 = v9.u64_1;
+        v6.f1.tag = v10.tag;
+        v6.f1.bool_0 = v10.bool_0;
+        v6.f1.u64_0 = v10.u64_0;
+        v6.f1.u64_1 = v10.u64_1;
+        v8 = c2_target_step__interface__awaits(a1, v4.f2, &v6, v5.f2, a1->f1, a3);
+    } else {
+        v8 = c2_target_step__interface__served(a1, v4.f2, &v5, a1->f1);
     }
-    result = c2_target_step__interface__served(a1, v4.f2, &v5, a1->f1);
+    result.f0.tag = v8.f0.tag;
+    result.f0.u64_0 = v8.f0.u64_0;
+    result.f0.u64_1 = v8.f0.u64_1;
+    result.f0.c2_target__Effect_0.tag = v8.f0.c2_target__Effect_0.tag;
+    result.f0.c2_target__Effect_0.u64_0 = v8.f0.c2_target__Effect_0.u64_0;
+    result.f1 = v8.f1;
+    result.f2 = v8.f2;
+    result.f3.f0 = v8.f3.f0;
+    result.f3.f1 = v8.f3.f1;
+    result.f3.f2 = v8.f3.f2;
+    result.f3.f3.f0 = v8.f3.f3.f0;
+    result.f3.f3.f1 = v8.f3.f3.f1;
+    result.f3.f3.f2 = v8.f3.f3.f2;
+    result.f3.f3.f3 = v8.f3.f3.f3;
+    result.f3.f4.f0.tag = v8.f3.f4.f0.tag;
+    result.f3.f4.f0.u64_0 = v8.f3.f4.f0.u64_0;
+    result.f3.f4.f0.bool_0 = v8.f3.f4.f0.bool_0;
+    result.f3.f4.f0.u64_1 = v8.f3.f4.f0.u64_1;
+    result.f3.f4.f1.tag = v8.f3.f4.f1.tag;
+    result.f3.f4.f1.bool_0 = v8.f3.f4.f1.bool_0;
+    result.f3.f4.f1.u64_0 = v8.f3.f4.f1.u64_0;
+    result.f3.f4.f1.u64_1 = v8.f3.f4.f1.u64_1;
+    result.f3.f4.f2 = v8.f3.f4.f2;
+    result.f3.f4.f3 = v8.f3.f4.f3;
     return result;
 }
 
 /* c2_target_step::interface::reads */
-static c2_target__Target c2_target_step__interface__reads(const c2_target__Target *a1, const c2_settings *a2,
-    slice_u8 a3, slice_u8 a4)
+static c2_target__Target c2_target_step__interface__reads(const c2_target__Target *a1,
+    const c2_target_step__Lent *a2, slice_u8 a3)
 {
     c2_target__Target result;
-    c2_target__Device v5;
-    c2_target__Link v6;
-    _Bool v7;
-    v5.f0 = a1->f3.f0;
-    v5.f1 = a1->f3.f1;
-    v5.f2 = a1->f3.f2;
-    v5.f3.f0 = a1->f3.f3.f0;
-    v5.f3.f1 = a1->f3.f3.f1;
-    v5.f3.f2 = a1->f3.f3.f2;
-    v5.f3.f3 = a1->f3.f3.f3;
-    v5.f4.f0.tag = a1->f3.f4.f0.tag;
-    v5.f4.f0.u64_0 = a1->f3.f4.f0.u64_0;
-    v5.f4.f0.bool_0 = a1->f3.f4.f0.bool_0;
-    v5.f4.f0.u64_1 = a1->f3.f4.f0.u64_1;
-    v5.f4.f1.tag = a1->f3.f4.f1.tag;
-    v5.f4.f1.bool_0 = a1->f3.f4.f1.bool_0;
-    v5.f4.f1.u64_0 = a1->f3.f4.f1.u64_0;
-    v5.f4.f1.u64_1 = a1->f3.f4.f1.u64_1;
-    v5.f4.f2 = a1->f3.f4.f2;
-    v5.f4.f3 = a1->f3.f4.f3;
-    v6.f0.tag = v5.f4.f0.tag;
-    v6.f0.u64_0 = v5.f4.f0.u64_0;
-    v6.f0.bool_0 = v5.f4.f0.bool_0;
-    v6.f0.u64_1 = v5.f4.f0.u64_1;
-    v6.f1.tag = v5.f4.f1.tag;
-    v6.f1.bool_0 = v5.f4.f1.bool_0;
-    v6.f1.u64_0 = v5.f4.f1.u64_0;
-    v6.f1.u64_1 = v5.f4.f1.u64_1;
-    v6.f2 = v5.f4.f2;
-    v6.f3 = v5.f4.f3;
-    v7 = c2_target_step__interface__linked(&v5, a2);
-    if (v7) {
-        result = c2_target_step__interface__gets(a1, a3, a4);
-        return result;
+    c2_target__Device v4;
+    _Bool v5;
+    c2_settings v6;
+    c2_target__Target v7;
+    slice_u8 v8;
+    c2_target__Link v9;
+    v4.f0 = a1->f3.f0;
+    v4.f1 = a1->f3.f1;
+    v4.f2 = a1->f3.f2;
+    v4.f3.f0 = a1->f3.f3.f0;
+    v4.f3.f1 = a1->f3.f3.f1;
+    v4.f3.f2 = a1->f3.f3.f2;
+    v4.f3.f3 = a1->f3.f3.f3;
+    v4.f4.f0.tag = a1->f3.f4.f0.tag;
+    v4.f4.f0.u64_0 = a1->f3.f4.f0.u64_0;
+    v4.f4.f0.bool_0 = a1->f3.f4.f0.bool_0;
+    v4.f4.f0.u64_1 = a1->f3.f4.f0.u64_1;
+    v4.f4.f1.tag = a1->f3.f4.f1.tag;
+    v4.f4.f1.bool_0 = a1->f3.f4.f1.bool_0;
+    v4.f4.f1.u64_0 = a1->f3.f4.f1.u64_0;
+    v4.f4.f1.u64_1 = a1->f3.f4.f1.u64_1;
+    v4.f4.f2 = a1->f3.f4.f2;
+    v4.f4.f3 = a1->f3.f4.f3;
+    v6.device_id = a2->f0.device_id;
+    v6.fpdat = a2->f0.fpdat;
+    v6.page_size = a2->f0.page_size;
+    v6.page_count = a2->f0.page_count;
+    v6.wait_limit = a2->f0.wait_limit;
+    v6.pairs.count = a2->f0.pairs.count;
+    v6.pairs.registers[0] = a2->f0.pairs.registers[0];
+    v6.pairs.registers[1] = a2->f0.pairs.registers[1];
+    v6.pairs.registers[2] = a2->f0.pairs.registers[2];
+    v6.pairs.registers[3] = a2->f0.pairs.registers[3];
+    v6.pairs.values[0] = a2->f0.pairs.values[0];
+    v6.pairs.values[1] = a2->f0.pairs.values[1];
+    v6.pairs.values[2] = a2->f0.pairs.values[2];
+    v6.pairs.values[3] = a2->f0.pairs.values[3];
+    v5 = c2_target_step__interface__linked(&v4, &v6);
+    if (v5) {
+        v8.at = a2->f2.at;
+        v8.length = a2->f2.length;
+        v7 = c2_target_step__interface__gets(a1, a3, v8);
+    } else {
+        v9.f0.tag = v4.f4.f0.tag;
+        v9.f0.u64_0 = v4.f4.f0.u64_0;
+        v9.f0.bool_0 = v4.f4.f0.bool_0;
+        v9.f0.u64_1 = v4.f4.f0.u64_1;
+        v9.f1.tag = v4.f4.f1.tag;
+        v9.f1.bool_0 = v4.f4.f1.bool_0;
+        v9.f1.u64_0 = v4.f4.f1.u64_0;
+        v9.f1.u64_1 = v4.f4.f1.u64_1;
+        v9.f2 = v4.f4.f2;
+        v9.f3 = v4.f4.f3;
+        v7 = c2_target_step__interface__served(a1, v4.f2, &v9, a1->f1);
     }
-    result = c2_target_step__interface__served(a1, v5.f2, &v6, a1->f1);
+    result.f0.tag = v7.f0.tag;
+    result.f0.u64_0 = v7.f0.u64_0;
+    result.f0.u64_1 = v7.f0.u64_1;
+    result.f0.c2_target__Effect_0.tag = v7.f0.c2_target__Effect_0.tag;
+    result.f0.c2_target__Effect_0.u64_0 = v7.f0.c2_target__Effect_0.u64_0;
+    result.f1 = v7.f1;
+    result.f2 = v7.f2;
+    result.f3.f0 = v7.f3.f0;
+    result.f3.f1 = v7.f3.f1;
+    result.f3.f2 = v7.f3.f2;
+    result.f3.f3.f0 = v7.f3.f3.f0;
+    result.f3.f3.f1 = v7.f3.f3.f1;
+    result.f3.f3.f2 = v7.f3.f3.f2;
+    result.f3.f3.f3 = v7.f3.f3.f3;
+    result.f3.f4.f0.tag = v7.f3.f4.f0.tag;
+    result.f3.f4.f0.u64_0 = v7.f3.f4.f0.u64_0;
+    result.f3.f4.f0.bool_0 = v7.f3.f4.f0.bool_0;
+    result.f3.f4.f0.u64_1 = v7.f3.f4.f0.u64_1;
+    result.f3.f4.f1.tag = v7.f3.f4.f1.tag;
+    result.f3.f4.f1.bool_0 = v7.f3.f4.f1.bool_0;
+    result.f3.f4.f1.u64_0 = v7.f3.f4.f1.u64_0;
+    result.f3.f4.f1.u64_1 = v7.f3.f4.f1.u64_1;
+    result.f3.f4.f2 = v7.f3.f4.f2;
+    result.f3.f4.f3 = v7.f3.f4.f3;
     return result;
 }
 
 /* c2_target_step::interface::next_keys */
-static uint64_t c2_target_step__interface__next_keys(uint64_t a1, uint64_t a2, uint64_t a3)
+static uint64_t c2_target_step__interface__next_keys(uint64_t a1, uint64_t a2, uint8_t a3)
 {
     uint64_t result;
     _Bool v4;
-    _Bool v5;
-    _Bool v6;
-    _Bool v7;
-    v4 = a1 == UINT64_C(2);
+    uint64_t v5;
+    uint8_t v6;
+    uint64_t v7;
+    uint64_t v8;
+    v5 = core__convert__UsizeFromU8__from(2u);
+    v4 = a1 == v5;
+    v6 = a3;
+    v7 = a2;
     if (v4) {
-        v5 = a3 == UINT64_C(2);
-        if (v5) {
-            result = UINT64_C(1);
-            return result;
-        }
-        v5 = a3 == UINT64_C(4);
-        if (v5) {
-            v6 = a2 == UINT64_C(1);
-            if (v6) {
-                result = UINT64_C(2);
-                return result;
+        switch (v6) {
+        case 2u:
+            v8 = UINT64_C(1);
+            goto end1;
+        case 4u:
+            switch (v7) {
+            case 1u:
+                v8 = UINT64_C(2);
+                goto end1;
+            default:
+                goto end2;
             }
-            result = UINT64_C(0);
-            return result;
-        }
-        v5 = a3 == UINT64_C(1);
-        if (v5) {
-            v7 = a2 == UINT64_C(2);
-            if (v7) {
-                result = UINT64_C(3);
-                return result;
+        case 1u:
+            switch (v7) {
+            case 2u:
+                v8 = UINT64_C(3);
+                goto end1;
+            default:
+                goto end2;
             }
-            result = UINT64_C(0);
-            return result;
+        default:
+            goto end2;
         }
-        result = UINT64_C(0);
-        return result;
+    } else {
+        goto end2;
     }
-    result = UINT64_C(0);
+    end2:;
+    v8 = UINT64_C(0);
+    end1:;
+    result = v8;
     return result;
 }
 
 /* c2_target_step::commands::byte_taken */
-static c2_target_step__Taking c2_target_step__commands__byte_taken(uint64_t a1, uint64_t a2, slice_u8 a3)
+static core__tuple_Command_Output c2_target_step__commands__byte_taken(uint64_t a1, uint64_t a2, slice_u8 a3)
 {
-    c2_target_step__Taking result;
-    _Bool v4;
-    uint64_t v5;
-    uint64_t v6;
-    c2_target__Command v7;
-    c2_target__Output v8;
-    c2_target__Command v9;
-    c2_target__Output v10;
+    core__tuple_Command_Output result;
+    c2_target__Command v4;
+    _Bool v5;
+    core__tuple_Command_Output v6;
+    uint64_t v7;
+    uint64_t v8;
+    c2_target__Output v9;
+    c2_target__Command v10;
+    c2_target__Output v11;
     (void)a3;
-    v4 = UINT64_C(1) < a2;
-    if (v4) {
-        v5 = a1 + UINT64_C(1);
-        v6 = a2 - UINT64_C(1);
-        v7.tag = 6u;
-        v7.u64_0 = v5;
-        v7.u64_1 = v6;
-        v7.bool_0 = 0;
-        v8.tag = 0u;
-        v8.bool_0 = 0;
-        v8.u64_0 = 0;
-        v8.u64_1 = 0;
-        result.f0.tag = v7.tag;
-        result.f0.u64_0 = v7.u64_0;
-        result.f0.bool_0 = v7.bool_0;
-        result.f0.u64_1 = v7.u64_1;
-        result.f1.tag = v8.tag;
-        result.f1.bool_0 = v8.bool_0;
-        result.f1.u64_0 = v8.u64_0;
-        result.f1.u64_1 = v8.u64_1;
-        return result;
+    v5 = UINT64_C(1) < a2;
+    if (v5) {
+        v7 = a1 + UINT64_C(1);
+        v8 = a2 - UINT64_C(1);
+        v4.tag = 6u;
+        v4.u64_0 = v7;
+        v4.u64_1 = v8;
+        v4.bool_0 = 0;
+        v9.tag = 0u;
+        v9.bool_0 = 0;
+        v9.u64_0 = 0;
+        v9.u64_1 = 0;
+        v6.f0.tag = v4.tag;
+        v6.f0.u64_0 = v4.u64_0;
+        v6.f0.bool_0 = v4.bool_0;
+        v6.f0.u64_1 = v4.u64_1;
+        v6.f1.tag = v9.tag;
+        v6.f1.bool_0 = v9.bool_0;
+        v6.f1.u64_0 = v9.u64_0;
+        v6.f1.u64_1 = v9.u64_1;
+    } else {
+        v10.tag = 0u;
+        v10.u64_0 = 0;
+        v10.bool_0 = 0;
+        v10.u64_1 = 0;
+        v11.tag = 1u;
+        v11.bool_0 = 1;
+        v11.u64_0 = 0;
+        v11.u64_1 = 0;
+        v6.f0.tag = v10.tag;
+        v6.f0.u64_0 = v10.u64_0;
+        v6.f0.bool_0 = v10.bool_0;
+        v6.f0.u64_1 = v10.u64_1;
+        v6.f1.tag = v11.tag;
+        v6.f1.bool_0 = v11.bool_0;
+        v6.f1.u64_0 = v11.u64_0;
+        v6.f1.u64_1 = v11.u64_1;
     }
-    v9.tag = 0u;
-    v9.u64_0 = 0;
-    v9.bool_0 = 0;
-    v9.u64_1 = 0;
-    v10.tag = 1u;
-    v10.bool_0 = 1;
-    v10.u64_0 = 0;
-    v10.u64_1 = 0;
-    result.f0.tag = v9.tag;
-    result.f0.u64_0 = v9.u64_0;
-    result.f0.bool_0 = v9.bool_0;
-    result.f0.u64_1 = v9.u64_1;
-    result.f1.tag = v10.tag;
-    result.f1.bool_0 = v10.bool_0;
-    result.f1.u64_0 = v10.u64_0;
-    result.f1.u64_1 = v10.u64_1;
+    result.f0.tag = v6.f0.tag;
+    result.f0.u64_0 = v6.f0.u64_0;
+    result.f0.bool_0 = v6.f0.bool_0;
+    result.f0.u64_1 = v6.f0.u64_1;
+    result.f1.tag = v6.f1.tag;
+    result.f1.bool_0 = v6.f1.bool_0;
+    result.f1.u64_0 = v6.f1.u64_0;
+    result.f1.u64_1 = v6.f1.u64_1;
     return result;
 }
 
-/* c2_target_step::commands::confirm_taken */
-static c2_target_step__Taking c2_target_step__commands__confirm_taken(uint64_t a1)
+/* c2_target_step::commands::goes_on */
+static core__tuple_Command_Output c2_target_step__commands__goes_on(_Bool a1, const c2_target__Command *a2)
 {
-    c2_target_step__Taking result;
-    _Bool v2;
+    core__tuple_Command_Output result;
     c2_target__Command v3;
-    c2_target__Output v4;
+    _Bool v4;
     c2_target__Command v5;
     c2_target__Output v6;
-    v2 = a1 == UINT64_C(0);
-    if (v2) {
-        v3.tag = 0u;
-        v3.u64_0 = 0;
-        v3.bool_0 = 0;
-        v3.u64_1 = 0;
-        v4.tag = 1u;
-        v4.bool_0 = 1;
-        v4.u64_0 = 0;
-        v4.u64_1 = 0;
-        result.f0.tag = v3.tag;
-        result.f0.u64_0 = v3.u64_0;
-        result.f0.bool_0 = v3.bool_0;
-        result.f0.u64_1 = v3.u64_1;
-        result.f1.tag = v4.tag;
-        result.f1.bool_0 = v4.bool_0;
-        result.f1.u64_0 = v4.u64_0;
-        result.f1.u64_1 = v4.u64_1;
-        return result;
+    v4 = a1;
+    if (v4) {
+        v5.tag = a2->tag;
+        v5.u64_0 = a2->u64_0;
+        v5.bool_0 = a2->bool_0;
+        v5.u64_1 = a2->u64_1;
+    } else {
+        v5.tag = 0u;
+        v5.u64_0 = 0;
+        v5.bool_0 = 0;
+        v5.u64_1 = 0;
     }
-    v5.tag = 0u;
-    v5.u64_0 = 0;
-    v5.bool_0 = 0;
-    v5.u64_1 = 0;
+    v3.tag = v5.tag;
+    v3.u64_0 = v5.u64_0;
+    v3.bool_0 = v5.bool_0;
+    v3.u64_1 = v5.u64_1;
     v6.tag = 1u;
-    v6.bool_0 = 0;
+    v6.bool_0 = a1;
     v6.u64_0 = 0;
     v6.u64_1 = 0;
-    result.f0.tag = v5.tag;
-    result.f0.u64_0 = v5.u64_0;
-    result.f0.bool_0 = v5.bool_0;
-    result.f0.u64_1 = v5.u64_1;
+    result.f0.tag = v3.tag;
+    result.f0.u64_0 = v3.u64_0;
+    result.f0.bool_0 = v3.bool_0;
+    result.f0.u64_1 = v3.u64_1;
     result.f1.tag = v6.tag;
     result.f1.bool_0 = v6.bool_0;
     result.f1.u64_0 = v6.u64_0;
@@ -4511,16 +4792,18 @@ static c2_target_step__Taking c2_target_step__commands__confirm_taken(uint64_t a
 }
 
 /* c2_target_step::commands::coded_length */
-static uint64_t c2_target_step__commands__coded_length(uint64_t a1)
+static uint64_t c2_target_step__commands__coded_length(uint8_t a1)
 {
     uint64_t result;
     _Bool v2;
-    v2 = a1 == UINT64_C(0);
+    uint64_t v3;
+    v2 = a1 == 0u;
     if (v2) {
-        result = UINT64_C(256);
-        return result;
+        v3 = UINT64_C(256);
+    } else {
+        v3 = core__convert__UsizeFromU8__from(a1);
     }
-    result = a1;
+    result = v3;
     return result;
 }
 
@@ -4528,539 +4811,464 @@ static uint64_t c2_target_step__commands__coded_length(uint64_t a1)
 static _Bool c2_target_step__flash__in_flash(uint64_t a1, uint64_t a2, slice_u8 a3)
 {
     _Bool result;
-    uint64_t v4;
-    _Bool v5;
+    _Bool v4;
+    uint64_t v5;
     uint64_t v6;
     uint64_t v7;
-    v4 = a3.length;
-    v5 = a1 <= v4;
-    if (v5) {
+    v5 = a3.length;
+    v4 = a1 <= v5;
+    if (v4) {
         v6 = a3.length;
         v7 = v6 - a1;
-        result = a2 <= v7;
-        return result;
+        v4 = a2 <= v7;
     }
-    result = 0;
+    result = v4;
     return result;
 }
 
 /* c2_target_step::commands::length_taken */
-static c2_target_step__Taking c2_target_step__commands__length_taken(_Bool a1, uint64_t a2, uint64_t a3,
+static core__tuple_Command_Output c2_target_step__commands__length_taken(_Bool a1, uint64_t a2, uint8_t a3,
     slice_u8 a4)
 {
-    c2_target_step__Taking result;
+    core__tuple_Command_Output result;
     uint64_t v5;
     _Bool v6;
     _Bool v7;
-    c2_target__Command v8;
-    c2_target__Output v9;
-    c2_target__Command v10;
-    c2_target__Output v11;
-    _Bool v12;
+    core__tuple_Command_Output v8;
+    c2_target__Command v9;
+    c2_target__Output v10;
+    c2_target__Command v11;
+    c2_target__Output v12;
     c2_target__Command v13;
     c2_target__Output v14;
     c2_target__Command v15;
     c2_target__Output v16;
     v5 = c2_target_step__commands__coded_length(a3);
     v6 = a1;
+    v7 = c2_target_step__flash__in_flash(a2, v5, a4);
     if (v6) {
-        v7 = c2_target_step__flash__in_flash(a2, v5, a4);
         if (v7) {
-            v8.tag = 6u;
-            v8.u64_0 = a2;
-            v8.u64_1 = v5;
-            v8.bool_0 = 0;
-            v9.tag = 0u;
+            v9.tag = 6u;
+            v9.u64_0 = a2;
+            v9.u64_1 = v5;
             v9.bool_0 = 0;
-            v9.u64_0 = 0;
-            v9.u64_1 = 0;
-            result.f0.tag = v8.tag;
-            result.f0.u64_0 = v8.u64_0;
-            result.f0.bool_0 = v8.bool_0;
-            result.f0.u64_1 = v8.u64_1;
-            result.f1.tag = v9.tag;
-            result.f1.bool_0 = v9.bool_0;
-            result.f1.u64_0 = v9.u64_0;
-            result.f1.u64_1 = v9.u64_1;
-            return result;
+            v10.tag = 0u;
+            v10.bool_0 = 0;
+            v10.u64_0 = 0;
+            v10.u64_1 = 0;
+            v8.f0.tag = v9.tag;
+            v8.f0.u64_0 = v9.u64_0;
+            v8.f0.bool_0 = v9.bool_0;
+            v8.f0.u64_1 = v9.u64_1;
+            v8.f1.tag = v10.tag;
+            v8.f1.bool_0 = v10.bool_0;
+            v8.f1.u64_0 = v10.u64_0;
+            v8.f1.u64_1 = v10.u64_1;
+        } else {
+            v11.tag = 7u;
+            v11.u64_0 = v5;
+            v11.bool_0 = 0;
+            v11.u64_1 = 0;
+            v12.tag = 0u;
+            v12.bool_0 = 0;
+            v12.u64_0 = 0;
+            v12.u64_1 = 0;
+            v8.f0.tag = v11.tag;
+            v8.f0.u64_0 = v11.u64_0;
+            v8.f0.bool_0 = v11.bool_0;
+            v8.f0.u64_1 = v11.u64_1;
+            v8.f1.tag = v12.tag;
+            v8.f1.bool_0 = v12.bool_0;
+            v8.f1.u64_0 = v12.u64_0;
+            v8.f1.u64_1 = v12.u64_1;
         }
-        v10.tag = 7u;
-        v10.u64_0 = v5;
-        v10.bool_0 = 0;
-        v10.u64_1 = 0;
-        v11.tag = 0u;
-        v11.bool_0 = 0;
-        v11.u64_0 = 0;
-        v11.u64_1 = 0;
-        result.f0.tag = v10.tag;
-        result.f0.u64_0 = v10.u64_0;
-        result.f0.bool_0 = v10.bool_0;
-        result.f0.u64_1 = v10.u64_1;
-        result.f1.tag = v11.tag;
-        result.f1.bool_0 = v11.bool_0;
-        result.f1.u64_0 = v11.u64_0;
-        result.f1.u64_1 = v11.u64_1;
-        return result;
+    } else {
+        if (v7) {
+            v13.tag = 0u;
+            v13.u64_0 = 0;
+            v13.bool_0 = 0;
+            v13.u64_1 = 0;
+            v14.tag = 2u;
+            v14.u64_0 = a2;
+            v14.u64_1 = v5;
+            v14.bool_0 = 0;
+            v8.f0.tag = v13.tag;
+            v8.f0.u64_0 = v13.u64_0;
+            v8.f0.bool_0 = v13.bool_0;
+            v8.f0.u64_1 = v13.u64_1;
+            v8.f1.tag = v14.tag;
+            v8.f1.bool_0 = v14.bool_0;
+            v8.f1.u64_0 = v14.u64_0;
+            v8.f1.u64_1 = v14.u64_1;
+        } else {
+            v15.tag = 0u;
+            v15.u64_0 = 0;
+            v15.bool_0 = 0;
+            v15.u64_1 = 0;
+            v16.tag = 1u;
+            v16.bool_0 = 0;
+            v16.u64_0 = 0;
+            v16.u64_1 = 0;
+            v8.f0.tag = v15.tag;
+            v8.f0.u64_0 = v15.u64_0;
+            v8.f0.bool_0 = v15.bool_0;
+            v8.f0.u64_1 = v15.u64_1;
+            v8.f1.tag = v16.tag;
+            v8.f1.bool_0 = v16.bool_0;
+            v8.f1.u64_0 = v16.u64_0;
+            v8.f1.u64_1 = v16.u64_1;
+        }
     }
-    v12 = c2_target_step__flash__in_flash(a2, v5, a4);
-    if (v12) {
-        v13.tag = 0u;
-        v13.u64_0 = 0;
-        v13.bool_0 = 0;
-        v13.u64_1 = 0;
-        v14.tag = 2u;
-        v14.u64_0 = a2;
-        v14.u64_1 = v5;
-        v14.bool_0 = 0;
-        result.f0.tag = v13.tag;
-        result.f0.u64_0 = v13.u64_0;
-        result.f0.bool_0 = v13.bool_0;
-        result.f0.u64_1 = v13.u64_1;
-        result.f1.tag = v14.tag;
-        result.f1.bool_0 = v14.bool_0;
-        result.f1.u64_0 = v14.u64_0;
-        result.f1.u64_1 = v14.u64_1;
-        return result;
-    }
-    v15.tag = 0u;
-    v15.u64_0 = 0;
-    v15.bool_0 = 0;
-    v15.u64_1 = 0;
-    v16.tag = 1u;
-    v16.bool_0 = 0;
-    v16.u64_0 = 0;
-    v16.u64_1 = 0;
-    result.f0.tag = v15.tag;
-    result.f0.u64_0 = v15.u64_0;
-    result.f0.bool_0 = v15.bool_0;
-    result.f0.u64_1 = v15.u64_1;
-    result.f1.tag = v16.tag;
-    result.f1.bool_0 = v16.bool_0;
-    result.f1.u64_0 = v16.u64_0;
-    result.f1.u64_1 = v16.u64_1;
-    return result;
-}
-
-/* c2_target_step::commands::low_taken */
-static c2_target_step__Taking c2_target_step__commands__low_taken(_Bool a1, uint64_t a2, uint64_t a3)
-{
-    c2_target_step__Taking result;
-    uint64_t v4;
-    uint64_t v5;
-    c2_target__Command v6;
-    c2_target__Output v7;
-    v4 = a2 * UINT64_C(256);
-    v5 = v4 + a3;
-    v6.tag = 5u;
-    v6.bool_0 = a1;
-    v6.u64_0 = v5;
-    v6.u64_1 = 0;
-    v7.tag = 0u;
-    v7.bool_0 = 0;
-    v7.u64_0 = 0;
-    v7.u64_1 = 0;
-    result.f0.tag = v6.tag;
-    result.f0.u64_0 = v6.u64_0;
-    result.f0.bool_0 = v6.bool_0;
-    result.f0.u64_1 = v6.u64_1;
-    result.f1.tag = v7.tag;
-    result.f1.bool_0 = v7.bool_0;
-    result.f1.u64_0 = v7.u64_0;
-    result.f1.u64_1 = v7.u64_1;
-    return result;
-}
-
-/* c2_target_step::commands::if_ready */
-static c2_target_step__Taking c2_target_step__commands__if_ready(_Bool a1, const c2_target__Command *a2)
-{
-    c2_target_step__Taking result;
-    _Bool v3;
-    c2_target__Output v4;
-    c2_target__Command v5;
-    c2_target__Output v6;
-    v3 = a1;
-    if (v3) {
-        v4.tag = 1u;
-        v4.bool_0 = 1;
-        v4.u64_0 = 0;
-        v4.u64_1 = 0;
-        result.f0.tag = a2->tag;
-        result.f0.u64_0 = a2->u64_0;
-        result.f0.bool_0 = a2->bool_0;
-        result.f0.u64_1 = a2->u64_1;
-        result.f1.tag = v4.tag;
-        result.f1.bool_0 = v4.bool_0;
-        result.f1.u64_0 = v4.u64_0;
-        result.f1.u64_1 = v4.u64_1;
-        return result;
-    }
-    v5.tag = 0u;
-    v5.u64_0 = 0;
-    v5.bool_0 = 0;
-    v5.u64_1 = 0;
-    v6.tag = 1u;
-    v6.bool_0 = 0;
-    v6.u64_0 = 0;
-    v6.u64_1 = 0;
-    result.f0.tag = v5.tag;
-    result.f0.u64_0 = v5.u64_0;
-    result.f0.bool_0 = v5.bool_0;
-    result.f0.u64_1 = v5.u64_1;
-    result.f1.tag = v6.tag;
-    result.f1.bool_0 = v6.bool_0;
-    result.f1.u64_0 = v6.u64_0;
-    result.f1.u64_1 = v6.u64_1;
+    result.f0.tag = v8.f0.tag;
+    result.f0.u64_0 = v8.f0.u64_0;
+    result.f0.bool_0 = v8.f0.bool_0;
+    result.f0.u64_1 = v8.f0.u64_1;
+    result.f1.tag = v8.f1.tag;
+    result.f1.bool_0 = v8.f1.bool_0;
+    result.f1.u64_0 = v8.f1.u64_0;
+    result.f1.u64_1 = v8.f1.u64_1;
     return result;
 }
 
 /* c2_target_step::commands::opens */
-static c2_target_step__Taking c2_target_step__commands__opens(_Bool a1, uint64_t a2)
+static core__tuple_Command_Output c2_target_step__commands__opens(_Bool a1, uint8_t a2)
 {
-    c2_target_step__Taking result;
-    _Bool v3;
+    core__tuple_Command_Output result;
+    core__tuple_Command_Output v3;
     c2_target__Command v4;
     c2_target__Command v5;
     c2_target__Command v6;
-    c2_target__Output v7;
-    c2_target__Command v8;
-    c2_target__Output v9;
-    v3 = a2 == UINT64_C(8);
-    if (v3) {
+    c2_target__Command v7;
+    switch (a2) {
+    case 8u:
         v4.tag = 1u;
         v4.u64_0 = 0;
         v4.bool_0 = 0;
         v4.u64_1 = 0;
-        result = c2_target_step__commands__if_ready(a1, &v4);
-        return result;
-    }
-    v3 = a2 == UINT64_C(7);
-    if (v3) {
+        v3 = c2_target_step__commands__goes_on(a1, &v4);
+        break;
+    case 7u:
         v5.tag = 3u;
         v5.bool_0 = 1;
         v5.u64_0 = 0;
         v5.u64_1 = 0;
-        result = c2_target_step__commands__if_ready(a1, &v5);
-        return result;
-    }
-    v3 = a2 == UINT64_C(6);
-    if (v3) {
+        v3 = c2_target_step__commands__goes_on(a1, &v5);
+        break;
+    case 6u:
         v6.tag = 3u;
         v6.bool_0 = 0;
         v6.u64_0 = 0;
         v6.u64_1 = 0;
-        v7.tag = 1u;
-        v7.bool_0 = 1;
+        v3 = c2_target_step__commands__goes_on(1, &v6);
+        break;
+    default:
+        v7.tag = 0u;
         v7.u64_0 = 0;
+        v7.bool_0 = 0;
         v7.u64_1 = 0;
-        result.f0.tag = v6.tag;
-        result.f0.u64_0 = v6.u64_0;
-        result.f0.bool_0 = v6.bool_0;
-        result.f0.u64_1 = v6.u64_1;
-        result.f1.tag = v7.tag;
-        result.f1.bool_0 = v7.bool_0;
-        result.f1.u64_0 = v7.u64_0;
-        result.f1.u64_1 = v7.u64_1;
-        return result;
+        v3 = c2_target_step__commands__goes_on(0, &v7);
+        break;
     }
-    v8.tag = 0u;
-    v8.u64_0 = 0;
-    v8.bool_0 = 0;
-    v8.u64_1 = 0;
-    v9.tag = 1u;
-    v9.bool_0 = 0;
-    v9.u64_0 = 0;
-    v9.u64_1 = 0;
-    result.f0.tag = v8.tag;
-    result.f0.u64_0 = v8.u64_0;
-    result.f0.bool_0 = v8.bool_0;
-    result.f0.u64_1 = v8.u64_1;
-    result.f1.tag = v9.tag;
-    result.f1.bool_0 = v9.bool_0;
-    result.f1.u64_0 = v9.u64_0;
-    result.f1.u64_1 = v9.u64_1;
-    return result;
-}
-
-/* c2_target_step::commands::page_taken */
-static c2_target_step__Taking c2_target_step__commands__page_taken(const c2_settings *a1, uint64_t a2)
-{
-    c2_target_step__Taking result;
-    uint64_t v3;
-    _Bool v4;
-    c2_target__Command v5;
-    c2_target__Output v6;
-    c2_target__Command v7;
-    c2_target__Output v8;
-    v3 = (uint64_t)a1->page_count;
-    v4 = a2 < v3;
-    if (v4) {
-        v5.tag = 2u;
-        v5.u64_0 = a2;
-        v5.bool_0 = 0;
-        v5.u64_1 = 0;
-        v6.tag = 1u;
-        v6.bool_0 = 1;
-        v6.u64_0 = 0;
-        v6.u64_1 = 0;
-        result.f0.tag = v5.tag;
-        result.f0.u64_0 = v5.u64_0;
-        result.f0.bool_0 = v5.bool_0;
-        result.f0.u64_1 = v5.u64_1;
-        result.f1.tag = v6.tag;
-        result.f1.bool_0 = v6.bool_0;
-        result.f1.u64_0 = v6.u64_0;
-        result.f1.u64_1 = v6.u64_1;
-        return result;
-    }
-    v7.tag = 0u;
-    v7.u64_0 = 0;
-    v7.bool_0 = 0;
-    v7.u64_1 = 0;
-    v8.tag = 1u;
-    v8.bool_0 = 0;
-    v8.u64_0 = 0;
-    v8.u64_1 = 0;
-    result.f0.tag = v7.tag;
-    result.f0.u64_0 = v7.u64_0;
-    result.f0.bool_0 = v7.bool_0;
-    result.f0.u64_1 = v7.u64_1;
-    result.f1.tag = v8.tag;
-    result.f1.bool_0 = v8.bool_0;
-    result.f1.u64_0 = v8.u64_0;
-    result.f1.u64_1 = v8.u64_1;
+    result.f0.tag = v3.f0.tag;
+    result.f0.u64_0 = v3.f0.u64_0;
+    result.f0.bool_0 = v3.f0.bool_0;
+    result.f0.u64_1 = v3.f0.u64_1;
+    result.f1.tag = v3.f1.tag;
+    result.f1.bool_0 = v3.f1.bool_0;
+    result.f1.u64_0 = v3.f1.u64_0;
+    result.f1.u64_1 = v3.f1.u64_1;
     return result;
 }
 
 /* c2_target_step::commands::past_end_taken */
-static c2_target_step__Taking c2_target_step__commands__past_end_taken(uint64_t a1)
+static core__tuple_Command_Output c2_target_step__commands__past_end_taken(uint64_t a1)
 {
-    c2_target_step__Taking result;
+    core__tuple_Command_Output result;
     _Bool v2;
-    uint64_t v3;
-    c2_target__Command v4;
-    c2_target__Output v5;
-    c2_target__Command v6;
-    c2_target__Output v7;
+    core__tuple_Command_Output v3;
+    uint64_t v4;
+    c2_target__Command v5;
+    c2_target__Output v6;
+    c2_target__Command v7;
+    c2_target__Output v8;
     v2 = UINT64_C(1) < a1;
     if (v2) {
-        v3 = a1 - UINT64_C(1);
-        v4.tag = 7u;
-        v4.u64_0 = v3;
-        v4.bool_0 = 0;
-        v4.u64_1 = 0;
-        v5.tag = 0u;
+        v4 = a1 - UINT64_C(1);
+        v5.tag = 7u;
+        v5.u64_0 = v4;
         v5.bool_0 = 0;
-        v5.u64_0 = 0;
         v5.u64_1 = 0;
-        result.f0.tag = v4.tag;
-        result.f0.u64_0 = v4.u64_0;
-        result.f0.bool_0 = v4.bool_0;
-        result.f0.u64_1 = v4.u64_1;
-        result.f1.tag = v5.tag;
-        result.f1.bool_0 = v5.bool_0;
-        result.f1.u64_0 = v5.u64_0;
-        result.f1.u64_1 = v5.u64_1;
-        return result;
+        v6.tag = 0u;
+        v6.bool_0 = 0;
+        v6.u64_0 = 0;
+        v6.u64_1 = 0;
+        v3.f0.tag = v5.tag;
+        v3.f0.u64_0 = v5.u64_0;
+        v3.f0.bool_0 = v5.bool_0;
+        v3.f0.u64_1 = v5.u64_1;
+        v3.f1.tag = v6.tag;
+        v3.f1.bool_0 = v6.bool_0;
+        v3.f1.u64_0 = v6.u64_0;
+        v3.f1.u64_1 = v6.u64_1;
+    } else {
+        v7.tag = 0u;
+        v7.u64_0 = 0;
+        v7.bool_0 = 0;
+        v7.u64_1 = 0;
+        v8.tag = 1u;
+        v8.bool_0 = 0;
+        v8.u64_0 = 0;
+        v8.u64_1 = 0;
+        v3.f0.tag = v7.tag;
+        v3.f0.u64_0 = v7.u64_0;
+        v3.f0.bool_0 = v7.bool_0;
+        v3.f0.u64_1 = v7.u64_1;
+        v3.f1.tag = v8.tag;
+        v3.f1.bool_0 = v8.bool_0;
+        v3.f1.u64_0 = v8.u64_0;
+        v3.f1.u64_1 = v8.u64_1;
     }
-    v6.tag = 0u;
-    v6.u64_0 = 0;
-    v6.bool_0 = 0;
-    v6.u64_1 = 0;
-    v7.tag = 1u;
-    v7.bool_0 = 0;
-    v7.u64_0 = 0;
-    v7.u64_1 = 0;
-    result.f0.tag = v6.tag;
-    result.f0.u64_0 = v6.u64_0;
-    result.f0.bool_0 = v6.bool_0;
-    result.f0.u64_1 = v6.u64_1;
-    result.f1.tag = v7.tag;
-    result.f1.bool_0 = v7.bool_0;
-    result.f1.u64_0 = v7.u64_0;
-    result.f1.u64_1 = v7.u64_1;
+    result.f0.tag = v3.f0.tag;
+    result.f0.u64_0 = v3.f0.u64_0;
+    result.f0.bool_0 = v3.f0.bool_0;
+    result.f0.u64_1 = v3.f0.u64_1;
+    result.f1.tag = v3.f1.tag;
+    result.f1.bool_0 = v3.f1.bool_0;
+    result.f1.u64_0 = v3.f1.u64_0;
+    result.f1.u64_1 = v3.f1.u64_1;
+    return result;
+}
+
+/* core::convert::U32FromU8::from */
+static uint32_t core__convert__U32FromU8__from(uint8_t a1)
+{
+    uint32_t result;
+    result = (uint32_t)a1;
     return result;
 }
 
 /* c2_target_step::commands::takes */
-static c2_target_step__Taking c2_target_step__commands__takes(const c2_settings *a1, _Bool a2,
-    const c2_target__Command *a3, uint64_t a4, slice_u8 a5)
+static core__tuple_Command_Output c2_target_step__commands__takes(const c2_settings *a1, _Bool a2,
+    const c2_target__Command *a3, uint8_t a4, slice_u8 a5)
 {
-    c2_target_step__Taking result;
-    _Bool v6;
+    core__tuple_Command_Output result;
+    uint64_t v6;
     _Bool v7;
     uint64_t v8;
     _Bool v9;
     uint64_t v10;
     uint64_t v11;
-    uint64_t v12;
+    _Bool v12;
     uint64_t v13;
-    c2_target_step__Taking v14;
-    c2_target__Command v15;
-    c2_target__Output v16;
+    uint64_t v14;
+    uint64_t v15;
+    uint64_t v16;
+    core__tuple_Command_Output v17;
+    uint32_t v18;
+    _Bool v19;
+    c2_target__Command v20;
+    _Bool v21;
+    c2_target__Command v22;
+    c2_target__Command v23;
+    c2_target__Output v24;
+    uint64_t v25;
+    uint64_t v26;
+    c2_target__Command v27;
+    c2_target__Output v28;
     switch (a3->tag) {
     case 0u:
-        v14 = c2_target_step__commands__opens(a2, a4);
+        v17 = c2_target_step__commands__opens(a2, a4);
         break;
     case 1u:
-        v14 = c2_target_step__commands__page_taken(a1, a4);
+        v6 = core__convert__UsizeFromU8__from(a4);
+        v18 = core__convert__U32FromU8__from(a4);
+        v19 = v18 < a1->page_count;
+        v20.tag = 2u;
+        v20.u64_0 = v6;
+        v20.bool_0 = 0;
+        v20.u64_1 = 0;
+        v17 = c2_target_step__commands__goes_on(v19, &v20);
         break;
     case 2u:
-        v14 = c2_target_step__commands__confirm_taken(a4);
+        v21 = a4 == 0u;
+        v22.tag = 0u;
+        v22.u64_0 = 0;
+        v22.bool_0 = 0;
+        v22.u64_1 = 0;
+        v17 = c2_target_step__commands__goes_on(v21, &v22);
         break;
     case 3u:
-        v6 = a3->bool_0;
-        v15.tag = 4u;
-        v15.bool_0 = v6;
-        v15.u64_0 = a4;
-        v15.u64_1 = 0;
-        v16.tag = 0u;
-        v16.bool_0 = 0;
-        v16.u64_0 = 0;
-        v16.u64_1 = 0;
-        v14.f0.tag = v15.tag;
-        v14.f0.u64_0 = v15.u64_0;
-        v14.f0.bool_0 = v15.bool_0;
-        v14.f0.u64_1 = v15.u64_1;
-        v14.f1.tag = v16.tag;
-        v14.f1.bool_0 = v16.bool_0;
-        v14.f1.u64_0 = v16.u64_0;
-        v14.f1.u64_1 = v16.u64_1;
+        v7 = a3->bool_0;
+        v8 = core__convert__UsizeFromU8__from(a4);
+        v23.tag = 4u;
+        v23.bool_0 = v7;
+        v23.u64_0 = v8;
+        v23.u64_1 = 0;
+        v24.tag = 0u;
+        v24.bool_0 = 0;
+        v24.u64_0 = 0;
+        v24.u64_1 = 0;
+        v17.f0.tag = v23.tag;
+        v17.f0.u64_0 = v23.u64_0;
+        v17.f0.bool_0 = v23.bool_0;
+        v17.f0.u64_1 = v23.u64_1;
+        v17.f1.tag = v24.tag;
+        v17.f1.bool_0 = v24.bool_0;
+        v17.f1.u64_0 = v24.u64_0;
+        v17.f1.u64_1 = v24.u64_1;
         break;
     case 4u:
-        v7 = a3->bool_0;
-        v8 = a3->u64_0;
-        v14 = c2_target_step__commands__low_taken(v7, v8, a4);
-        break;
-    case 5u:
         v9 = a3->bool_0;
         v10 = a3->u64_0;
-        v14 = c2_target_step__commands__length_taken(v9, v10, a4, a5);
+        v25 = v10 * UINT64_C(256);
+        v26 = core__convert__UsizeFromU8__from(a4);
+        v11 = v25 + v26;
+        v27.tag = 5u;
+        v27.bool_0 = v9;
+        v27.u64_0 = v11;
+        v27.u64_1 = 0;
+        v28.tag = 0u;
+        v28.bool_0 = 0;
+        v28.u64_0 = 0;
+        v28.u64_1 = 0;
+        v17.f0.tag = v27.tag;
+        v17.f0.u64_0 = v27.u64_0;
+        v17.f0.bool_0 = v27.bool_0;
+        v17.f0.u64_1 = v27.u64_1;
+        v17.f1.tag = v28.tag;
+        v17.f1.bool_0 = v28.bool_0;
+        v17.f1.u64_0 = v28.u64_0;
+        v17.f1.u64_1 = v28.u64_1;
+        break;
+    case 5u:
+        v12 = a3->bool_0;
+        v13 = a3->u64_0;
+        v17 = c2_target_step__commands__length_taken(v12, v13, a4, a5);
         break;
     case 6u:
-        v11 = a3->u64_0;
-        v12 = a3->u64_1;
-        v14 = c2_target_step__commands__byte_taken(v11, v12, a5);
+        v14 = a3->u64_0;
+        v15 = a3->u64_1;
+        v17 = c2_target_step__commands__byte_taken(v14, v15, a5);
         break;
     default: /* 7 */
-        v13 = a3->u64_0;
-        v14 = c2_target_step__commands__past_end_taken(v13);
+        v16 = a3->u64_0;
+        v17 = c2_target_step__commands__past_end_taken(v16);
         break;
     }
-    result.f0.tag = v14.f0.tag;
-    result.f0.u64_0 = v14.f0.u64_0;
-    result.f0.bool_0 = v14.f0.bool_0;
-    result.f0.u64_1 = v14.f0.u64_1;
-    result.f1.tag = v14.f1.tag;
-    result.f1.bool_0 = v14.f1.bool_0;
-    result.f1.u64_0 = v14.f1.u64_0;
-    result.f1.u64_1 = v14.f1.u64_1;
+    result.f0.tag = v17.f0.tag;
+    result.f0.u64_0 = v17.f0.u64_0;
+    result.f0.bool_0 = v17.f0.bool_0;
+    result.f0.u64_1 = v17.f0.u64_1;
+    result.f1.tag = v17.f1.tag;
+    result.f1.bool_0 = v17.f1.bool_0;
+    result.f1.u64_0 = v17.f1.u64_0;
+    result.f1.u64_1 = v17.f1.u64_1;
+    return result;
+}
+
+/* c2_target_wanted::prepared */
+static _Bool c2_target_wanted__prepared(const c2_pairs *a1, const c2_target__Met *a2)
+{
+    _Bool result;
+    uint8_t v3;
+    _Bool v4;
+    _Bool v5;
+    _Bool v6;
+    _Bool v7;
+    _Bool v8;
+    _Bool v9;
+    _Bool v10;
+    v3 = a1->count;
+    v7 = v3 == 0u;
+    if (!v7) {
+        v7 = a2->f0;
+    }
+    v6 = v7;
+    if (v6) {
+        v8 = v3 <= 1u;
+        if (!v8) {
+            v8 = a2->f1;
+        }
+        v6 = v8;
+    }
+    v5 = v6;
+    if (v5) {
+        v9 = v3 <= 2u;
+        if (!v9) {
+            v9 = a2->f2;
+        }
+        v5 = v9;
+    }
+    v4 = v5;
+    if (v4) {
+        v10 = v3 <= 3u;
+        if (!v10) {
+            v10 = a2->f3;
+        }
+        v4 = v10;
+    }
+    result = v4;
     return result;
 }
 
 /* c2_target_step::interface::puts */
-static c2_target__Target c2_target_step__interface__puts(const c2_target__Target *a1, const c2_settings *a2,
-    _Bool a3, uint64_t a4, uint64_t a5, slice_u8 a6, slice_u8 a7)
+static c2_target__Target c2_target_step__interface__puts(const c2_target__Target *a1,
+    const c2_target_step__Lent *a2, uint64_t a3, uint8_t a4, slice_u8 a5)
 {
     c2_target__Target result;
+    _Bool v6;
+    core__tuple_Command_Output v7;
     uint64_t v8;
-    c2_target__Device v9;
-    c2_target__Link v10;
-    c2_target__Command v11;
-    c2_target_step__Taking v12;
-    uint64_t v13;
+    c2_pairs v9;
+    c2_target__Met v10;
+    c2_settings v11;
+    c2_target__Command v12;
+    slice_u8 v13;
     uint64_t v14;
-    v8 = a1->f1;
-    v9.f0 = a1->f3.f0;
-    v9.f1 = a1->f3.f1;
-    v9.f2 = a1->f3.f2;
-    v9.f3.f0 = a1->f3.f3.f0;
-    v9.f3.f1 = a1->f3.f3.f1;
-    v9.f3.f2 = a1->f3.f3.f2;
-    v9.f3.f3 = a1->f3.f3.f3;
-    v9.f4.f0.tag = a1->f3.f4.f0.tag;
-    v9.f4.f0.u64_0 = a1->f3.f4.f0.u64_0;
-    v9.f4.f0.bool_0 = a1->f3.f4.f0.bool_0;
-    v9.f4.f0.u64_1 = a1->f3.f4.f0.u64_1;
-    v9.f4.f1.tag = a1->f3.f4.f1.tag;
-    v9.f4.f1.bool_0 = a1->f3.f4.f1.bool_0;
-    v9.f4.f1.u64_0 = a1->f3.f4.f1.u64_0;
-    v9.f4.f1.u64_1 = a1->f3.f4.f1.u64_1;
-    v9.f4.f2 = a1->f3.f4.f2;
-    v9.f4.f3 = a1->f3.f4.f3;
-    v10.f0.tag = v9.f4.f0.tag;
-    v10.f0.u64_0 = v9.f4.f0.u64_0;
-    v10.f0.bool_0 = v9.f4.f0.bool_0;
-    v10.f0.u64_1 = v9.f4.f0.u64_1;
-    v10.f1.tag = v9.f4.f1.tag;
-    v10.f1.bool_0 = v9.f4.f1.bool_0;
-    v10.f1.u64_0 = v9.f4.f1.u64_0;
-    v10.f1.u64_1 = v9.f4.f1.u64_1;
-    v10.f2 = v9.f4.f2;
-    v10.f3 = v9.f4.f3;
-    v11.tag = v10.f0.tag;
-    v11.u64_0 = v10.f0.u64_0;
-    v11.bool_0 = v10.f0.bool_0;
-    v11.u64_1 = v10.f0.u64_1;
-    v12 = c2_target_step__commands__takes(a2, a3, &v11, a5, a6);
-    v13 = c2_target_step__delays__delay(a7, v8);
-    v14 = c2_target_step__delays__next_place(a7, v8);
-    result = c2_target_step__interface__awaits(a1, a4, &v12, v13, v14, a7);
-    return result;
-}
-
-/* c2_target_step::interface::register_written */
-static c2_target__Target c2_target_step__interface__register_written(const c2_target__Target *a1, uint64_t a2,
-    const c2_target__Met *a3)
-{
-    c2_target__Target result;
-    c2_target__Device v4;
-    c2_target__Link v5;
-    c2_target__Device v6;
-    v4.f0 = a1->f3.f0;
-    v4.f1 = a1->f3.f1;
-    v4.f2 = a1->f3.f2;
-    v4.f3.f0 = a1->f3.f3.f0;
-    v4.f3.f1 = a1->f3.f3.f1;
-    v4.f3.f2 = a1->f3.f3.f2;
-    v4.f3.f3 = a1->f3.f3.f3;
-    v4.f4.f0.tag = a1->f3.f4.f0.tag;
-    v4.f4.f0.u64_0 = a1->f3.f4.f0.u64_0;
-    v4.f4.f0.bool_0 = a1->f3.f4.f0.bool_0;
-    v4.f4.f0.u64_1 = a1->f3.f4.f0.u64_1;
-    v4.f4.f1.tag = a1->f3.f4.f1.tag;
-    v4.f4.f1.bool_0 = a1->f3.f4.f1.bool_0;
-    v4.f4.f1.u64_0 = a1->f3.f4.f1.u64_0;
-    v4.f4.f1.u64_1 = a1->f3.f4.f1.u64_1;
-    v4.f4.f2 = a1->f3.f4.f2;
-    v4.f4.f3 = a1->f3.f4.f3;
-    v5.f0.tag = v4.f4.f0.tag;
-    v5.f0.u64_0 = v4.f4.f0.u64_0;
-    v5.f0.bool_0 = v4.f4.f0.bool_0;
-    v5.f0.u64_1 = v4.f4.f0.u64_1;
-    v5.f1.tag = v4.f4.f1.tag;
-    v5.f1.bool_0 = v4.f4.f1.bool_0;
-    v5.f1.u64_0 = v4.f4.f1.u64_0;
-    v5.f1.u64_1 = v4.f4.f1.u64_1;
-    v5.f2 = v4.f4.f2;
-    v5.f3 = v4.f4.f3;
-    v6.f0 = v4.f0;
-    v6.f1 = v4.f1;
-    v6.f2 = a2;
-    v6.f3.f0 = a3->f0;
-    v6.f3.f1 = a3->f1;
-    v6.f3.f2 = a3->f2;
-    v6.f3.f3 = a3->f3;
-    v6.f4.f0.tag = v5.f0.tag;
-    v6.f4.f0.u64_0 = v5.f0.u64_0;
-    v6.f4.f0.bool_0 = v5.f0.bool_0;
-    v6.f4.f0.u64_1 = v5.f0.u64_1;
-    v6.f4.f1.tag = v5.f1.tag;
-    v6.f4.f1.bool_0 = v5.f1.bool_0;
-    v6.f4.f1.u64_0 = v5.f1.u64_0;
-    v6.f4.f1.u64_1 = v5.f1.u64_1;
-    v6.f4.f2 = v5.f2;
-    v6.f4.f3 = v5.f3;
-    result = c2_target_step__interface__idle(a1, a1->f1, &v6);
+    slice_u8 v15;
+    slice_u8 v16;
+    v9.count = a2->f1.count;
+    v9.registers[0] = a2->f1.registers[0];
+    v9.registers[1] = a2->f1.registers[1];
+    v9.registers[2] = a2->f1.registers[2];
+    v9.registers[3] = a2->f1.registers[3];
+    v9.values[0] = a2->f1.values[0];
+    v9.values[1] = a2->f1.values[1];
+    v9.values[2] = a2->f1.values[2];
+    v9.values[3] = a2->f1.values[3];
+    v10.f0 = a1->f3.f3.f0;
+    v10.f1 = a1->f3.f3.f1;
+    v10.f2 = a1->f3.f3.f2;
+    v10.f3 = a1->f3.f3.f3;
+    v6 = c2_target_wanted__prepared(&v9, &v10);
+    v11.device_id = a2->f0.device_id;
+    v11.fpdat = a2->f0.fpdat;
+    v11.page_size = a2->f0.page_size;
+    v11.page_count = a2->f0.page_count;
+    v11.wait_limit = a2->f0.wait_limit;
+    v11.pairs.count = a2->f0.pairs.count;
+    v11.pairs.registers[0] = a2->f0.pairs.registers[0];
+    v11.pairs.registers[1] = a2->f0.pairs.registers[1];
+    v11.pairs.registers[2] = a2->f0.pairs.registers[2];
+    v11.pairs.registers[3] = a2->f0.pairs.registers[3];
+    v11.pairs.values[0] = a2->f0.pairs.values[0];
+    v11.pairs.values[1] = a2->f0.pairs.values[1];
+    v11.pairs.values[2] = a2->f0.pairs.values[2];
+    v11.pairs.values[3] = a2->f0.pairs.values[3];
+    v12.tag = a1->f3.f4.f0.tag;
+    v12.u64_0 = a1->f3.f4.f0.u64_0;
+    v12.bool_0 = a1->f3.f4.f0.bool_0;
+    v12.u64_1 = a1->f3.f4.f0.u64_1;
+    v7 = c2_target_step__commands__takes(&v11, v6, &v12, a4, a5);
+    v13.at = a2->f2.at;
+    v13.length = a2->f2.length;
+    v8 = c2_target_step__delays__next_place(v13, a1->f1);
+    v15.at = a2->f2.at;
+    v15.length = a2->f2.length;
+    v14 = c2_target_step__delays__delay(v15, a1->f1);
+    v16.at = a2->f2.at;
+    v16.length = a2->f2.length;
+    result = c2_target_step__interface__awaits(a1, a3, &v7, v14, v8, v16);
     return result;
 }
 
@@ -5069,20 +5277,24 @@ static _Bool c2_target_wanted__met_after(_Bool a1, uint8_t a2, uint8_t a3, uint6
 {
     _Bool result;
     _Bool v7;
-    uint64_t v8;
-    _Bool v9;
-    uint64_t v10;
-    v7 = a1;
-    if (v7) {
-        v8 = (uint64_t)a2;
-        v9 = a4 == v8;
-        if (v9) {
-            v10 = (uint64_t)a3;
-            result = a5 == v10;
-            return result;
+    _Bool v8;
+    uint64_t v9;
+    _Bool v10;
+    uint64_t v11;
+    v8 = a1;
+    if (v8) {
+        v9 = core__convert__UsizeFromU8__from(a2);
+        v8 = a4 == v9;
+        v10 = v8;
+        if (v10) {
+            v11 = core__convert__UsizeFromU8__from(a3);
+            v7 = a5 == v11;
+            goto end1;
         }
     }
-    result = a6;
+    v7 = a6;
+    end1:;
+    result = v7;
     return result;
 }
 
@@ -5174,140 +5386,131 @@ static c2_target__Met c2_target_wanted__met_written(const c2_pairs *a1, uint64_t
     return result;
 }
 
-/* c2_target_wanted::if_wanted */
-static _Bool c2_target_wanted__if_wanted(_Bool a1, _Bool a2)
-{
-    _Bool result;
-    _Bool v3;
-    v3 = a1;
-    if (v3) {
-        result = a2;
-        return result;
-    }
-    result = 1;
-    return result;
-}
-
-/* c2_target_wanted::prepared */
-static _Bool c2_target_wanted__prepared(const c2_pairs *a1, const c2_target__Met *a2)
-{
-    _Bool result;
-    uint8_t v3;
-    _Bool v4;
-    _Bool v5;
-    _Bool v6;
-    _Bool v7;
-    _Bool v8;
-    _Bool v9;
-    _Bool v10;
-    v3 = a1->count;
-    v5 = 0u < v3;
-    v4 = c2_target_wanted__if_wanted(v5, a2->f0);
-    if (v4) {
-        v7 = 1u < v3;
-        v6 = c2_target_wanted__if_wanted(v7, a2->f1);
-        if (v6) {
-            v9 = 2u < v3;
-            v8 = c2_target_wanted__if_wanted(v9, a2->f2);
-            if (v8) {
-                v10 = 3u < v3;
-                result = c2_target_wanted__if_wanted(v10, a2->f3);
-                return result;
-            }
-        }
-    }
-    result = 0;
-    return result;
-}
-
 /* c2_target_step::interface::writes */
-static c2_target__Target c2_target_step__interface__writes(const c2_target__Target *a1, const c2_settings *a2,
-    const c2_pairs *a3, uint64_t a4, slice_u8 a5, slice_u8 a6)
+static c2_target__Target c2_target_step__interface__writes(const c2_target__Target *a1,
+    const c2_target_step__Lent *a2, uint8_t a3, slice_u8 a4)
 {
     c2_target__Target result;
-    c2_target__Device v7;
-    c2_target__Met v8;
-    uint64_t v9;
-    _Bool v10;
-    _Bool v11;
-    c2_target__Met v12;
-    v7.f0 = a1->f3.f0;
-    v7.f1 = a1->f3.f1;
-    v7.f2 = a1->f3.f2;
-    v7.f3.f0 = a1->f3.f3.f0;
-    v7.f3.f1 = a1->f3.f3.f1;
-    v7.f3.f2 = a1->f3.f3.f2;
-    v7.f3.f3 = a1->f3.f3.f3;
-    v7.f4.f0.tag = a1->f3.f4.f0.tag;
-    v7.f4.f0.u64_0 = a1->f3.f4.f0.u64_0;
-    v7.f4.f0.bool_0 = a1->f3.f4.f0.bool_0;
-    v7.f4.f0.u64_1 = a1->f3.f4.f0.u64_1;
-    v7.f4.f1.tag = a1->f3.f4.f1.tag;
-    v7.f4.f1.bool_0 = a1->f3.f4.f1.bool_0;
-    v7.f4.f1.u64_0 = a1->f3.f4.f1.u64_0;
-    v7.f4.f1.u64_1 = a1->f3.f4.f1.u64_1;
-    v7.f4.f2 = a1->f3.f4.f2;
-    v7.f4.f3 = a1->f3.f4.f3;
-    v8.f0 = v7.f3.f0;
-    v8.f1 = v7.f3.f1;
-    v8.f2 = v7.f3.f2;
-    v8.f3 = v7.f3.f3;
-    v9 = c2_target_step__interface__next_keys(v7.f0, v7.f2, a4);
-    v10 = c2_target_step__interface__linked(&v7, a2);
-    if (v10) {
-        v11 = c2_target_wanted__prepared(a3, &v8);
-        result = c2_target_step__interface__puts(a1, a2, v11, v9, a4, a5, a6);
-        return result;
-    }
-    v12 = c2_target_wanted__met_written(a3, v7.f0, a4, &v8);
-    result = c2_target_step__interface__register_written(a1, v9, &v12);
-    return result;
-}
-
-/* c2_target_step::interface::does */
-static c2_target__Target c2_target_step__interface__does(const c2_target__Target *a1, const c2_settings *a2,
-    const c2_pairs *a3, const c2_target__Effect *a4, slice_u8 a5, slice_u8 a6)
-{
-    c2_target__Target result;
-    c2_target__Device v7;
-    uint64_t v8;
-    uint64_t v9;
+    c2_target__Device v5;
+    uint64_t v6;
+    c2_target__Met v7;
+    _Bool v8;
+    c2_settings v9;
     c2_target__Target v10;
-    v7.f0 = a1->f3.f0;
-    v7.f1 = a1->f3.f1;
-    v7.f2 = a1->f3.f2;
-    v7.f3.f0 = a1->f3.f3.f0;
-    v7.f3.f1 = a1->f3.f3.f1;
-    v7.f3.f2 = a1->f3.f3.f2;
-    v7.f3.f3 = a1->f3.f3.f3;
-    v7.f4.f0.tag = a1->f3.f4.f0.tag;
-    v7.f4.f0.u64_0 = a1->f3.f4.f0.u64_0;
-    v7.f4.f0.bool_0 = a1->f3.f4.f0.bool_0;
-    v7.f4.f0.u64_1 = a1->f3.f4.f0.u64_1;
-    v7.f4.f1.tag = a1->f3.f4.f1.tag;
-    v7.f4.f1.bool_0 = a1->f3.f4.f1.bool_0;
-    v7.f4.f1.u64_0 = a1->f3.f4.f1.u64_0;
-    v7.f4.f1.u64_1 = a1->f3.f4.f1.u64_1;
-    v7.f4.f2 = a1->f3.f4.f2;
-    v7.f4.f3 = a1->f3.f4.f3;
-    switch (a4->tag) {
-    case 0u:
-        v10 = c2_target_step__interface__idle(a1, a1->f1, &v7);
-        break;
-    case 1u:
-        v8 = a4->u64_0;
-        v10 = c2_target_step__interface__addressed(a1, v8);
-        break;
-    case 2u:
-        v9 = a4->u64_0;
-        v10 = c2_target_step__interface__writes(a1, a2, a3, v9, a5, a6);
-        break;
-    case 3u:
-        v10 = c2_target_step__interface__counts_down(a1, a2);
-        break;
-    default: /* 4 */
-        v10 = c2_target_step__interface__reads(a1, a2, a5, a6);
-        break;
+    c2_target_step__Lent v11;
+    c2_pairs v12;
+    uint64_t v13;
+    c2_target__Met v14;
+    uint64_t v15;
+    _Bool v16;
+    c2_target__Link v17;
+    c2_target__Device v18;
+    v5.f0 = a1->f3.f0;
+    v5.f1 = a1->f3.f1;
+    v5.f2 = a1->f3.f2;
+    v5.f3.f0 = a1->f3.f3.f0;
+    v5.f3.f1 = a1->f3.f3.f1;
+    v5.f3.f2 = a1->f3.f3.f2;
+    v5.f3.f3 = a1->f3.f3.f3;
+    v5.f4.f0.tag = a1->f3.f4.f0.tag;
+    v5.f4.f0.u64_0 = a1->f3.f4.f0.u64_0;
+    v5.f4.f0.bool_0 = a1->f3.f4.f0.bool_0;
+    v5.f4.f0.u64_1 = a1->f3.f4.f0.u64_1;
+    v5.f4.f1.tag = a1->f3.f4.f1.tag;
+    v5.f4.f1.bool_0 = a1->f3.f4.f1.bool_0;
+    v5.f4.f1.u64_0 = a1->f3.f4.f1.u64_0;
+    v5.f4.f1.u64_1 = a1->f3.f4.f1.u64_1;
+    v5.f4.f2 = a1->f3.f4.f2;
+    v5.f4.f3 = a1->f3.f4.f3;
+    v6 = c2_target_step__interface__next_keys(v5.f0, v5.f2, a3);
+    v9.device_id = a2->f0.device_id;
+    v9.fpdat = a2->f0.fpdat;
+    v9.page_size = a2->f0.page_size;
+    v9.page_count = a2->f0.page_count;
+    v9.wait_limit = a2->f0.wait_limit;
+    v9.pairs.count = a2->f0.pairs.count;
+    v9.pairs.registers[0] = a2->f0.pairs.registers[0];
+    v9.pairs.registers[1] = a2->f0.pairs.registers[1];
+    v9.pairs.registers[2] = a2->f0.pairs.registers[2];
+    v9.pairs.registers[3] = a2->f0.pairs.registers[3];
+    v9.pairs.values[0] = a2->f0.pairs.values[0];
+    v9.pairs.values[1] = a2->f0.pairs.values[1];
+    v9.pairs.values[2] = a2->f0.pairs.values[2];
+    v9.pairs.values[3] = a2->f0.pairs.values[3];
+    v8 = c2_target_step__interface__linked(&v5, &v9);
+    if (v8) {
+        v11.f0.device_id = a2->f0.device_id;
+        v11.f0.fpdat = a2->f0.fpdat;
+        v11.f0.page_size = a2->f0.page_size;
+        v11.f0.page_count = a2->f0.page_count;
+        v11.f0.wait_limit = a2->f0.wait_limit;
+        v11.f0.pairs.count = a2->f0.pairs.count;
+        v11.f0.pairs.registers[0] = a2->f0.pairs.registers[0];
+        v11.f0.pairs.registers[1] = a2->f0.pairs.registers[1];
+        v11.f0.pairs.registers[2] = a2->f0.pairs.registers[2];
+        v11.f0.pairs.registers[3] = a2->f0.pairs.registers[3];
+        v11.f0.pairs.values[0] = a2->f0.pairs.values[0];
+        v11.f0.pairs.values[1] = a2->f0.pairs.values[1];
+        v11.f0.pairs.values[2] = a2->f0.pairs.values[2];
+        v11.f0.pairs.values[3] = a2->f0.pairs.values[3];
+        v11.f1.count = a2->f1.count;
+        v11.f1.registers[0] = a2->f1.registers[0];
+        v11.f1.registers[1] = a2->f1.registers[1];
+        v11.f1.registers[2] = a2->f1.registers[2];
+        v11.f1.registers[3] = a2->f1.registers[3];
+        v11.f1.values[0] = a2->f1.values[0];
+        v11.f1.values[1] = a2->f1.values[1];
+        v11.f1.values[2] = a2->f1.values[2];
+        v11.f1.values[3] = a2->f1.values[3];
+        v11.f2.at = a2->f2.at;
+        v11.f2.length = a2->f2.length;
+        v10 = c2_target_step__interface__puts(a1, &v11, v6, a3, a4);
+    } else {
+        v12.count = a2->f1.count;
+        v12.registers[0] = a2->f1.registers[0];
+        v12.registers[1] = a2->f1.registers[1];
+        v12.registers[2] = a2->f1.registers[2];
+        v12.registers[3] = a2->f1.registers[3];
+        v12.values[0] = a2->f1.values[0];
+        v12.values[1] = a2->f1.values[1];
+        v12.values[2] = a2->f1.values[2];
+        v12.values[3] = a2->f1.values[3];
+        v13 = core__convert__UsizeFromU8__from(a3);
+        v14.f0 = v5.f3.f0;
+        v14.f1 = v5.f3.f1;
+        v14.f2 = v5.f3.f2;
+        v14.f3 = v5.f3.f3;
+        v7 = c2_target_wanted__met_written(&v12, v5.f0, v13, &v14);
+        v15 = v5.f0;
+        v16 = v5.f1;
+        v17.f0.tag = v5.f4.f0.tag;
+        v17.f0.u64_0 = v5.f4.f0.u64_0;
+        v17.f0.bool_0 = v5.f4.f0.bool_0;
+        v17.f0.u64_1 = v5.f4.f0.u64_1;
+        v17.f1.tag = v5.f4.f1.tag;
+        v17.f1.bool_0 = v5.f4.f1.bool_0;
+        v17.f1.u64_0 = v5.f4.f1.u64_0;
+        v17.f1.u64_1 = v5.f4.f1.u64_1;
+        v17.f2 = v5.f4.f2;
+        v17.f3 = v5.f4.f3;
+        v18.f0 = v15;
+        v18.f1 = v16;
+        v18.f2 = v6;
+        v18.f3.f0 = v7.f0;
+        v18.f3.f1 = v7.f1;
+        v18.f3.f2 = v7.f2;
+        v18.f3.f3 = v7.f3;
+        v18.f4.f0.tag = v17.f0.tag;
+        v18.f4.f0.u64_0 = v17.f0.u64_0;
+        v18.f4.f0.bool_0 = v17.f0.bool_0;
+        v18.f4.f0.u64_1 = v17.f0.u64_1;
+        v18.f4.f1.tag = v17.f1.tag;
+        v18.f4.f1.bool_0 = v17.f1.bool_0;
+        v18.f4.f1.u64_0 = v17.f1.u64_0;
+        v18.f4.f1.u64_1 = v17.f1.u64_1;
+        v18.f4.f2 = v17.f2;
+        v18.f4.f3 = v17.f3;
+        v10 = c2_target_step__interface__idle(a1, a1->f1, &v18);
     }
     result.f0.tag = v10.f0.tag;
     result.f0.u64_0 = v10.f0.u64_0;
@@ -5336,78 +5539,272 @@ static c2_target__Target c2_target_step__interface__does(const c2_target__Target
     return result;
 }
 
-/* c2_target_step::strobes::stops */
-static c2_target__Replied c2_target_step__strobes__stops(const c2_target__Target *a1, const c2_settings *a2,
-    const c2_pairs *a3, const c2_target__Effect *a4, slice_u8 a5, slice_u8 a6, uint8_t a7)
+/* c2_target_step::interface::does */
+static c2_target__Target c2_target_step__interface__does(const c2_target__Target *a1,
+    const c2_target_step__Lent *a2, const c2_target__Effect *a3, slice_u8 a4)
 {
-    c2_target__Replied result;
-    c2_target__Target v8;
-    c2_target__Device v9;
-    c2_target__Point v10;
-    v8 = c2_target_step__interface__does(a1, a2, a3, a4, a5, a6);
-    v9.f0 = v8.f3.f0;
-    v9.f1 = v8.f3.f1;
-    v9.f2 = v8.f3.f2;
-    v9.f3.f0 = v8.f3.f3.f0;
-    v9.f3.f1 = v8.f3.f3.f1;
-    v9.f3.f2 = v8.f3.f3.f2;
-    v9.f3.f3 = v8.f3.f3.f3;
-    v9.f4.f0.tag = v8.f3.f4.f0.tag;
-    v9.f4.f0.u64_0 = v8.f3.f4.f0.u64_0;
-    v9.f4.f0.bool_0 = v8.f3.f4.f0.bool_0;
-    v9.f4.f0.u64_1 = v8.f3.f4.f0.u64_1;
-    v9.f4.f1.tag = v8.f3.f4.f1.tag;
-    v9.f4.f1.bool_0 = v8.f3.f4.f1.bool_0;
-    v9.f4.f1.u64_0 = v8.f3.f4.f1.u64_0;
-    v9.f4.f1.u64_1 = v8.f3.f4.f1.u64_1;
-    v9.f4.f2 = v8.f3.f4.f2;
-    v9.f4.f3 = v8.f3.f4.f3;
-    v10.tag = 0u;
-    v10.u64_0 = 0;
-    v10.u64_1 = 0;
-    v10.c2_target__Effect_0.tag = 0;
-    v10.c2_target__Effect_0.u64_0 = 0;
-    result = c2_target_step__strobes__shows(a1, UINT32_C(1), a7, &v10, v8.f1, &v9);
+    c2_target__Target result;
+    uint64_t v5;
+    uint64_t v6;
+    c2_target__Target v7;
+    c2_target__Device v8;
+    _Bool v9;
+    uint64_t v10;
+    c2_target__Met v11;
+    c2_target__Link v12;
+    c2_target__Device v13;
+    c2_target_step__Lent v14;
+    uint8_t v15;
+    c2_settings v16;
+    c2_target_step__Lent v17;
+    switch (a3->tag) {
+    case 0u:
+        v8.f0 = a1->f3.f0;
+        v8.f1 = a1->f3.f1;
+        v8.f2 = a1->f3.f2;
+        v8.f3.f0 = a1->f3.f3.f0;
+        v8.f3.f1 = a1->f3.f3.f1;
+        v8.f3.f2 = a1->f3.f3.f2;
+        v8.f3.f3 = a1->f3.f3.f3;
+        v8.f4.f0.tag = a1->f3.f4.f0.tag;
+        v8.f4.f0.u64_0 = a1->f3.f4.f0.u64_0;
+        v8.f4.f0.bool_0 = a1->f3.f4.f0.bool_0;
+        v8.f4.f0.u64_1 = a1->f3.f4.f0.u64_1;
+        v8.f4.f1.tag = a1->f3.f4.f1.tag;
+        v8.f4.f1.bool_0 = a1->f3.f4.f1.bool_0;
+        v8.f4.f1.u64_0 = a1->f3.f4.f1.u64_0;
+        v8.f4.f1.u64_1 = a1->f3.f4.f1.u64_1;
+        v8.f4.f2 = a1->f3.f4.f2;
+        v8.f4.f3 = a1->f3.f4.f3;
+        v7 = c2_target_step__interface__idle(a1, a1->f1, &v8);
+        break;
+    case 1u:
+        v5 = a3->u64_0;
+        v9 = a1->f3.f1;
+        v10 = a1->f3.f2;
+        v11.f0 = a1->f3.f3.f0;
+        v11.f1 = a1->f3.f3.f1;
+        v11.f2 = a1->f3.f3.f2;
+        v11.f3 = a1->f3.f3.f3;
+        v12.f0.tag = a1->f3.f4.f0.tag;
+        v12.f0.u64_0 = a1->f3.f4.f0.u64_0;
+        v12.f0.bool_0 = a1->f3.f4.f0.bool_0;
+        v12.f0.u64_1 = a1->f3.f4.f0.u64_1;
+        v12.f1.tag = a1->f3.f4.f1.tag;
+        v12.f1.bool_0 = a1->f3.f4.f1.bool_0;
+        v12.f1.u64_0 = a1->f3.f4.f1.u64_0;
+        v12.f1.u64_1 = a1->f3.f4.f1.u64_1;
+        v12.f2 = a1->f3.f4.f2;
+        v12.f3 = a1->f3.f4.f3;
+        v13.f0 = v5;
+        v13.f1 = v9;
+        v13.f2 = v10;
+        v13.f3.f0 = v11.f0;
+        v13.f3.f1 = v11.f1;
+        v13.f3.f2 = v11.f2;
+        v13.f3.f3 = v11.f3;
+        v13.f4.f0.tag = v12.f0.tag;
+        v13.f4.f0.u64_0 = v12.f0.u64_0;
+        v13.f4.f0.bool_0 = v12.f0.bool_0;
+        v13.f4.f0.u64_1 = v12.f0.u64_1;
+        v13.f4.f1.tag = v12.f1.tag;
+        v13.f4.f1.bool_0 = v12.f1.bool_0;
+        v13.f4.f1.u64_0 = v12.f1.u64_0;
+        v13.f4.f1.u64_1 = v12.f1.u64_1;
+        v13.f4.f2 = v12.f2;
+        v13.f4.f3 = v12.f3;
+        v7 = c2_target_step__interface__idle(a1, a1->f1, &v13);
+        break;
+    case 2u:
+        v6 = a3->u64_0;
+        v14.f0.device_id = a2->f0.device_id;
+        v14.f0.fpdat = a2->f0.fpdat;
+        v14.f0.page_size = a2->f0.page_size;
+        v14.f0.page_count = a2->f0.page_count;
+        v14.f0.wait_limit = a2->f0.wait_limit;
+        v14.f0.pairs.count = a2->f0.pairs.count;
+        v14.f0.pairs.registers[0] = a2->f0.pairs.registers[0];
+        v14.f0.pairs.registers[1] = a2->f0.pairs.registers[1];
+        v14.f0.pairs.registers[2] = a2->f0.pairs.registers[2];
+        v14.f0.pairs.registers[3] = a2->f0.pairs.registers[3];
+        v14.f0.pairs.values[0] = a2->f0.pairs.values[0];
+        v14.f0.pairs.values[1] = a2->f0.pairs.values[1];
+        v14.f0.pairs.values[2] = a2->f0.pairs.values[2];
+        v14.f0.pairs.values[3] = a2->f0.pairs.values[3];
+        v14.f1.count = a2->f1.count;
+        v14.f1.registers[0] = a2->f1.registers[0];
+        v14.f1.registers[1] = a2->f1.registers[1];
+        v14.f1.registers[2] = a2->f1.registers[2];
+        v14.f1.registers[3] = a2->f1.registers[3];
+        v14.f1.values[0] = a2->f1.values[0];
+        v14.f1.values[1] = a2->f1.values[1];
+        v14.f1.values[2] = a2->f1.values[2];
+        v14.f1.values[3] = a2->f1.values[3];
+        v14.f2.at = a2->f2.at;
+        v14.f2.length = a2->f2.length;
+        v15 = (uint8_t)v6;
+        v7 = c2_target_step__interface__writes(a1, &v14, v15, a4);
+        break;
+    case 3u:
+        v16.device_id = a2->f0.device_id;
+        v16.fpdat = a2->f0.fpdat;
+        v16.page_size = a2->f0.page_size;
+        v16.page_count = a2->f0.page_count;
+        v16.wait_limit = a2->f0.wait_limit;
+        v16.pairs.count = a2->f0.pairs.count;
+        v16.pairs.registers[0] = a2->f0.pairs.registers[0];
+        v16.pairs.registers[1] = a2->f0.pairs.registers[1];
+        v16.pairs.registers[2] = a2->f0.pairs.registers[2];
+        v16.pairs.registers[3] = a2->f0.pairs.registers[3];
+        v16.pairs.values[0] = a2->f0.pairs.values[0];
+        v16.pairs.values[1] = a2->f0.pairs.values[1];
+        v16.pairs.values[2] = a2->f0.pairs.values[2];
+        v16.pairs.values[3] = a2->f0.pairs.values[3];
+        v7 = c2_target_step__interface__counts_down(a1, &v16);
+        break;
+    default: /* 4 */
+        v17.f0.device_id = a2->f0.device_id;
+        v17.f0.fpdat = a2->f0.fpdat;
+        v17.f0.page_size = a2->f0.page_size;
+        v17.f0.page_count = a2->f0.page_count;
+        v17.f0.wait_limit = a2->f0.wait_limit;
+        v17.f0.pairs.count = a2->f0.pairs.count;
+        v17.f0.pairs.registers[0] = a2->f0.pairs.registers[0];
+        v17.f0.pairs.registers[1] = a2->f0.pairs.registers[1];
+        v17.f0.pairs.registers[2] = a2->f0.pairs.registers[2];
+        v17.f0.pairs.registers[3] = a2->f0.pairs.registers[3];
+        v17.f0.pairs.values[0] = a2->f0.pairs.values[0];
+        v17.f0.pairs.values[1] = a2->f0.pairs.values[1];
+        v17.f0.pairs.values[2] = a2->f0.pairs.values[2];
+        v17.f0.pairs.values[3] = a2->f0.pairs.values[3];
+        v17.f1.count = a2->f1.count;
+        v17.f1.registers[0] = a2->f1.registers[0];
+        v17.f1.registers[1] = a2->f1.registers[1];
+        v17.f1.registers[2] = a2->f1.registers[2];
+        v17.f1.registers[3] = a2->f1.registers[3];
+        v17.f1.values[0] = a2->f1.values[0];
+        v17.f1.values[1] = a2->f1.values[1];
+        v17.f1.values[2] = a2->f1.values[2];
+        v17.f1.values[3] = a2->f1.values[3];
+        v17.f2.at = a2->f2.at;
+        v17.f2.length = a2->f2.length;
+        v7 = c2_target_step__interface__reads(a1, &v17, a4);
+        break;
+    }
+    result.f0.tag = v7.f0.tag;
+    result.f0.u64_0 = v7.f0.u64_0;
+    result.f0.u64_1 = v7.f0.u64_1;
+    result.f0.c2_target__Effect_0.tag = v7.f0.c2_target__Effect_0.tag;
+    result.f0.c2_target__Effect_0.u64_0 = v7.f0.c2_target__Effect_0.u64_0;
+    result.f1 = v7.f1;
+    result.f2 = v7.f2;
+    result.f3.f0 = v7.f3.f0;
+    result.f3.f1 = v7.f3.f1;
+    result.f3.f2 = v7.f3.f2;
+    result.f3.f3.f0 = v7.f3.f3.f0;
+    result.f3.f3.f1 = v7.f3.f3.f1;
+    result.f3.f3.f2 = v7.f3.f3.f2;
+    result.f3.f3.f3 = v7.f3.f3.f3;
+    result.f3.f4.f0.tag = v7.f3.f4.f0.tag;
+    result.f3.f4.f0.u64_0 = v7.f3.f4.f0.u64_0;
+    result.f3.f4.f0.bool_0 = v7.f3.f4.f0.bool_0;
+    result.f3.f4.f0.u64_1 = v7.f3.f4.f0.u64_1;
+    result.f3.f4.f1.tag = v7.f3.f4.f1.tag;
+    result.f3.f4.f1.bool_0 = v7.f3.f4.f1.bool_0;
+    result.f3.f4.f1.u64_0 = v7.f3.f4.f1.u64_0;
+    result.f3.f4.f1.u64_1 = v7.f3.f4.f1.u64_1;
+    result.f3.f4.f2 = v7.f3.f4.f2;
+    result.f3.f4.f3 = v7.f3.f4.f3;
     return result;
 }
 
-/* c2_target_step::strobes::waits */
-static c2_target__Replied c2_target_step__strobes__waits(const c2_target__Target *a1, const c2_settings *a2,
-    uint64_t a3, uint64_t a4, const c2_target__Effect *a5, slice_u8 a6, uint8_t a7)
+/* c2_target_step::strobes::stops */
+static c2_target__Turned c2_target_step__strobes__stops(const c2_target__Target *a1,
+    const c2_target_step__Lent *a2, const c2_target__Effect *a3, slice_u8 a4, uint8_t a5)
 {
-    c2_target__Replied result;
-    c2_target__Device v8;
-    uint32_t v9;
-    c2_target__Point v10;
-    v8.f0 = a1->f3.f0;
-    v8.f1 = a1->f3.f1;
-    v8.f2 = a1->f3.f2;
-    v8.f3.f0 = a1->f3.f3.f0;
-    v8.f3.f1 = a1->f3.f3.f1;
-    v8.f3.f2 = a1->f3.f3.f2;
-    v8.f3.f3 = a1->f3.f3.f3;
-    v8.f4.f0.tag = a1->f3.f4.f0.tag;
-    v8.f4.f0.u64_0 = a1->f3.f4.f0.u64_0;
-    v8.f4.f0.bool_0 = a1->f3.f4.f0.bool_0;
-    v8.f4.f0.u64_1 = a1->f3.f4.f0.u64_1;
-    v8.f4.f1.tag = a1->f3.f4.f1.tag;
-    v8.f4.f1.bool_0 = a1->f3.f4.f1.bool_0;
-    v8.f4.f1.u64_0 = a1->f3.f4.f1.u64_0;
-    v8.f4.f1.u64_1 = a1->f3.f4.f1.u64_1;
-    v8.f4.f2 = a1->f3.f4.f2;
-    v8.f4.f3 = a1->f3.f4.f3;
-    v9 = c2_target_step__strobes__ends(a3);
-    v10 = c2_target_step__strobes__after_wait(a2, a3, a4, a5, &v8, a6);
-    result = c2_target_step__strobes__shows(a1, v9, a7, &v10, a1->f1, &v8);
+    c2_target__Turned result;
+    c2_target__Target v6;
+    c2_target_step__Lent v7;
+    c2_target__Point v8;
+    c2_target__Device v9;
+    v7.f0.device_id = a2->f0.device_id;
+    v7.f0.fpdat = a2->f0.fpdat;
+    v7.f0.page_size = a2->f0.page_size;
+    v7.f0.page_count = a2->f0.page_count;
+    v7.f0.wait_limit = a2->f0.wait_limit;
+    v7.f0.pairs.count = a2->f0.pairs.count;
+    v7.f0.pairs.registers[0] = a2->f0.pairs.registers[0];
+    v7.f0.pairs.registers[1] = a2->f0.pairs.registers[1];
+    v7.f0.pairs.registers[2] = a2->f0.pairs.registers[2];
+    v7.f0.pairs.registers[3] = a2->f0.pairs.registers[3];
+    v7.f0.pairs.values[0] = a2->f0.pairs.values[0];
+    v7.f0.pairs.values[1] = a2->f0.pairs.values[1];
+    v7.f0.pairs.values[2] = a2->f0.pairs.values[2];
+    v7.f0.pairs.values[3] = a2->f0.pairs.values[3];
+    v7.f1.count = a2->f1.count;
+    v7.f1.registers[0] = a2->f1.registers[0];
+    v7.f1.registers[1] = a2->f1.registers[1];
+    v7.f1.registers[2] = a2->f1.registers[2];
+    v7.f1.registers[3] = a2->f1.registers[3];
+    v7.f1.values[0] = a2->f1.values[0];
+    v7.f1.values[1] = a2->f1.values[1];
+    v7.f1.values[2] = a2->f1.values[2];
+    v7.f1.values[3] = a2->f1.values[3];
+    v7.f2.at = a2->f2.at;
+    v7.f2.length = a2->f2.length;
+    v6 = c2_target_step__interface__does(a1, &v7, a3, a4);
+    v8.tag = 0u;
+    v8.u64_0 = 0;
+    v8.u64_1 = 0;
+    v8.c2_target__Effect_0.tag = 0;
+    v8.c2_target__Effect_0.u64_0 = 0;
+    v9.f0 = v6.f3.f0;
+    v9.f1 = v6.f3.f1;
+    v9.f2 = v6.f3.f2;
+    v9.f3.f0 = v6.f3.f3.f0;
+    v9.f3.f1 = v6.f3.f3.f1;
+    v9.f3.f2 = v6.f3.f3.f2;
+    v9.f3.f3 = v6.f3.f3.f3;
+    v9.f4.f0.tag = v6.f3.f4.f0.tag;
+    v9.f4.f0.u64_0 = v6.f3.f4.f0.u64_0;
+    v9.f4.f0.bool_0 = v6.f3.f4.f0.bool_0;
+    v9.f4.f0.u64_1 = v6.f3.f4.f0.u64_1;
+    v9.f4.f1.tag = v6.f3.f4.f1.tag;
+    v9.f4.f1.bool_0 = v6.f3.f4.f1.bool_0;
+    v9.f4.f1.u64_0 = v6.f3.f4.f1.u64_0;
+    v9.f4.f1.u64_1 = v6.f3.f4.f1.u64_1;
+    v9.f4.f2 = v6.f3.f4.f2;
+    v9.f4.f3 = v6.f3.f4.f3;
+    result = c2_target_step__strobes__shows(a1, 1, a5, &v8, v6.f1, &v9);
+    return result;
+}
+
+/* c2_target_step::strobes::with_bit */
+static uint64_t c2_target_step__strobes__with_bit(uint64_t a1, uint64_t a2, uint8_t a3)
+{
+    uint64_t result;
+    _Bool v4;
+    uint64_t v5;
+    uint64_t v6;
+    v4 = c2_target_step__strobes__line(a3);
+    if (v4) {
+        v6 = UINT64_C(1) << a1;
+        v5 = a2 + v6;
+    } else {
+        v5 = a2;
+    }
+    result = v5;
     return result;
 }
 
 /* c2_target_step::strobes::strobed */
-static c2_target__Replied c2_target_step__strobes__strobed(const c2_target__Target *a1, const c2_settings *a2,
-    const c2_pairs *a3, slice_u8 a4, slice_u8 a5, uint8_t a6)
+static c2_target__Turned c2_target_step__strobes__strobed(const c2_target__Target *a1,
+    const c2_target_step__Lent *a2, slice_u8 a3, uint8_t a4)
 {
-    c2_target__Replied result;
-    c2_target__Point v7;
+    c2_target__Turned result;
+    c2_target__Device v5;
+    uint64_t v6;
+    uint64_t v7;
     uint64_t v8;
     uint64_t v9;
     uint64_t v10;
@@ -5419,330 +5816,1730 @@ static c2_target__Replied c2_target_step__strobes__strobed(const c2_target__Targ
     uint64_t v16;
     uint64_t v17;
     uint64_t v18;
-    uint64_t v19;
-    c2_target__Effect v20;
+    c2_target__Effect v19;
+    uint64_t v20;
     uint64_t v21;
-    uint64_t v22;
-    c2_target__Effect v23;
+    c2_target__Effect v22;
+    c2_target__Point v23;
     uint64_t v24;
     uint64_t v25;
     c2_target__Effect v26;
-    c2_target__Effect v27;
-    c2_target__Replied v28;
-    c2_target__Point v29;
-    v7.tag = a1->f0.tag;
-    v7.u64_0 = a1->f0.u64_0;
-    v7.u64_1 = a1->f0.u64_1;
-    v7.c2_target__Effect_0.tag = a1->f0.c2_target__Effect_0.tag;
-    v7.c2_target__Effect_0.u64_0 = a1->f0.c2_target__Effect_0.u64_0;
-    switch (v7.tag) {
+    c2_target__Point v27;
+    c2_target__Effect v28;
+    c2_target__Turned v29;
+    c2_target__Point v30;
+    c2_target__Device v31;
+    c2_target__Point v32;
+    c2_settings v33;
+    uint64_t v34;
+    uint64_t v35;
+    c2_target__Point v36;
+    uint64_t v37;
+    uint64_t v38;
+    c2_target__Point v39;
+    uint64_t v40;
+    uint64_t v41;
+    c2_target__Point v42;
+    uint64_t v43;
+    uint64_t v44;
+    c2_target__Point v45;
+    uint64_t v46;
+    uint64_t v47;
+    c2_target__Point v48;
+    c2_target_step__Lent v49;
+    c2_settings v50;
+    _Bool v51;
+    uint64_t v52;
+    uint64_t v53;
+    _Bool v54;
+    c2_target_step__Lent v55;
+    v5.f0 = a1->f3.f0;
+    v5.f1 = a1->f3.f1;
+    v5.f2 = a1->f3.f2;
+    v5.f3.f0 = a1->f3.f3.f0;
+    v5.f3.f1 = a1->f3.f3.f1;
+    v5.f3.f2 = a1->f3.f3.f2;
+    v5.f3.f3 = a1->f3.f3.f3;
+    v5.f4.f0.tag = a1->f3.f4.f0.tag;
+    v5.f4.f0.u64_0 = a1->f3.f4.f0.u64_0;
+    v5.f4.f0.bool_0 = a1->f3.f4.f0.bool_0;
+    v5.f4.f0.u64_1 = a1->f3.f4.f0.u64_1;
+    v5.f4.f1.tag = a1->f3.f4.f1.tag;
+    v5.f4.f1.bool_0 = a1->f3.f4.f1.bool_0;
+    v5.f4.f1.u64_0 = a1->f3.f4.f1.u64_0;
+    v5.f4.f1.u64_1 = a1->f3.f4.f1.u64_1;
+    v5.f4.f2 = a1->f3.f4.f2;
+    v5.f4.f3 = a1->f3.f4.f3;
+    v6 = a1->f1;
+    switch (a1->f0.tag) {
     case 0u:
-        v28 = c2_target_step__strobes__starts(a1, a6);
+        v30.tag = 1u;
+        v30.u64_0 = UINT64_C(0);
+        v30.u64_1 = UINT64_C(0);
+        v30.c2_target__Effect_0.tag = 0;
+        v30.c2_target__Effect_0.u64_0 = 0;
+        v31 = c2_target_step__interface__begun(&v5);
+        v29 = c2_target_step__strobes__shows(a1, 1, a4, &v30, v6, &v31);
         break;
     case 1u:
-        v8 = v7.u64_0;
-        v9 = v7.u64_1;
-        v28 = c2_target_step__strobes__hears_ins(a1, a2, v8, v9, a6);
+        v7 = a1->f0.u64_0;
+        v8 = a1->f0.u64_1;
+        v33.device_id = a2->f0.device_id;
+        v33.fpdat = a2->f0.fpdat;
+        v33.page_size = a2->f0.page_size;
+        v33.page_count = a2->f0.page_count;
+        v33.wait_limit = a2->f0.wait_limit;
+        v33.pairs.count = a2->f0.pairs.count;
+        v33.pairs.registers[0] = a2->f0.pairs.registers[0];
+        v33.pairs.registers[1] = a2->f0.pairs.registers[1];
+        v33.pairs.registers[2] = a2->f0.pairs.registers[2];
+        v33.pairs.registers[3] = a2->f0.pairs.registers[3];
+        v33.pairs.values[0] = a2->f0.pairs.values[0];
+        v33.pairs.values[1] = a2->f0.pairs.values[1];
+        v33.pairs.values[2] = a2->f0.pairs.values[2];
+        v33.pairs.values[3] = a2->f0.pairs.values[3];
+        v34 = v7 + UINT64_C(1);
+        v35 = c2_target_step__strobes__with_bit(v7, v8, a4);
+        v32 = c2_target_step__strobes__after_ins(&v33, &v5, v34, v35);
+        v29 = c2_target_step__strobes__hears(a1, a4, &v32);
         break;
     case 2u:
-        v10 = v7.u64_0;
-        v11 = v7.u64_1;
-        v28 = c2_target_step__strobes__hears_write_length(a1, v10, v11, a6);
+        v9 = a1->f0.u64_0;
+        v10 = a1->f0.u64_1;
+        v37 = v9 + UINT64_C(1);
+        v38 = c2_target_step__strobes__with_bit(v9, v10, a4);
+        v36 = c2_target_step__strobes__after_write_length(v37, v38);
+        v29 = c2_target_step__strobes__hears(a1, a4, &v36);
         break;
     case 3u:
-        v12 = v7.u64_0;
-        v13 = v7.u64_1;
-        v28 = c2_target_step__strobes__hears_read_length(a1, v12, v13, a6);
+        v11 = a1->f0.u64_0;
+        v12 = a1->f0.u64_1;
+        v40 = v11 + UINT64_C(1);
+        v41 = c2_target_step__strobes__with_bit(v11, v12, a4);
+        v39 = c2_target_step__strobes__after_read_length(v40, v41);
+        v29 = c2_target_step__strobes__hears(a1, a4, &v39);
         break;
     case 4u:
-        v14 = v7.u64_0;
-        v15 = v7.u64_1;
-        v28 = c2_target_step__strobes__hears_address(a1, v14, v15, a6);
+        v13 = a1->f0.u64_0;
+        v14 = a1->f0.u64_1;
+        v43 = v13 + UINT64_C(1);
+        v44 = c2_target_step__strobes__with_bit(v13, v14, a4);
+        v42 = c2_target_step__strobes__after_address(v43, v44);
+        v29 = c2_target_step__strobes__hears(a1, a4, &v42);
         break;
     case 5u:
-        v16 = v7.u64_0;
-        v17 = v7.u64_1;
-        v28 = c2_target_step__strobes__hears_data(a1, v16, v17, a6);
+        v15 = a1->f0.u64_0;
+        v16 = a1->f0.u64_1;
+        v46 = v15 + UINT64_C(1);
+        v47 = c2_target_step__strobes__with_bit(v15, v16, a4);
+        v45 = c2_target_step__strobes__after_data(v46, v47);
+        v29 = c2_target_step__strobes__hears(a1, a4, &v45);
         break;
     case 6u:
-        v18 = v7.u64_0;
-        v29 = c2_target_step__strobes__after_long_data(v18);
-        v28 = c2_target_step__strobes__hears(a1, a6, &v29);
+        v17 = a1->f0.u64_0;
+        v48 = c2_target_step__strobes__after_long_data(v17);
+        v29 = c2_target_step__strobes__hears(a1, a4, &v48);
         break;
     case 7u:
-        v19 = v7.u64_0;
-        v20.tag = v7.c2_target__Effect_0.tag;
-        v20.u64_0 = v7.c2_target__Effect_0.u64_0;
-        v28 = c2_target_step__strobes__begins_wait(a1, a2, v19, &v20, a4, a5, a6);
+        v18 = a1->f0.u64_0;
+        v19.tag = a1->f0.c2_target__Effect_0.tag;
+        v19.u64_0 = a1->f0.c2_target__Effect_0.u64_0;
+        v49.f0.device_id = a2->f0.device_id;
+        v49.f0.fpdat = a2->f0.fpdat;
+        v49.f0.page_size = a2->f0.page_size;
+        v49.f0.page_count = a2->f0.page_count;
+        v49.f0.wait_limit = a2->f0.wait_limit;
+        v49.f0.pairs.count = a2->f0.pairs.count;
+        v49.f0.pairs.registers[0] = a2->f0.pairs.registers[0];
+        v49.f0.pairs.registers[1] = a2->f0.pairs.registers[1];
+        v49.f0.pairs.registers[2] = a2->f0.pairs.registers[2];
+        v49.f0.pairs.registers[3] = a2->f0.pairs.registers[3];
+        v49.f0.pairs.values[0] = a2->f0.pairs.values[0];
+        v49.f0.pairs.values[1] = a2->f0.pairs.values[1];
+        v49.f0.pairs.values[2] = a2->f0.pairs.values[2];
+        v49.f0.pairs.values[3] = a2->f0.pairs.values[3];
+        v49.f1.count = a2->f1.count;
+        v49.f1.registers[0] = a2->f1.registers[0];
+        v49.f1.registers[1] = a2->f1.registers[1];
+        v49.f1.registers[2] = a2->f1.registers[2];
+        v49.f1.registers[3] = a2->f1.registers[3];
+        v49.f1.values[0] = a2->f1.values[0];
+        v49.f1.values[1] = a2->f1.values[1];
+        v49.f1.values[2] = a2->f1.values[2];
+        v49.f1.values[3] = a2->f1.values[3];
+        v49.f2.at = a2->f2.at;
+        v49.f2.length = a2->f2.length;
+        v29 = c2_target_step__strobes__begins_wait(a1, &v49, v18, &v19, a3, a4);
         break;
     case 8u:
-        v21 = v7.u64_0;
-        v22 = v7.u64_1;
-        v23.tag = v7.c2_target__Effect_0.tag;
-        v23.u64_0 = v7.c2_target__Effect_0.u64_0;
-        v28 = c2_target_step__strobes__waits(a1, a2, v21, v22, &v23, a4, a6);
+        v20 = a1->f0.u64_0;
+        v21 = a1->f0.u64_1;
+        v22.tag = a1->f0.c2_target__Effect_0.tag;
+        v22.u64_0 = a1->f0.c2_target__Effect_0.u64_0;
+        v50.device_id = a2->f0.device_id;
+        v50.fpdat = a2->f0.fpdat;
+        v50.page_size = a2->f0.page_size;
+        v50.page_count = a2->f0.page_count;
+        v50.wait_limit = a2->f0.wait_limit;
+        v50.pairs.count = a2->f0.pairs.count;
+        v50.pairs.registers[0] = a2->f0.pairs.registers[0];
+        v50.pairs.registers[1] = a2->f0.pairs.registers[1];
+        v50.pairs.registers[2] = a2->f0.pairs.registers[2];
+        v50.pairs.registers[3] = a2->f0.pairs.registers[3];
+        v50.pairs.values[0] = a2->f0.pairs.values[0];
+        v50.pairs.values[1] = a2->f0.pairs.values[1];
+        v50.pairs.values[2] = a2->f0.pairs.values[2];
+        v50.pairs.values[3] = a2->f0.pairs.values[3];
+        v23 = c2_target_step__strobes__after_wait(&v50, v20, v21, &v22, &v5, a3);
+        v51 = v20 == UINT64_C(0);
+        v29 = c2_target_step__strobes__shows(a1, v51, a4, &v23, v6, &v5);
         break;
     case 9u:
-        v24 = v7.u64_0;
-        v25 = v7.u64_1;
-        v26.tag = v7.c2_target__Effect_0.tag;
-        v26.u64_0 = v7.c2_target__Effect_0.u64_0;
-        v28 = c2_target_step__strobes__sends(a1, v24, v25, &v26, a6);
+        v24 = a1->f0.u64_0;
+        v25 = a1->f0.u64_1;
+        v26.tag = a1->f0.c2_target__Effect_0.tag;
+        v26.u64_0 = a1->f0.c2_target__Effect_0.u64_0;
+        v52 = core__int__usize__saturating_sub(v24, UINT64_C(1));
+        v53 = v25 / UINT64_C(2);
+        v27 = c2_target_step__strobes__sending(v52, v53, &v26);
+        v52 = v25 % UINT64_C(2);
+        v54 = v52 == UINT64_C(1);
+        v29 = c2_target_step__strobes__shows(a1, v54, a4, &v27, v6, &v5);
         break;
     default: /* 10 */
-        v27.tag = v7.c2_target__Effect_0.tag;
-        v27.u64_0 = v7.c2_target__Effect_0.u64_0;
-        v28 = c2_target_step__strobes__stops(a1, a2, a3, &v27, a4, a5, a6);
+        v28.tag = a1->f0.c2_target__Effect_0.tag;
+        v28.u64_0 = a1->f0.c2_target__Effect_0.u64_0;
+        v55.f0.device_id = a2->f0.device_id;
+        v55.f0.fpdat = a2->f0.fpdat;
+        v55.f0.page_size = a2->f0.page_size;
+        v55.f0.page_count = a2->f0.page_count;
+        v55.f0.wait_limit = a2->f0.wait_limit;
+        v55.f0.pairs.count = a2->f0.pairs.count;
+        v55.f0.pairs.registers[0] = a2->f0.pairs.registers[0];
+        v55.f0.pairs.registers[1] = a2->f0.pairs.registers[1];
+        v55.f0.pairs.registers[2] = a2->f0.pairs.registers[2];
+        v55.f0.pairs.registers[3] = a2->f0.pairs.registers[3];
+        v55.f0.pairs.values[0] = a2->f0.pairs.values[0];
+        v55.f0.pairs.values[1] = a2->f0.pairs.values[1];
+        v55.f0.pairs.values[2] = a2->f0.pairs.values[2];
+        v55.f0.pairs.values[3] = a2->f0.pairs.values[3];
+        v55.f1.count = a2->f1.count;
+        v55.f1.registers[0] = a2->f1.registers[0];
+        v55.f1.registers[1] = a2->f1.registers[1];
+        v55.f1.registers[2] = a2->f1.registers[2];
+        v55.f1.registers[3] = a2->f1.registers[3];
+        v55.f1.values[0] = a2->f1.values[0];
+        v55.f1.values[1] = a2->f1.values[1];
+        v55.f1.values[2] = a2->f1.values[2];
+        v55.f1.values[3] = a2->f1.values[3];
+        v55.f2.at = a2->f2.at;
+        v55.f2.length = a2->f2.length;
+        v29 = c2_target_step__strobes__stops(a1, &v55, &v28, a3, a4);
         break;
     }
-    result.f0 = v28.f0;
-    result.f1 = v28.f1;
-    result.f2.f0.tag = v28.f2.f0.tag;
-    result.f2.f0.u64_0 = v28.f2.f0.u64_0;
-    result.f2.f0.u64_1 = v28.f2.f0.u64_1;
-    result.f2.f0.c2_target__Effect_0.tag = v28.f2.f0.c2_target__Effect_0.tag;
-    result.f2.f0.c2_target__Effect_0.u64_0 = v28.f2.f0.c2_target__Effect_0.u64_0;
-    result.f2.f1 = v28.f2.f1;
-    result.f2.f2 = v28.f2.f2;
-    result.f2.f3.f0 = v28.f2.f3.f0;
-    result.f2.f3.f1 = v28.f2.f3.f1;
-    result.f2.f3.f2 = v28.f2.f3.f2;
-    result.f2.f3.f3.f0 = v28.f2.f3.f3.f0;
-    result.f2.f3.f3.f1 = v28.f2.f3.f3.f1;
-    result.f2.f3.f3.f2 = v28.f2.f3.f3.f2;
-    result.f2.f3.f3.f3 = v28.f2.f3.f3.f3;
-    result.f2.f3.f4.f0.tag = v28.f2.f3.f4.f0.tag;
-    result.f2.f3.f4.f0.u64_0 = v28.f2.f3.f4.f0.u64_0;
-    result.f2.f3.f4.f0.bool_0 = v28.f2.f3.f4.f0.bool_0;
-    result.f2.f3.f4.f0.u64_1 = v28.f2.f3.f4.f0.u64_1;
-    result.f2.f3.f4.f1.tag = v28.f2.f3.f4.f1.tag;
-    result.f2.f3.f4.f1.bool_0 = v28.f2.f3.f4.f1.bool_0;
-    result.f2.f3.f4.f1.u64_0 = v28.f2.f3.f4.f1.u64_0;
-    result.f2.f3.f4.f1.u64_1 = v28.f2.f3.f4.f1.u64_1;
-    result.f2.f3.f4.f2 = v28.f2.f3.f4.f2;
-    result.f2.f3.f4.f3 = v28.f2.f3.f4.f3;
+    result.f0 = v29.f0;
+    result.f1.f0.tag = v29.f1.f0.tag;
+    result.f1.f0.u64_0 = v29.f1.f0.u64_0;
+    result.f1.f0.u64_1 = v29.f1.f0.u64_1;
+    result.f1.f0.c2_target__Effect_0.tag = v29.f1.f0.c2_target__Effect_0.tag;
+    result.f1.f0.c2_target__Effect_0.u64_0 = v29.f1.f0.c2_target__Effect_0.u64_0;
+    result.f1.f1 = v29.f1.f1;
+    result.f1.f2 = v29.f1.f2;
+    result.f1.f3.f0 = v29.f1.f3.f0;
+    result.f1.f3.f1 = v29.f1.f3.f1;
+    result.f1.f3.f2 = v29.f1.f3.f2;
+    result.f1.f3.f3.f0 = v29.f1.f3.f3.f0;
+    result.f1.f3.f3.f1 = v29.f1.f3.f3.f1;
+    result.f1.f3.f3.f2 = v29.f1.f3.f3.f2;
+    result.f1.f3.f3.f3 = v29.f1.f3.f3.f3;
+    result.f1.f3.f4.f0.tag = v29.f1.f3.f4.f0.tag;
+    result.f1.f3.f4.f0.u64_0 = v29.f1.f3.f4.f0.u64_0;
+    result.f1.f3.f4.f0.bool_0 = v29.f1.f3.f4.f0.bool_0;
+    result.f1.f3.f4.f0.u64_1 = v29.f1.f3.f4.f0.u64_1;
+    result.f1.f3.f4.f1.tag = v29.f1.f3.f4.f1.tag;
+    result.f1.f3.f4.f1.bool_0 = v29.f1.f3.f4.f1.bool_0;
+    result.f1.f3.f4.f1.u64_0 = v29.f1.f3.f4.f1.u64_0;
+    result.f1.f3.f4.f1.u64_1 = v29.f1.f3.f4.f1.u64_1;
+    result.f1.f3.f4.f2 = v29.f1.f3.f4.f2;
+    result.f1.f3.f4.f3 = v29.f1.f3.f4.f3;
     return result;
 }
 
 /* c2_target_step::steps::stepped */
-static c2_target__Replied c2_target_step__steps__stepped(const c2_settings *a1, const c2_pairs *a2,
-    const c2_target__Target *a3, slice_mut_u8 a4, slice_u8 a5, uint8_t a6)
+static c2_target__Turned c2_target_step__steps__stepped(const c2_target_step__Lent *a1,
+    const c2_target__Target *a2, slice_mut_u8 a3, uint8_t a4)
 {
-    c2_target__Replied result;
-    c2_target__Replied v7;
-    _Bool v8;
+    c2_target__Turned result;
+    c2_target__Turned v5;
+    _Bool v6;
+    c2_target__Turned v7;
+    c2_target_step__Lent v8;
     const uint8_t *v9;
     slice_u8 v10;
-    uint8_t *v12;
-    slice_mut_u8 v13;
-    v8 = a6 < 4u;
-    if (v8) {
-        v9 = a4.at;
+    c2_settings v12;
+    uint8_t *v13;
+    slice_mut_u8 v14;
+    v6 = a4 < 4u;
+    if (v6) {
+        v8.f0.device_id = a1->f0.device_id;
+        v8.f0.fpdat = a1->f0.fpdat;
+        v8.f0.page_size = a1->f0.page_size;
+        v8.f0.page_count = a1->f0.page_count;
+        v8.f0.wait_limit = a1->f0.wait_limit;
+        v8.f0.pairs.count = a1->f0.pairs.count;
+        v8.f0.pairs.registers[0] = a1->f0.pairs.registers[0];
+        v8.f0.pairs.registers[1] = a1->f0.pairs.registers[1];
+        v8.f0.pairs.registers[2] = a1->f0.pairs.registers[2];
+        v8.f0.pairs.registers[3] = a1->f0.pairs.registers[3];
+        v8.f0.pairs.values[0] = a1->f0.pairs.values[0];
+        v8.f0.pairs.values[1] = a1->f0.pairs.values[1];
+        v8.f0.pairs.values[2] = a1->f0.pairs.values[2];
+        v8.f0.pairs.values[3] = a1->f0.pairs.values[3];
+        v8.f1.count = a1->f1.count;
+        v8.f1.registers[0] = a1->f1.registers[0];
+        v8.f1.registers[1] = a1->f1.registers[1];
+        v8.f1.registers[2] = a1->f1.registers[2];
+        v8.f1.registers[3] = a1->f1.registers[3];
+        v8.f1.values[0] = a1->f1.values[0];
+        v8.f1.values[1] = a1->f1.values[1];
+        v8.f1.values[2] = a1->f1.values[2];
+        v8.f1.values[3] = a1->f1.values[3];
+        v8.f2.at = a1->f2.at;
+        v8.f2.length = a1->f2.length;
+        v9 = a3.at;
         v10.at = v9;
-        v10.length = a4.length;
-        v7 = c2_target_step__strobes__strobed(a3, a1, a2, v10, a5, a6);
-        v12 = a4.at;
-        v13.at = v12;
-        v13.length = a4.length;
-        c2_target_step__strobes__strobe_writes(a1, a3, v13);
-        result.f0 = v7.f0;
-        result.f1 = v7.f1;
-        result.f2.f0.tag = v7.f2.f0.tag;
-        result.f2.f0.u64_0 = v7.f2.f0.u64_0;
-        result.f2.f0.u64_1 = v7.f2.f0.u64_1;
-        result.f2.f0.c2_target__Effect_0.tag = v7.f2.f0.c2_target__Effect_0.tag;
-        result.f2.f0.c2_target__Effect_0.u64_0 = v7.f2.f0.c2_target__Effect_0.u64_0;
-        result.f2.f1 = v7.f2.f1;
-        result.f2.f2 = v7.f2.f2;
-        result.f2.f3.f0 = v7.f2.f3.f0;
-        result.f2.f3.f1 = v7.f2.f3.f1;
-        result.f2.f3.f2 = v7.f2.f3.f2;
-        result.f2.f3.f3.f0 = v7.f2.f3.f3.f0;
-        result.f2.f3.f3.f1 = v7.f2.f3.f3.f1;
-        result.f2.f3.f3.f2 = v7.f2.f3.f3.f2;
-        result.f2.f3.f3.f3 = v7.f2.f3.f3.f3;
-        result.f2.f3.f4.f0.tag = v7.f2.f3.f4.f0.tag;
-        result.f2.f3.f4.f0.u64_0 = v7.f2.f3.f4.f0.u64_0;
-        result.f2.f3.f4.f0.bool_0 = v7.f2.f3.f4.f0.bool_0;
-        result.f2.f3.f4.f0.u64_1 = v7.f2.f3.f4.f0.u64_1;
-        result.f2.f3.f4.f1.tag = v7.f2.f3.f4.f1.tag;
-        result.f2.f3.f4.f1.bool_0 = v7.f2.f3.f4.f1.bool_0;
-        result.f2.f3.f4.f1.u64_0 = v7.f2.f3.f4.f1.u64_0;
-        result.f2.f3.f4.f1.u64_1 = v7.f2.f3.f4.f1.u64_1;
-        result.f2.f3.f4.f2 = v7.f2.f3.f4.f2;
-        result.f2.f3.f4.f3 = v7.f2.f3.f4.f3;
-        return result;
+        v10.length = a3.length;
+        v5 = c2_target_step__strobes__strobed(a2, &v8, v10, a4);
+        v12.device_id = a1->f0.device_id;
+        v12.fpdat = a1->f0.fpdat;
+        v12.page_size = a1->f0.page_size;
+        v12.page_count = a1->f0.page_count;
+        v12.wait_limit = a1->f0.wait_limit;
+        v12.pairs.count = a1->f0.pairs.count;
+        v12.pairs.registers[0] = a1->f0.pairs.registers[0];
+        v12.pairs.registers[1] = a1->f0.pairs.registers[1];
+        v12.pairs.registers[2] = a1->f0.pairs.registers[2];
+        v12.pairs.registers[3] = a1->f0.pairs.registers[3];
+        v12.pairs.values[0] = a1->f0.pairs.values[0];
+        v12.pairs.values[1] = a1->f0.pairs.values[1];
+        v12.pairs.values[2] = a1->f0.pairs.values[2];
+        v12.pairs.values[3] = a1->f0.pairs.values[3];
+        v13 = a3.at;
+        v14.at = v13;
+        v14.length = a3.length;
+        c2_target_step__strobes__strobe_writes(&v12, a2, v14);
+        v7.f0 = v5.f0;
+        v7.f1.f0.tag = v5.f1.f0.tag;
+        v7.f1.f0.u64_0 = v5.f1.f0.u64_0;
+        v7.f1.f0.u64_1 = v5.f1.f0.u64_1;
+        v7.f1.f0.c2_target__Effect_0.tag = v5.f1.f0.c2_target__Effect_0.tag;
+        v7.f1.f0.c2_target__Effect_0.u64_0 = v5.f1.f0.c2_target__Effect_0.u64_0;
+        v7.f1.f1 = v5.f1.f1;
+        v7.f1.f2 = v5.f1.f2;
+        v7.f1.f3.f0 = v5.f1.f3.f0;
+        v7.f1.f3.f1 = v5.f1.f3.f1;
+        v7.f1.f3.f2 = v5.f1.f3.f2;
+        v7.f1.f3.f3.f0 = v5.f1.f3.f3.f0;
+        v7.f1.f3.f3.f1 = v5.f1.f3.f3.f1;
+        v7.f1.f3.f3.f2 = v5.f1.f3.f3.f2;
+        v7.f1.f3.f3.f3 = v5.f1.f3.f3.f3;
+        v7.f1.f3.f4.f0.tag = v5.f1.f3.f4.f0.tag;
+        v7.f1.f3.f4.f0.u64_0 = v5.f1.f3.f4.f0.u64_0;
+        v7.f1.f3.f4.f0.bool_0 = v5.f1.f3.f4.f0.bool_0;
+        v7.f1.f3.f4.f0.u64_1 = v5.f1.f3.f4.f0.u64_1;
+        v7.f1.f3.f4.f1.tag = v5.f1.f3.f4.f1.tag;
+        v7.f1.f3.f4.f1.bool_0 = v5.f1.f3.f4.f1.bool_0;
+        v7.f1.f3.f4.f1.u64_0 = v5.f1.f3.f4.f1.u64_0;
+        v7.f1.f3.f4.f1.u64_1 = v5.f1.f3.f4.f1.u64_1;
+        v7.f1.f3.f4.f2 = v5.f1.f3.f4.f2;
+        v7.f1.f3.f4.f3 = v5.f1.f3.f4.f3;
+    } else {
+        v7 = c2_target_step__steps__still(a2, a4);
     }
-    result = c2_target_step__steps__still(a3, a6);
+    result.f0 = v7.f0;
+    result.f1.f0.tag = v7.f1.f0.tag;
+    result.f1.f0.u64_0 = v7.f1.f0.u64_0;
+    result.f1.f0.u64_1 = v7.f1.f0.u64_1;
+    result.f1.f0.c2_target__Effect_0.tag = v7.f1.f0.c2_target__Effect_0.tag;
+    result.f1.f0.c2_target__Effect_0.u64_0 = v7.f1.f0.c2_target__Effect_0.u64_0;
+    result.f1.f1 = v7.f1.f1;
+    result.f1.f2 = v7.f1.f2;
+    result.f1.f3.f0 = v7.f1.f3.f0;
+    result.f1.f3.f1 = v7.f1.f3.f1;
+    result.f1.f3.f2 = v7.f1.f3.f2;
+    result.f1.f3.f3.f0 = v7.f1.f3.f3.f0;
+    result.f1.f3.f3.f1 = v7.f1.f3.f3.f1;
+    result.f1.f3.f3.f2 = v7.f1.f3.f3.f2;
+    result.f1.f3.f3.f3 = v7.f1.f3.f3.f3;
+    result.f1.f3.f4.f0.tag = v7.f1.f3.f4.f0.tag;
+    result.f1.f3.f4.f0.u64_0 = v7.f1.f3.f4.f0.u64_0;
+    result.f1.f3.f4.f0.bool_0 = v7.f1.f3.f4.f0.bool_0;
+    result.f1.f3.f4.f0.u64_1 = v7.f1.f3.f4.f0.u64_1;
+    result.f1.f3.f4.f1.tag = v7.f1.f3.f4.f1.tag;
+    result.f1.f3.f4.f1.bool_0 = v7.f1.f3.f4.f1.bool_0;
+    result.f1.f3.f4.f1.u64_0 = v7.f1.f3.f4.f1.u64_0;
+    result.f1.f3.f4.f1.u64_1 = v7.f1.f3.f4.f1.u64_1;
+    result.f1.f3.f4.f2 = v7.f1.f3.f4.f2;
+    result.f1.f3.f4.f3 = v7.f1.f3.f4.f3;
+    return result;
+}
+
+/* core::ResultFromResidualErrResidual::from_residua_47cf13 */
+static core__Result_Turned_Refusal core__ResultFromResidualErrResidual__from_residua_47cf13(
+    const core__ErrResidual_Refusal *a1)
+{
+    core__Result_Turned_Refusal result;
+    numbers__Refusal v2;
+    numbers__Refusal v3;
+    v3 = a1->f0;
+    v2 = core__AnyFrom__from_Refusal(v3);
+    result.tag = 1u;
+    result.numbers__Refusal_0 = v2;
+    result.c2_target__Turned_0.f0 = 0;
+    result.c2_target__Turned_0.f1.f0.tag = 0;
+    result.c2_target__Turned_0.f1.f0.u64_0 = 0;
+    result.c2_target__Turned_0.f1.f0.u64_1 = 0;
+    result.c2_target__Turned_0.f1.f0.c2_target__Effect_0.tag = 0;
+    result.c2_target__Turned_0.f1.f0.c2_target__Effect_0.u64_0 = 0;
+    result.c2_target__Turned_0.f1.f1 = 0;
+    result.c2_target__Turned_0.f1.f2 = 0;
+    result.c2_target__Turned_0.f1.f3.f0 = 0;
+    result.c2_target__Turned_0.f1.f3.f1 = 0;
+    result.c2_target__Turned_0.f1.f3.f2 = 0;
+    result.c2_target__Turned_0.f1.f3.f3.f0 = 0;
+    result.c2_target__Turned_0.f1.f3.f3.f1 = 0;
+    result.c2_target__Turned_0.f1.f3.f3.f2 = 0;
+    result.c2_target__Turned_0.f1.f3.f3.f3 = 0;
+    result.c2_target__Turned_0.f1.f3.f4.f0.tag = 0;
+    result.c2_target__Turned_0.f1.f3.f4.f0.u64_0 = 0;
+    result.c2_target__Turned_0.f1.f3.f4.f0.bool_0 = 0;
+    result.c2_target__Turned_0.f1.f3.f4.f0.u64_1 = 0;
+    result.c2_target__Turned_0.f1.f3.f4.f1.tag = 0;
+    result.c2_target__Turned_0.f1.f3.f4.f1.bool_0 = 0;
+    result.c2_target__Turned_0.f1.f3.f4.f1.u64_0 = 0;
+    result.c2_target__Turned_0.f1.f3.f4.f1.u64_1 = 0;
+    result.c2_target__Turned_0.f1.f3.f4.f2 = 0;
+    result.c2_target__Turned_0.f1.f3.f4.f3 = 0;
     return result;
 }
 
 /* c2_target_step::steps::step */
-static c2_target__Replied c2_target_step__steps__step(const c2_settings *a1, const c2_pairs *a2,
+static core__Result_Turned_Refusal c2_target_step__steps__step(const c2_settings *a1, const c2_pairs *a2,
     const c2_target__Target *a3, slice_mut_u8 a4, slice_u8 a5, uint8_t a6)
 {
-    c2_target__Replied result;
-    uint32_t v7;
-    const uint8_t *v8;
-    slice_u8 v9;
-    _Bool v10;
-    uint8_t *v11;
-    slice_mut_u8 v12;
-    v8 = a4.at;
-    v9.at = v8;
-    v9.length = a4.length;
-    v7 = c2_target_step__steps__refusal(a1, a2, a3, v9, a6);
-    v10 = v7 != UINT32_C(0);
-    if (v10) {
-        result.f0 = v7;
-        result.f1 = UINT32_C(1);
-        result.f2.f0.tag = a3->f0.tag;
-        result.f2.f0.u64_0 = a3->f0.u64_0;
-        result.f2.f0.u64_1 = a3->f0.u64_1;
-        result.f2.f0.c2_target__Effect_0.tag = a3->f0.c2_target__Effect_0.tag;
-        result.f2.f0.c2_target__Effect_0.u64_0 = a3->f0.c2_target__Effect_0.u64_0;
-        result.f2.f1 = a3->f1;
-        result.f2.f2 = a3->f2;
-        result.f2.f3.f0 = a3->f3.f0;
-        result.f2.f3.f1 = a3->f3.f1;
-        result.f2.f3.f2 = a3->f3.f2;
-        result.f2.f3.f3.f0 = a3->f3.f3.f0;
-        result.f2.f3.f3.f1 = a3->f3.f3.f1;
-        result.f2.f3.f3.f2 = a3->f3.f3.f2;
-        result.f2.f3.f3.f3 = a3->f3.f3.f3;
-        result.f2.f3.f4.f0.tag = a3->f3.f4.f0.tag;
-        result.f2.f3.f4.f0.u64_0 = a3->f3.f4.f0.u64_0;
-        result.f2.f3.f4.f0.bool_0 = a3->f3.f4.f0.bool_0;
-        result.f2.f3.f4.f0.u64_1 = a3->f3.f4.f0.u64_1;
-        result.f2.f3.f4.f1.tag = a3->f3.f4.f1.tag;
-        result.f2.f3.f4.f1.bool_0 = a3->f3.f4.f1.bool_0;
-        result.f2.f3.f4.f1.u64_0 = a3->f3.f4.f1.u64_0;
-        result.f2.f3.f4.f1.u64_1 = a3->f3.f4.f1.u64_1;
-        result.f2.f3.f4.f2 = a3->f3.f4.f2;
-        result.f2.f3.f4.f3 = a3->f3.f4.f3;
+    core__Result_Turned_Refusal result;
+    core__ErrResidual_Refusal v8;
+    c2_target_step__Lent v9;
+    core__ControlFlow_ErrResidual_Refusal_unit v10;
+    core__Result_unit_Refusal v11;
+    const uint8_t *v12;
+    slice_u8 v13;
+    c2_target__Turned v14;
+    c2_target_step__Lent v15;
+    uint8_t *v16;
+    slice_mut_u8 v17;
+    v12 = a4.at;
+    v13.at = v12;
+    v13.length = a4.length;
+    v11 = c2_target_step__steps__refusal(a1, a2, a3, v13, a6);
+    v10 = core__ResultTry__branch_unit_Refusal(&v11);
+    switch (v10.tag) {
+    case 0u:
+        break;
+    default: /* 1 */
+        v8.f0 = v10.core__ErrResidual_Refusal_0.f0;
+        result = core__ResultFromResidualErrResidual__from_residua_47cf13(&v8);
         return result;
     }
-    v11 = a4.at;
-    v12.at = v11;
-    v12.length = a4.length;
-    result = c2_target_step__steps__stepped(a1, a2, a3, v12, a5, a6);
+    v9.f0.device_id = a1->device_id;
+    v9.f0.fpdat = a1->fpdat;
+    v9.f0.page_size = a1->page_size;
+    v9.f0.page_count = a1->page_count;
+    v9.f0.wait_limit = a1->wait_limit;
+    v9.f0.pairs.count = a1->pairs.count;
+    v9.f0.pairs.registers[0] = a1->pairs.registers[0];
+    v9.f0.pairs.registers[1] = a1->pairs.registers[1];
+    v9.f0.pairs.registers[2] = a1->pairs.registers[2];
+    v9.f0.pairs.registers[3] = a1->pairs.registers[3];
+    v9.f0.pairs.values[0] = a1->pairs.values[0];
+    v9.f0.pairs.values[1] = a1->pairs.values[1];
+    v9.f0.pairs.values[2] = a1->pairs.values[2];
+    v9.f0.pairs.values[3] = a1->pairs.values[3];
+    v9.f1.count = a2->count;
+    v9.f1.registers[0] = a2->registers[0];
+    v9.f1.registers[1] = a2->registers[1];
+    v9.f1.registers[2] = a2->registers[2];
+    v9.f1.registers[3] = a2->registers[3];
+    v9.f1.values[0] = a2->values[0];
+    v9.f1.values[1] = a2->values[1];
+    v9.f1.values[2] = a2->values[2];
+    v9.f1.values[3] = a2->values[3];
+    v9.f2.at = a5.at;
+    v9.f2.length = a5.length;
+    v15.f0.device_id = v9.f0.device_id;
+    v15.f0.fpdat = v9.f0.fpdat;
+    v15.f0.page_size = v9.f0.page_size;
+    v15.f0.page_count = v9.f0.page_count;
+    v15.f0.wait_limit = v9.f0.wait_limit;
+    v15.f0.pairs.count = v9.f0.pairs.count;
+    v15.f0.pairs.registers[0] = v9.f0.pairs.registers[0];
+    v15.f0.pairs.registers[1] = v9.f0.pairs.registers[1];
+    v15.f0.pairs.registers[2] = v9.f0.pairs.registers[2];
+    v15.f0.pairs.registers[3] = v9.f0.pairs.registers[3];
+    v15.f0.pairs.values[0] = v9.f0.pairs.values[0];
+    v15.f0.pairs.values[1] = v9.f0.pairs.values[1];
+    v15.f0.pairs.values[2] = v9.f0.pairs.values[2];
+    v15.f0.pairs.values[3] = v9.f0.pairs.values[3];
+    v15.f1.count = v9.f1.count;
+    v15.f1.registers[0] = v9.f1.registers[0];
+    v15.f1.registers[1] = v9.f1.registers[1];
+    v15.f1.registers[2] = v9.f1.registers[2];
+    v15.f1.registers[3] = v9.f1.registers[3];
+    v15.f1.values[0] = v9.f1.values[0];
+    v15.f1.values[1] = v9.f1.values[1];
+    v15.f1.values[2] = v9.f1.values[2];
+    v15.f1.values[3] = v9.f1.values[3];
+    v15.f2.at = v9.f2.at;
+    v15.f2.length = v9.f2.length;
+    v16 = a4.at;
+    v17.at = v16;
+    v17.length = a4.length;
+    v14 = c2_target_step__steps__stepped(&v15, a3, v17, a6);
+    result.tag = 0u;
+    result.c2_target__Turned_0.f0 = v14.f0;
+    result.c2_target__Turned_0.f1.f0.tag = v14.f1.f0.tag;
+    result.c2_target__Turned_0.f1.f0.u64_0 = v14.f1.f0.u64_0;
+    result.c2_target__Turned_0.f1.f0.u64_1 = v14.f1.f0.u64_1;
+    result.c2_target__Turned_0.f1.f0.c2_target__Effect_0.tag = v14.f1.f0.c2_target__Effect_0.tag;
+    result.c2_target__Turned_0.f1.f0.c2_target__Effect_0.u64_0 = v14.f1.f0.c2_target__Effect_0.u64_0;
+    result.c2_target__Turned_0.f1.f1 = v14.f1.f1;
+    result.c2_target__Turned_0.f1.f2 = v14.f1.f2;
+    result.c2_target__Turned_0.f1.f3.f0 = v14.f1.f3.f0;
+    result.c2_target__Turned_0.f1.f3.f1 = v14.f1.f3.f1;
+    result.c2_target__Turned_0.f1.f3.f2 = v14.f1.f3.f2;
+    result.c2_target__Turned_0.f1.f3.f3.f0 = v14.f1.f3.f3.f0;
+    result.c2_target__Turned_0.f1.f3.f3.f1 = v14.f1.f3.f3.f1;
+    result.c2_target__Turned_0.f1.f3.f3.f2 = v14.f1.f3.f3.f2;
+    result.c2_target__Turned_0.f1.f3.f3.f3 = v14.f1.f3.f3.f3;
+    result.c2_target__Turned_0.f1.f3.f4.f0.tag = v14.f1.f3.f4.f0.tag;
+    result.c2_target__Turned_0.f1.f3.f4.f0.u64_0 = v14.f1.f3.f4.f0.u64_0;
+    result.c2_target__Turned_0.f1.f3.f4.f0.bool_0 = v14.f1.f3.f4.f0.bool_0;
+    result.c2_target__Turned_0.f1.f3.f4.f0.u64_1 = v14.f1.f3.f4.f0.u64_1;
+    result.c2_target__Turned_0.f1.f3.f4.f1.tag = v14.f1.f3.f4.f1.tag;
+    result.c2_target__Turned_0.f1.f3.f4.f1.bool_0 = v14.f1.f3.f4.f1.bool_0;
+    result.c2_target__Turned_0.f1.f3.f4.f1.u64_0 = v14.f1.f3.f4.f1.u64_0;
+    result.c2_target__Turned_0.f1.f3.f4.f1.u64_1 = v14.f1.f3.f4.f1.u64_1;
+    result.c2_target__Turned_0.f1.f3.f4.f2 = v14.f1.f3.f4.f2;
+    result.c2_target__Turned_0.f1.f3.f4.f3 = v14.f1.f3.f4.f3;
+    result.numbers__Refusal_0 = 0;
     return result;
 }
 
-/* c2_target_state::model::held */
-static c2_replied c2_target_state__model__held(const c2_settings *a1, const c2_pairs *a2, const c2_target *a3,
-    slice_mut_u8 a4, slice_u8 a5, uint8_t a6)
+/* c2_target_state::encode::state_with */
+static c2_target c2_target_state__encode__state_with(const c2_target__Target *a1,
+    const c2_target_state__PointFields *a2, const c2_target_state__CommandFields *a3,
+    const c2_target_state__OutputFields *a4)
 {
-    c2_replied result;
-    c2_target__Replied v7;
+    c2_target result;
+    c2_target__Device v5;
+    c2_target__Met v6;
+    uint64_t v7;
+    uint8_t v8;
+    uint8_t v9;
+    uint8_t v10;
+    uint8_t v11;
+    uint8_t v12;
+    uint8_t v13;
+    uint8_t v14;
+    uint8_t v15;
+    uint8_t v16;
+    uint8_t v17;
+    v5.f0 = a1->f3.f0;
+    v5.f1 = a1->f3.f1;
+    v5.f2 = a1->f3.f2;
+    v5.f3.f0 = a1->f3.f3.f0;
+    v5.f3.f1 = a1->f3.f3.f1;
+    v5.f3.f2 = a1->f3.f3.f2;
+    v5.f3.f3 = a1->f3.f3.f3;
+    v5.f4.f0.tag = a1->f3.f4.f0.tag;
+    v5.f4.f0.u64_0 = a1->f3.f4.f0.u64_0;
+    v5.f4.f0.bool_0 = a1->f3.f4.f0.bool_0;
+    v5.f4.f0.u64_1 = a1->f3.f4.f0.u64_1;
+    v5.f4.f1.tag = a1->f3.f4.f1.tag;
+    v5.f4.f1.bool_0 = a1->f3.f4.f1.bool_0;
+    v5.f4.f1.u64_0 = a1->f3.f4.f1.u64_0;
+    v5.f4.f1.u64_1 = a1->f3.f4.f1.u64_1;
+    v5.f4.f2 = a1->f3.f4.f2;
+    v5.f4.f3 = a1->f3.f4.f3;
+    v6.f0 = v5.f3.f0;
+    v6.f1 = v5.f3.f1;
+    v6.f2 = v5.f3.f2;
+    v6.f3 = v5.f3.f3;
+    v7 = a1->f1;
+    v8 = core__AnyInto__into_bool_u8(a1->f2);
+    v9 = c2_target_state__fields__low(v5.f0);
+    v10 = core__AnyInto__into_bool_u8(v5.f1);
+    v11 = c2_target_state__fields__low(v5.f2);
+    v12 = core__AnyInto__into_bool_u8(v6.f0);
+    v13 = core__AnyInto__into_bool_u8(v6.f1);
+    v14 = core__AnyInto__into_bool_u8(v6.f2);
+    v15 = core__AnyInto__into_bool_u8(v6.f3);
+    v16 = c2_target_state__fields__low(v5.f4.f2);
+    v17 = c2_target_state__fields__low(v5.f4.f3);
+    result.place = v7;
+    result.start = a3->f4;
+    result.rest = a3->f5;
+    result.next = a4->f2;
+    result.count = a4->f3;
+    result.point = a2->f0;
+    result.heard = a2->f1;
+    result.value = a2->f2;
+    result.left = a2->f3;
+    result.zeros = a2->f4;
+    result.effect = a2->f5;
+    result.byte = a2->f6;
+    result.collision = v8;
+    result.address = v9;
+    result.on = v10;
+    result.keys = v11;
+    result.met1 = v12;
+    result.met2 = v13;
+    result.met3 = v14;
+    result.met4 = v15;
+    result.command = a3->f0;
+    result.write = a3->f1;
+    result.page = a3->f2;
+    result.high = a3->f3;
+    result.output = a4->f0;
+    result.passed = a4->f1;
+    result.busy = v16;
+    result.late = v17;
+    return result;
+}
+
+/* core::default::U16Default::default */
+static uint16_t core__default__U16Default__default(void)
+{
+    uint16_t result;
+    result = 0u;
+    return result;
+}
+
+/* c2_target_state::CommandFieldsDefault::default */
+static c2_target_state__CommandFields c2_target_state__CommandFieldsDefault__default(void)
+{
+    c2_target_state__CommandFields result;
+    uint8_t v1;
+    uint8_t v2;
+    uint8_t v3;
+    uint8_t v4;
+    uint16_t v5;
+    uint16_t v6;
+    v1 = core__default__U8Default__default();
+    v2 = core__default__U8Default__default();
+    v3 = core__default__U8Default__default();
+    v4 = core__default__U8Default__default();
+    v5 = core__default__U16Default__default();
+    v6 = core__default__U16Default__default();
+    result.f0 = v1;
+    result.f1 = v2;
+    result.f2 = v3;
+    result.f3 = v4;
+    result.f4 = v5;
+    result.f5 = v6;
+    return result;
+}
+
+/* c2_target_state::encode::of_block */
+static c2_target_state__CommandFields c2_target_state__encode__of_block(uint8_t a1, _Bool a2)
+{
+    c2_target_state__CommandFields result;
+    uint8_t v3;
+    c2_target_state__CommandFields v4;
+    uint8_t v5;
+    uint8_t v6;
+    uint16_t v7;
+    uint16_t v8;
+    v3 = core__AnyInto__into_bool_u8(a2);
+    v4 = c2_target_state__CommandFieldsDefault__default();
+    v5 = v4.f2;
+    v6 = v4.f3;
+    v7 = v4.f4;
+    v8 = v4.f5;
+    result.f0 = a1;
+    result.f1 = v3;
+    result.f2 = v5;
+    result.f3 = v6;
+    result.f4 = v7;
+    result.f5 = v8;
+    return result;
+}
+
+/* c2_target_state::fields::word */
+static uint16_t c2_target_state__fields__word(uint64_t a1)
+{
+    uint16_t result;
+    uint64_t v2;
+    v2 = a1 % UINT64_C(65536);
+    result = (uint16_t)v2;
+    return result;
+}
+
+/* c2_target_state::encode::CommandFieldsFromCommand::from */
+static c2_target_state__CommandFields c2_target_state__encode__CommandFieldsFromCommand__from(
+    const c2_target__Command *a1)
+{
+    c2_target_state__CommandFields result;
+    c2_target_state__CommandFields v2;
+    uint64_t v3;
+    _Bool v4;
+    _Bool v5;
+    uint64_t v6;
+    _Bool v7;
+    uint64_t v8;
+    uint64_t v9;
+    uint64_t v10;
+    uint64_t v11;
+    c2_target_state__CommandFields v12;
+    uint8_t v13;
+    uint8_t v14;
+    uint8_t v15;
+    uint16_t v16;
+    uint16_t v17;
+    uint8_t v18;
+    uint8_t v19;
+    uint8_t v20;
+    uint16_t v21;
+    uint16_t v22;
+    uint8_t v23;
+    c2_target_state__CommandFields v24;
+    uint8_t v25;
+    uint8_t v26;
+    uint8_t v27;
+    uint16_t v28;
+    uint16_t v29;
+    uint16_t v30;
+    c2_target_state__CommandFields v31;
+    uint8_t v32;
+    uint8_t v33;
+    uint8_t v34;
+    uint8_t v35;
+    uint16_t v36;
+    uint16_t v37;
+    uint16_t v38;
+    uint8_t v39;
+    uint8_t v40;
+    uint8_t v41;
+    uint16_t v42;
+    uint8_t v43;
+    uint8_t v44;
+    uint8_t v45;
+    uint16_t v46;
+    v2 = c2_target_state__CommandFieldsDefault__default();
+    switch (a1->tag) {
+    case 0u:
+        v12.f0 = v2.f0;
+        v12.f1 = v2.f1;
+        v12.f2 = v2.f2;
+        v12.f3 = v2.f3;
+        v12.f4 = v2.f4;
+        v12.f5 = v2.f5;
+        break;
+    case 1u:
+        v13 = v2.f1;
+        v14 = v2.f2;
+        v15 = v2.f3;
+        v16 = v2.f4;
+        v17 = v2.f5;
+        v12.f0 = 1u;
+        v12.f1 = v13;
+        v12.f2 = v14;
+        v12.f3 = v15;
+        v12.f4 = v16;
+        v12.f5 = v17;
+        break;
+    case 2u:
+        v3 = a1->u64_0;
+        v18 = c2_target_state__fields__low(v3);
+        v19 = v2.f1;
+        v20 = v2.f3;
+        v21 = v2.f4;
+        v22 = v2.f5;
+        v12.f0 = 2u;
+        v12.f1 = v19;
+        v12.f2 = v18;
+        v12.f3 = v20;
+        v12.f4 = v21;
+        v12.f5 = v22;
+        break;
+    case 3u:
+        v4 = a1->bool_0;
+        v12 = c2_target_state__encode__of_block(3u, v4);
+        break;
+    case 4u:
+        v5 = a1->bool_0;
+        v6 = a1->u64_0;
+        v23 = c2_target_state__fields__low(v6);
+        v24 = c2_target_state__encode__of_block(4u, v5);
+        v25 = v24.f0;
+        v26 = v24.f1;
+        v27 = v24.f2;
+        v28 = v24.f4;
+        v29 = v24.f5;
+        v12.f0 = v25;
+        v12.f1 = v26;
+        v12.f2 = v27;
+        v12.f3 = v23;
+        v12.f4 = v28;
+        v12.f5 = v29;
+        break;
+    case 5u:
+        v7 = a1->bool_0;
+        v8 = a1->u64_0;
+        v30 = c2_target_state__fields__word(v8);
+        v31 = c2_target_state__encode__of_block(5u, v7);
+        v32 = v31.f0;
+        v33 = v31.f1;
+        v34 = v31.f2;
+        v35 = v31.f3;
+        v36 = v31.f5;
+        v12.f0 = v32;
+        v12.f1 = v33;
+        v12.f2 = v34;
+        v12.f3 = v35;
+        v12.f4 = v30;
+        v12.f5 = v36;
+        break;
+    case 6u:
+        v9 = a1->u64_0;
+        v10 = a1->u64_1;
+        v37 = c2_target_state__fields__word(v9);
+        v38 = c2_target_state__fields__word(v10);
+        v39 = v2.f1;
+        v40 = v2.f2;
+        v41 = v2.f3;
+        v12.f0 = 6u;
+        v12.f1 = v39;
+        v12.f2 = v40;
+        v12.f3 = v41;
+        v12.f4 = v37;
+        v12.f5 = v38;
+        break;
+    default: /* 7 */
+        v11 = a1->u64_0;
+        v42 = c2_target_state__fields__word(v11);
+        v43 = v2.f1;
+        v44 = v2.f2;
+        v45 = v2.f3;
+        v46 = v2.f4;
+        v12.f0 = 7u;
+        v12.f1 = v43;
+        v12.f2 = v44;
+        v12.f3 = v45;
+        v12.f4 = v46;
+        v12.f5 = v42;
+        break;
+    }
+    result.f0 = v12.f0;
+    result.f1 = v12.f1;
+    result.f2 = v12.f2;
+    result.f3 = v12.f3;
+    result.f4 = v12.f4;
+    result.f5 = v12.f5;
+    return result;
+}
+
+/* core::AnyInto::into_Command_CommandFields */
+static c2_target_state__CommandFields core__AnyInto__into_Command_CommandFields(const c2_target__Command *a1)
+{
+    c2_target_state__CommandFields result;
+    c2_target__Command v2;
+    v2.tag = a1->tag;
+    v2.u64_0 = a1->u64_0;
+    v2.bool_0 = a1->bool_0;
+    v2.u64_1 = a1->u64_1;
+    result = c2_target_state__encode__CommandFieldsFromCommand__from(&v2);
+    return result;
+}
+
+/* c2_target_state::OutputFieldsDefault::default */
+static c2_target_state__OutputFields c2_target_state__OutputFieldsDefault__default(void)
+{
+    c2_target_state__OutputFields result;
+    uint8_t v1;
+    uint8_t v2;
+    uint16_t v3;
+    uint16_t v4;
+    v1 = core__default__U8Default__default();
+    v2 = core__default__U8Default__default();
+    v3 = core__default__U16Default__default();
+    v4 = core__default__U16Default__default();
+    result.f0 = v1;
+    result.f1 = v2;
+    result.f2 = v3;
+    result.f3 = v4;
+    return result;
+}
+
+/* c2_target_state::encode::OutputFieldsFromOutput::from */
+static c2_target_state__OutputFields c2_target_state__encode__OutputFieldsFromOutput__from(
+    const c2_target__Output *a1)
+{
+    c2_target_state__OutputFields result;
+    c2_target_state__OutputFields v2;
+    _Bool v3;
+    uint64_t v4;
+    uint64_t v5;
+    uint64_t v6;
+    uint64_t v7;
+    c2_target_state__OutputFields v8;
+    uint8_t v9;
+    uint16_t v10;
+    uint16_t v11;
+    uint16_t v12;
+    uint16_t v13;
+    uint8_t v14;
+    uint16_t v15;
+    uint16_t v16;
+    uint8_t v17;
+    v2 = c2_target_state__OutputFieldsDefault__default();
+    switch (a1->tag) {
+    case 0u:
+        v8.f0 = v2.f0;
+        v8.f1 = v2.f1;
+        v8.f2 = v2.f2;
+        v8.f3 = v2.f3;
+        break;
+    case 1u:
+        v3 = a1->bool_0;
+        v9 = core__AnyInto__into_bool_u8(v3);
+        v10 = v2.f2;
+        v11 = v2.f3;
+        v8.f0 = 1u;
+        v8.f1 = v9;
+        v8.f2 = v10;
+        v8.f3 = v11;
+        break;
+    case 2u:
+        v4 = a1->u64_0;
+        v5 = a1->u64_1;
+        v12 = c2_target_state__fields__word(v4);
+        v13 = c2_target_state__fields__word(v5);
+        v14 = v2.f1;
+        v8.f0 = 2u;
+        v8.f1 = v14;
+        v8.f2 = v12;
+        v8.f3 = v13;
+        break;
+    default: /* 3 */
+        v6 = a1->u64_0;
+        v7 = a1->u64_1;
+        v15 = c2_target_state__fields__word(v6);
+        v16 = c2_target_state__fields__word(v7);
+        v17 = v2.f1;
+        v8.f0 = 3u;
+        v8.f1 = v17;
+        v8.f2 = v15;
+        v8.f3 = v16;
+        break;
+    }
+    result.f0 = v8.f0;
+    result.f1 = v8.f1;
+    result.f2 = v8.f2;
+    result.f3 = v8.f3;
+    return result;
+}
+
+/* core::AnyInto::into_Output_OutputFields */
+static c2_target_state__OutputFields core__AnyInto__into_Output_OutputFields(const c2_target__Output *a1)
+{
+    c2_target_state__OutputFields result;
+    c2_target__Output v2;
+    v2.tag = a1->tag;
+    v2.bool_0 = a1->bool_0;
+    v2.u64_0 = a1->u64_0;
+    v2.u64_1 = a1->u64_1;
+    result = c2_target_state__encode__OutputFieldsFromOutput__from(&v2);
+    return result;
+}
+
+/* core::AnyInto::into_Point_PointFields */
+static c2_target_state__PointFields core__AnyInto__into_Point_PointFields(const c2_target__Point *a1)
+{
+    c2_target_state__PointFields result;
+    c2_target__Point v2;
+    v2.tag = a1->tag;
+    v2.u64_0 = a1->u64_0;
+    v2.u64_1 = a1->u64_1;
+    v2.c2_target__Effect_0.tag = a1->c2_target__Effect_0.tag;
+    v2.c2_target__Effect_0.u64_0 = a1->c2_target__Effect_0.u64_0;
+    result = c2_target_state__encode__PointFieldsFromPoint__from(&v2);
+    return result;
+}
+
+/* c2_target_state::encode::StateFromTarget::from */
+static c2_target c2_target_state__encode__StateFromTarget__from(const c2_target__Target *a1)
+{
+    c2_target result;
+    c2_target__Link v2;
+    c2_target_state__PointFields v3;
+    c2_target__Point v4;
+    c2_target_state__CommandFields v5;
+    c2_target__Command v6;
+    c2_target_state__OutputFields v7;
+    c2_target__Output v8;
+    v2.f0.tag = a1->f3.f4.f0.tag;
+    v2.f0.u64_0 = a1->f3.f4.f0.u64_0;
+    v2.f0.bool_0 = a1->f3.f4.f0.bool_0;
+    v2.f0.u64_1 = a1->f3.f4.f0.u64_1;
+    v2.f1.tag = a1->f3.f4.f1.tag;
+    v2.f1.bool_0 = a1->f3.f4.f1.bool_0;
+    v2.f1.u64_0 = a1->f3.f4.f1.u64_0;
+    v2.f1.u64_1 = a1->f3.f4.f1.u64_1;
+    v2.f2 = a1->f3.f4.f2;
+    v2.f3 = a1->f3.f4.f3;
+    v4.tag = a1->f0.tag;
+    v4.u64_0 = a1->f0.u64_0;
+    v4.u64_1 = a1->f0.u64_1;
+    v4.c2_target__Effect_0.tag = a1->f0.c2_target__Effect_0.tag;
+    v4.c2_target__Effect_0.u64_0 = a1->f0.c2_target__Effect_0.u64_0;
+    v3 = core__AnyInto__into_Point_PointFields(&v4);
+    v6.tag = v2.f0.tag;
+    v6.u64_0 = v2.f0.u64_0;
+    v6.bool_0 = v2.f0.bool_0;
+    v6.u64_1 = v2.f0.u64_1;
+    v5 = core__AnyInto__into_Command_CommandFields(&v6);
+    v8.tag = v2.f1.tag;
+    v8.bool_0 = v2.f1.bool_0;
+    v8.u64_0 = v2.f1.u64_0;
+    v8.u64_1 = v2.f1.u64_1;
+    v7 = core__AnyInto__into_Output_OutputFields(&v8);
+    result = c2_target_state__encode__state_with(a1, &v3, &v5, &v7);
+    return result;
+}
+
+/* core::AnyInto::into_Target_State */
+static c2_target core__AnyInto__into_Target_State(const c2_target__Target *a1)
+{
+    c2_target result;
+    c2_target__Target v2;
+    v2.f0.tag = a1->f0.tag;
+    v2.f0.u64_0 = a1->f0.u64_0;
+    v2.f0.u64_1 = a1->f0.u64_1;
+    v2.f0.c2_target__Effect_0.tag = a1->f0.c2_target__Effect_0.tag;
+    v2.f0.c2_target__Effect_0.u64_0 = a1->f0.c2_target__Effect_0.u64_0;
+    v2.f1 = a1->f1;
+    v2.f2 = a1->f2;
+    v2.f3.f0 = a1->f3.f0;
+    v2.f3.f1 = a1->f3.f1;
+    v2.f3.f2 = a1->f3.f2;
+    v2.f3.f3.f0 = a1->f3.f3.f0;
+    v2.f3.f3.f1 = a1->f3.f3.f1;
+    v2.f3.f3.f2 = a1->f3.f3.f2;
+    v2.f3.f3.f3 = a1->f3.f3.f3;
+    v2.f3.f4.f0.tag = a1->f3.f4.f0.tag;
+    v2.f3.f4.f0.u64_0 = a1->f3.f4.f0.u64_0;
+    v2.f3.f4.f0.bool_0 = a1->f3.f4.f0.bool_0;
+    v2.f3.f4.f0.u64_1 = a1->f3.f4.f0.u64_1;
+    v2.f3.f4.f1.tag = a1->f3.f4.f1.tag;
+    v2.f3.f4.f1.bool_0 = a1->f3.f4.f1.bool_0;
+    v2.f3.f4.f1.u64_0 = a1->f3.f4.f1.u64_0;
+    v2.f3.f4.f1.u64_1 = a1->f3.f4.f1.u64_1;
+    v2.f3.f4.f2 = a1->f3.f4.f2;
+    v2.f3.f4.f3 = a1->f3.f4.f3;
+    result = c2_target_state__encode__StateFromTarget__from(&v2);
+    return result;
+}
+
+/* core::convert::others::U32FromBool::from */
+static uint32_t core__convert__others__U32FromBool__from(_Bool a1)
+{
+    uint32_t result;
+    result = (uint32_t)a1;
+    return result;
+}
+
+/* core::AnyInto::into_bool_u32 */
+static uint32_t core__AnyInto__into_bool_u32(_Bool a1)
+{
+    uint32_t result;
+    _Bool v2;
+    v2 = a1;
+    result = core__convert__others__U32FromBool__from(v2);
+    return result;
+}
+
+/* core::ResultFromResidualErrResidual::from_residua_368e9c */
+static core__Result_ModelReplied_Refusal core__ResultFromResidualErrResidual__from_residua_368e9c(
+    const core__ErrResidual_Refusal *a1)
+{
+    core__Result_ModelReplied_Refusal result;
+    numbers__Refusal v2;
+    numbers__Refusal v3;
+    v3 = a1->f0;
+    v2 = core__AnyFrom__from_Refusal(v3);
+    result.tag = 1u;
+    result.numbers__Refusal_0 = v2;
+    result.c2_target_state__ModelReplied_0.number = 0;
+    result.c2_target_state__ModelReplied_0.reply = 0;
+    result.c2_target_state__ModelReplied_0.target.place = 0;
+    result.c2_target_state__ModelReplied_0.target.start = 0;
+    result.c2_target_state__ModelReplied_0.target.rest = 0;
+    result.c2_target_state__ModelReplied_0.target.next = 0;
+    result.c2_target_state__ModelReplied_0.target.count = 0;
+    result.c2_target_state__ModelReplied_0.target.point = 0;
+    result.c2_target_state__ModelReplied_0.target.heard = 0;
+    result.c2_target_state__ModelReplied_0.target.value = 0;
+    result.c2_target_state__ModelReplied_0.target.left = 0;
+    result.c2_target_state__ModelReplied_0.target.zeros = 0;
+    result.c2_target_state__ModelReplied_0.target.effect = 0;
+    result.c2_target_state__ModelReplied_0.target.byte = 0;
+    result.c2_target_state__ModelReplied_0.target.collision = 0;
+    result.c2_target_state__ModelReplied_0.target.address = 0;
+    result.c2_target_state__ModelReplied_0.target.on = 0;
+    result.c2_target_state__ModelReplied_0.target.keys = 0;
+    result.c2_target_state__ModelReplied_0.target.met1 = 0;
+    result.c2_target_state__ModelReplied_0.target.met2 = 0;
+    result.c2_target_state__ModelReplied_0.target.met3 = 0;
+    result.c2_target_state__ModelReplied_0.target.met4 = 0;
+    result.c2_target_state__ModelReplied_0.target.command = 0;
+    result.c2_target_state__ModelReplied_0.target.write = 0;
+    result.c2_target_state__ModelReplied_0.target.page = 0;
+    result.c2_target_state__ModelReplied_0.target.high = 0;
+    result.c2_target_state__ModelReplied_0.target.output = 0;
+    result.c2_target_state__ModelReplied_0.target.passed = 0;
+    result.c2_target_state__ModelReplied_0.target.busy = 0;
+    result.c2_target_state__ModelReplied_0.target.late = 0;
+    return result;
+}
+
+/* core::ResultTry::branch_Turned_Refusal */
+static core__ControlFlow_ErrResidual_Refusal_Turned core__ResultTry__branch_Turned_Refusal(
+    const core__Result_Turned_Refusal *a1)
+{
+    core__ControlFlow_ErrResidual_Refusal_Turned result;
+    c2_target__Turned v2;
+    numbers__Refusal v3;
+    core__ControlFlow_ErrResidual_Refusal_Turned v4;
+    c2_target__Turned v5;
+    numbers__Refusal v6;
+    core__ErrResidual_Refusal v7;
+    switch (a1->tag) {
+    case 0u:
+        v2.f0 = a1->c2_target__Turned_0.f0;
+        v2.f1.f0.tag = a1->c2_target__Turned_0.f1.f0.tag;
+        v2.f1.f0.u64_0 = a1->c2_target__Turned_0.f1.f0.u64_0;
+        v2.f1.f0.u64_1 = a1->c2_target__Turned_0.f1.f0.u64_1;
+        v2.f1.f0.c2_target__Effect_0.tag = a1->c2_target__Turned_0.f1.f0.c2_target__Effect_0.tag;
+        v2.f1.f0.c2_target__Effect_0.u64_0 = a1->c2_target__Turned_0.f1.f0.c2_target__Effect_0.u64_0;
+        v2.f1.f1 = a1->c2_target__Turned_0.f1.f1;
+        v2.f1.f2 = a1->c2_target__Turned_0.f1.f2;
+        v2.f1.f3.f0 = a1->c2_target__Turned_0.f1.f3.f0;
+        v2.f1.f3.f1 = a1->c2_target__Turned_0.f1.f3.f1;
+        v2.f1.f3.f2 = a1->c2_target__Turned_0.f1.f3.f2;
+        v2.f1.f3.f3.f0 = a1->c2_target__Turned_0.f1.f3.f3.f0;
+        v2.f1.f3.f3.f1 = a1->c2_target__Turned_0.f1.f3.f3.f1;
+        v2.f1.f3.f3.f2 = a1->c2_target__Turned_0.f1.f3.f3.f2;
+        v2.f1.f3.f3.f3 = a1->c2_target__Turned_0.f1.f3.f3.f3;
+        v2.f1.f3.f4.f0.tag = a1->c2_target__Turned_0.f1.f3.f4.f0.tag;
+        v2.f1.f3.f4.f0.u64_0 = a1->c2_target__Turned_0.f1.f3.f4.f0.u64_0;
+        v2.f1.f3.f4.f0.bool_0 = a1->c2_target__Turned_0.f1.f3.f4.f0.bool_0;
+        v2.f1.f3.f4.f0.u64_1 = a1->c2_target__Turned_0.f1.f3.f4.f0.u64_1;
+        v2.f1.f3.f4.f1.tag = a1->c2_target__Turned_0.f1.f3.f4.f1.tag;
+        v2.f1.f3.f4.f1.bool_0 = a1->c2_target__Turned_0.f1.f3.f4.f1.bool_0;
+        v2.f1.f3.f4.f1.u64_0 = a1->c2_target__Turned_0.f1.f3.f4.f1.u64_0;
+        v2.f1.f3.f4.f1.u64_1 = a1->c2_target__Turned_0.f1.f3.f4.f1.u64_1;
+        v2.f1.f3.f4.f2 = a1->c2_target__Turned_0.f1.f3.f4.f2;
+        v2.f1.f3.f4.f3 = a1->c2_target__Turned_0.f1.f3.f4.f3;
+        v5.f0 = v2.f0;
+        v5.f1.f0.tag = v2.f1.f0.tag;
+        v5.f1.f0.u64_0 = v2.f1.f0.u64_0;
+        v5.f1.f0.u64_1 = v2.f1.f0.u64_1;
+        v5.f1.f0.c2_target__Effect_0.tag = v2.f1.f0.c2_target__Effect_0.tag;
+        v5.f1.f0.c2_target__Effect_0.u64_0 = v2.f1.f0.c2_target__Effect_0.u64_0;
+        v5.f1.f1 = v2.f1.f1;
+        v5.f1.f2 = v2.f1.f2;
+        v5.f1.f3.f0 = v2.f1.f3.f0;
+        v5.f1.f3.f1 = v2.f1.f3.f1;
+        v5.f1.f3.f2 = v2.f1.f3.f2;
+        v5.f1.f3.f3.f0 = v2.f1.f3.f3.f0;
+        v5.f1.f3.f3.f1 = v2.f1.f3.f3.f1;
+        v5.f1.f3.f3.f2 = v2.f1.f3.f3.f2;
+        v5.f1.f3.f3.f3 = v2.f1.f3.f3.f3;
+        v5.f1.f3.f4.f0.tag = v2.f1.f3.f4.f0.tag;
+        v5.f1.f3.f4.f0.u64_0 = v2.f1.f3.f4.f0.u64_0;
+        v5.f1.f3.f4.f0.bool_0 = v2.f1.f3.f4.f0.bool_0;
+        v5.f1.f3.f4.f0.u64_1 = v2.f1.f3.f4.f0.u64_1;
+        v5.f1.f3.f4.f1.tag = v2.f1.f3.f4.f1.tag;
+        v5.f1.f3.f4.f1.bool_0 = v2.f1.f3.f4.f1.bool_0;
+        v5.f1.f3.f4.f1.u64_0 = v2.f1.f3.f4.f1.u64_0;
+        v5.f1.f3.f4.f1.u64_1 = v2.f1.f3.f4.f1.u64_1;
+        v5.f1.f3.f4.f2 = v2.f1.f3.f4.f2;
+        v5.f1.f3.f4.f3 = v2.f1.f3.f4.f3;
+        v4.tag = 0u;
+        v4.c2_target__Turned_0.f0 = v5.f0;
+        v4.c2_target__Turned_0.f1.f0.tag = v5.f1.f0.tag;
+        v4.c2_target__Turned_0.f1.f0.u64_0 = v5.f1.f0.u64_0;
+        v4.c2_target__Turned_0.f1.f0.u64_1 = v5.f1.f0.u64_1;
+        v4.c2_target__Turned_0.f1.f0.c2_target__Effect_0.tag = v5.f1.f0.c2_target__Effect_0.tag;
+        v4.c2_target__Turned_0.f1.f0.c2_target__Effect_0.u64_0 = v5.f1.f0.c2_target__Effect_0.u64_0;
+        v4.c2_target__Turned_0.f1.f1 = v5.f1.f1;
+        v4.c2_target__Turned_0.f1.f2 = v5.f1.f2;
+        v4.c2_target__Turned_0.f1.f3.f0 = v5.f1.f3.f0;
+        v4.c2_target__Turned_0.f1.f3.f1 = v5.f1.f3.f1;
+        v4.c2_target__Turned_0.f1.f3.f2 = v5.f1.f3.f2;
+        v4.c2_target__Turned_0.f1.f3.f3.f0 = v5.f1.f3.f3.f0;
+        v4.c2_target__Turned_0.f1.f3.f3.f1 = v5.f1.f3.f3.f1;
+        v4.c2_target__Turned_0.f1.f3.f3.f2 = v5.f1.f3.f3.f2;
+        v4.c2_target__Turned_0.f1.f3.f3.f3 = v5.f1.f3.f3.f3;
+        v4.c2_target__Turned_0.f1.f3.f4.f0.tag = v5.f1.f3.f4.f0.tag;
+        v4.c2_target__Turned_0.f1.f3.f4.f0.u64_0 = v5.f1.f3.f4.f0.u64_0;
+        v4.c2_target__Turned_0.f1.f3.f4.f0.bool_0 = v5.f1.f3.f4.f0.bool_0;
+        v4.c2_target__Turned_0.f1.f3.f4.f0.u64_1 = v5.f1.f3.f4.f0.u64_1;
+        v4.c2_target__Turned_0.f1.f3.f4.f1.tag = v5.f1.f3.f4.f1.tag;
+        v4.c2_target__Turned_0.f1.f3.f4.f1.bool_0 = v5.f1.f3.f4.f1.bool_0;
+        v4.c2_target__Turned_0.f1.f3.f4.f1.u64_0 = v5.f1.f3.f4.f1.u64_0;
+        v4.c2_target__Turned_0.f1.f3.f4.f1.u64_1 = v5.f1.f3.f4.f1.u64_1;
+        v4.c2_target__Turned_0.f1.f3.f4.f2 = v5.f1.f3.f4.f2;
+        v4.c2_target__Turned_0.f1.f3.f4.f3 = v5.f1.f3.f4.f3;
+        v4.core__ErrResidual_Refusal_0.f0 = 0;
+        break;
+    default: /* 1 */
+        v3 = a1->numbers__Refusal_0;
+        v6 = v3;
+        v7.f0 = v6;
+        v4.tag = 1u;
+        v4.core__ErrResidual_Refusal_0.f0 = v7.f0;
+        v4.c2_target__Turned_0.f0 = 0;
+        v4.c2_target__Turned_0.f1.f0.tag = 0;
+        v4.c2_target__Turned_0.f1.f0.u64_0 = 0;
+        v4.c2_target__Turned_0.f1.f0.u64_1 = 0;
+        v4.c2_target__Turned_0.f1.f0.c2_target__Effect_0.tag = 0;
+        v4.c2_target__Turned_0.f1.f0.c2_target__Effect_0.u64_0 = 0;
+        v4.c2_target__Turned_0.f1.f1 = 0;
+        v4.c2_target__Turned_0.f1.f2 = 0;
+        v4.c2_target__Turned_0.f1.f3.f0 = 0;
+        v4.c2_target__Turned_0.f1.f3.f1 = 0;
+        v4.c2_target__Turned_0.f1.f3.f2 = 0;
+        v4.c2_target__Turned_0.f1.f3.f3.f0 = 0;
+        v4.c2_target__Turned_0.f1.f3.f3.f1 = 0;
+        v4.c2_target__Turned_0.f1.f3.f3.f2 = 0;
+        v4.c2_target__Turned_0.f1.f3.f3.f3 = 0;
+        v4.c2_target__Turned_0.f1.f3.f4.f0.tag = 0;
+        v4.c2_target__Turned_0.f1.f3.f4.f0.u64_0 = 0;
+        v4.c2_target__Turned_0.f1.f3.f4.f0.bool_0 = 0;
+        v4.c2_target__Turned_0.f1.f3.f4.f0.u64_1 = 0;
+        v4.c2_target__Turned_0.f1.f3.f4.f1.tag = 0;
+        v4.c2_target__Turned_0.f1.f3.f4.f1.bool_0 = 0;
+        v4.c2_target__Turned_0.f1.f3.f4.f1.u64_0 = 0;
+        v4.c2_target__Turned_0.f1.f3.f4.f1.u64_1 = 0;
+        v4.c2_target__Turned_0.f1.f3.f4.f2 = 0;
+        v4.c2_target__Turned_0.f1.f3.f4.f3 = 0;
+        break;
+    }
+    result.tag = v4.tag;
+    result.c2_target__Turned_0.f0 = v4.c2_target__Turned_0.f0;
+    result.c2_target__Turned_0.f1.f0.tag = v4.c2_target__Turned_0.f1.f0.tag;
+    result.c2_target__Turned_0.f1.f0.u64_0 = v4.c2_target__Turned_0.f1.f0.u64_0;
+    result.c2_target__Turned_0.f1.f0.u64_1 = v4.c2_target__Turned_0.f1.f0.u64_1;
+    result.c2_target__Turned_0.f1.f0.c2_target__Effect_0.tag = v4.c2_target__Turned_0.f1.f0.c2_target__Effect_0.tag;
+    result.c2_target__Turned_0.f1.f0.c2_target__Effect_0.u64_0 = v4.c2_target__Turned_0.f1.f0.c2_target__Effect_0.u64_0;
+    result.c2_target__Turned_0.f1.f1 = v4.c2_target__Turned_0.f1.f1;
+    result.c2_target__Turned_0.f1.f2 = v4.c2_target__Turned_0.f1.f2;
+    result.c2_target__Turned_0.f1.f3.f0 = v4.c2_target__Turned_0.f1.f3.f0;
+    result.c2_target__Turned_0.f1.f3.f1 = v4.c2_target__Turned_0.f1.f3.f1;
+    result.c2_target__Turned_0.f1.f3.f2 = v4.c2_target__Turned_0.f1.f3.f2;
+    result.c2_target__Turned_0.f1.f3.f3.f0 = v4.c2_target__Turned_0.f1.f3.f3.f0;
+    result.c2_target__Turned_0.f1.f3.f3.f1 = v4.c2_target__Turned_0.f1.f3.f3.f1;
+    result.c2_target__Turned_0.f1.f3.f3.f2 = v4.c2_target__Turned_0.f1.f3.f3.f2;
+    result.c2_target__Turned_0.f1.f3.f3.f3 = v4.c2_target__Turned_0.f1.f3.f3.f3;
+    result.c2_target__Turned_0.f1.f3.f4.f0.tag = v4.c2_target__Turned_0.f1.f3.f4.f0.tag;
+    result.c2_target__Turned_0.f1.f3.f4.f0.u64_0 = v4.c2_target__Turned_0.f1.f3.f4.f0.u64_0;
+    result.c2_target__Turned_0.f1.f3.f4.f0.bool_0 = v4.c2_target__Turned_0.f1.f3.f4.f0.bool_0;
+    result.c2_target__Turned_0.f1.f3.f4.f0.u64_1 = v4.c2_target__Turned_0.f1.f3.f4.f0.u64_1;
+    result.c2_target__Turned_0.f1.f3.f4.f1.tag = v4.c2_target__Turned_0.f1.f3.f4.f1.tag;
+    result.c2_target__Turned_0.f1.f3.f4.f1.bool_0 = v4.c2_target__Turned_0.f1.f3.f4.f1.bool_0;
+    result.c2_target__Turned_0.f1.f3.f4.f1.u64_0 = v4.c2_target__Turned_0.f1.f3.f4.f1.u64_0;
+    result.c2_target__Turned_0.f1.f3.f4.f1.u64_1 = v4.c2_target__Turned_0.f1.f3.f4.f1.u64_1;
+    result.c2_target__Turned_0.f1.f3.f4.f2 = v4.c2_target__Turned_0.f1.f3.f4.f2;
+    result.c2_target__Turned_0.f1.f3.f4.f3 = v4.c2_target__Turned_0.f1.f3.f4.f3;
+    result.core__ErrResidual_Refusal_0.f0 = v4.core__ErrResidual_Refusal_0.f0;
+    return result;
+}
+
+/* c2_target_state::model::stepped */
+static core__Result_ModelReplied_Refusal c2_target_state__model__stepped(const c2_settings *a1,
+    const c2_pairs *a2, const c2_target *a3, slice_mut_u8 a4, slice_u8 a5, uint8_t a6)
+{
+    core__Result_ModelReplied_Refusal result;
+    c2_target__Target v7;
     c2_target__Target v8;
-    c2_target__Target v9;
-    uint8_t *v10;
-    slice_mut_u8 v11;
-    _Bool v12;
-    _Bool v13;
-    c2_target v14;
+    numbers__Refusal v9;
+    core__ErrResidual_Refusal v11;
+    c2_target__Turned v12;
+    c2_target__Turned v13;
+    core__ErrResidual_Refusal v14;
     c2_target v15;
-    v9 = c2_target_state__decode__target_read(a3);
-    v10 = a4.at;
-    v11.at = v10;
-    v11.length = a4.length;
-    v7 = c2_target_step__steps__step(a1, a2, &v9, v11, a5, a6);
-    v8.f0.tag = v7.f2.f0.tag;
-    v8.f0.u64_0 = v7.f2.f0.u64_0;
-    v8.f0.u64_1 = v7.f2.f0.u64_1;
-    v8.f0.c2_target__Effect_0.tag = v7.f2.f0.c2_target__Effect_0.tag;
-    v8.f0.c2_target__Effect_0.u64_0 = v7.f2.f0.c2_target__Effect_0.u64_0;
-    v8.f1 = v7.f2.f1;
-    v8.f2 = v7.f2.f2;
-    v8.f3.f0 = v7.f2.f3.f0;
-    v8.f3.f1 = v7.f2.f3.f1;
-    v8.f3.f2 = v7.f2.f3.f2;
-    v8.f3.f3.f0 = v7.f2.f3.f3.f0;
-    v8.f3.f3.f1 = v7.f2.f3.f3.f1;
-    v8.f3.f3.f2 = v7.f2.f3.f3.f2;
-    v8.f3.f3.f3 = v7.f2.f3.f3.f3;
-    v8.f3.f4.f0.tag = v7.f2.f3.f4.f0.tag;
-    v8.f3.f4.f0.u64_0 = v7.f2.f3.f4.f0.u64_0;
-    v8.f3.f4.f0.bool_0 = v7.f2.f3.f4.f0.bool_0;
-    v8.f3.f4.f0.u64_1 = v7.f2.f3.f4.f0.u64_1;
-    v8.f3.f4.f1.tag = v7.f2.f3.f4.f1.tag;
-    v8.f3.f4.f1.bool_0 = v7.f2.f3.f4.f1.bool_0;
-    v8.f3.f4.f1.u64_0 = v7.f2.f3.f4.f1.u64_0;
-    v8.f3.f4.f1.u64_1 = v7.f2.f3.f4.f1.u64_1;
-    v8.f3.f4.f2 = v7.f2.f3.f4.f2;
-    v8.f3.f4.f3 = v7.f2.f3.f4.f3;
-    v12 = v7.f0 == UINT32_C(0);
-    if (v12) {
-        v13 = c2_target_state__model__is_inside(a3->point, a6);
-        if (v13) {
-            v14 = c2_target_state__encode__point_moved(a3, &v8);
-            result.number = UINT32_C(0);
-            result.reply = v7.f1;
-            result.target.place = v14.place;
-            result.target.start = v14.start;
-            result.target.rest = v14.rest;
-            result.target.next = v14.next;
-            result.target.count = v14.count;
-            result.target.point = v14.point;
-            result.target.heard = v14.heard;
-            result.target.value = v14.value;
-            result.target.left = v14.left;
-            result.target.zeros = v14.zeros;
-            result.target.effect = v14.effect;
-            result.target.byte = v14.byte;
-            result.target.collision = v14.collision;
-            result.target.address = v14.address;
-            result.target.on = v14.on;
-            result.target.keys = v14.keys;
-            result.target.met1 = v14.met1;
-            result.target.met2 = v14.met2;
-            result.target.met3 = v14.met3;
-            result.target.met4 = v14.met4;
-            result.target.command = v14.command;
-            result.target.write = v14.write;
-            result.target.page = v14.page;
-            result.target.high = v14.high;
-            result.target.output = v14.output;
-            result.target.passed = v14.passed;
-            result.target.busy = v14.busy;
-            result.target.late = v14.late;
+    core__Result_Target_Refusal v16;
+    c2_target__Target v17;
+    core__ControlFlow_ErrResidual_Refusal_unit v18;
+    core__Result_unit_Refusal v19;
+    core__ControlFlow_ErrResidual_Refusal_Turned v20;
+    core__Result_Turned_Refusal v21;
+    uint8_t *v22;
+    slice_mut_u8 v23;
+    c2_target__Turned v24;
+    _Bool v25;
+    c2_target v26;
+    c2_target__Target v27;
+    c2_target__Target v28;
+    uint32_t v29;
+    c2_replied v30;
+    v16 = c2_target_state__decode__TargetTryFromState__try_from(a3);
+    switch (v16.tag) {
+    case 0u:
+        v8.f0.tag = v16.c2_target__Target_0.f0.tag;
+        v8.f0.u64_0 = v16.c2_target__Target_0.f0.u64_0;
+        v8.f0.u64_1 = v16.c2_target__Target_0.f0.u64_1;
+        v8.f0.c2_target__Effect_0.tag = v16.c2_target__Target_0.f0.c2_target__Effect_0.tag;
+        v8.f0.c2_target__Effect_0.u64_0 = v16.c2_target__Target_0.f0.c2_target__Effect_0.u64_0;
+        v8.f1 = v16.c2_target__Target_0.f1;
+        v8.f2 = v16.c2_target__Target_0.f2;
+        v8.f3.f0 = v16.c2_target__Target_0.f3.f0;
+        v8.f3.f1 = v16.c2_target__Target_0.f3.f1;
+        v8.f3.f2 = v16.c2_target__Target_0.f3.f2;
+        v8.f3.f3.f0 = v16.c2_target__Target_0.f3.f3.f0;
+        v8.f3.f3.f1 = v16.c2_target__Target_0.f3.f3.f1;
+        v8.f3.f3.f2 = v16.c2_target__Target_0.f3.f3.f2;
+        v8.f3.f3.f3 = v16.c2_target__Target_0.f3.f3.f3;
+        v8.f3.f4.f0.tag = v16.c2_target__Target_0.f3.f4.f0.tag;
+        v8.f3.f4.f0.u64_0 = v16.c2_target__Target_0.f3.f4.f0.u64_0;
+        v8.f3.f4.f0.bool_0 = v16.c2_target__Target_0.f3.f4.f0.bool_0;
+        v8.f3.f4.f0.u64_1 = v16.c2_target__Target_0.f3.f4.f0.u64_1;
+        v8.f3.f4.f1.tag = v16.c2_target__Target_0.f3.f4.f1.tag;
+        v8.f3.f4.f1.bool_0 = v16.c2_target__Target_0.f3.f4.f1.bool_0;
+        v8.f3.f4.f1.u64_0 = v16.c2_target__Target_0.f3.f4.f1.u64_0;
+        v8.f3.f4.f1.u64_1 = v16.c2_target__Target_0.f3.f4.f1.u64_1;
+        v8.f3.f4.f2 = v16.c2_target__Target_0.f3.f4.f2;
+        v8.f3.f4.f3 = v16.c2_target__Target_0.f3.f4.f3;
+        v17.f0.tag = v8.f0.tag;
+        v17.f0.u64_0 = v8.f0.u64_0;
+        v17.f0.u64_1 = v8.f0.u64_1;
+        v17.f0.c2_target__Effect_0.tag = v8.f0.c2_target__Effect_0.tag;
+        v17.f0.c2_target__Effect_0.u64_0 = v8.f0.c2_target__Effect_0.u64_0;
+        v17.f1 = v8.f1;
+        v17.f2 = v8.f2;
+        v17.f3.f0 = v8.f3.f0;
+        v17.f3.f1 = v8.f3.f1;
+        v17.f3.f2 = v8.f3.f2;
+        v17.f3.f3.f0 = v8.f3.f3.f0;
+        v17.f3.f3.f1 = v8.f3.f3.f1;
+        v17.f3.f3.f2 = v8.f3.f3.f2;
+        v17.f3.f3.f3 = v8.f3.f3.f3;
+        v17.f3.f4.f0.tag = v8.f3.f4.f0.tag;
+        v17.f3.f4.f0.u64_0 = v8.f3.f4.f0.u64_0;
+        v17.f3.f4.f0.bool_0 = v8.f3.f4.f0.bool_0;
+        v17.f3.f4.f0.u64_1 = v8.f3.f4.f0.u64_1;
+        v17.f3.f4.f1.tag = v8.f3.f4.f1.tag;
+        v17.f3.f4.f1.bool_0 = v8.f3.f4.f1.bool_0;
+        v17.f3.f4.f1.u64_0 = v8.f3.f4.f1.u64_0;
+        v17.f3.f4.f1.u64_1 = v8.f3.f4.f1.u64_1;
+        v17.f3.f4.f2 = v8.f3.f4.f2;
+        v17.f3.f4.f3 = v8.f3.f4.f3;
+        break;
+    default: /* 1 */
+        v9 = v16.numbers__Refusal_0;
+        v19 = c2_target_wanted__setup_refusal(a1, a2);
+        v18 = core__ResultTry__branch_unit_Refusal(&v19);
+        switch (v18.tag) {
+        case 0u:
+            break;
+        default: /* 1 */
+            v11.f0 = v18.core__ErrResidual_Refusal_0.f0;
+            result = core__ResultFromResidualErrResidual__from_residua_368e9c(&v11);
             return result;
         }
-        v15 = c2_target_state__encode__state_of(&v8);
-        result.number = UINT32_C(0);
-        result.reply = v7.f1;
-        result.target.place = v15.place;
-        result.target.start = v15.start;
-        result.target.rest = v15.rest;
-        result.target.next = v15.next;
-        result.target.count = v15.count;
-        result.target.point = v15.point;
-        result.target.heard = v15.heard;
-        result.target.value = v15.value;
-        result.target.left = v15.left;
-        result.target.zeros = v15.zeros;
-        result.target.effect = v15.effect;
-        result.target.byte = v15.byte;
-        result.target.collision = v15.collision;
-        result.target.address = v15.address;
-        result.target.on = v15.on;
-        result.target.keys = v15.keys;
-        result.target.met1 = v15.met1;
-        result.target.met2 = v15.met2;
-        result.target.met3 = v15.met3;
-        result.target.met4 = v15.met4;
-        result.target.command = v15.command;
-        result.target.write = v15.write;
-        result.target.page = v15.page;
-        result.target.high = v15.high;
-        result.target.output = v15.output;
-        result.target.passed = v15.passed;
-        result.target.busy = v15.busy;
-        result.target.late = v15.late;
+        result.tag = 1u;
+        result.numbers__Refusal_0 = v9;
+        result.c2_target_state__ModelReplied_0.number = 0;
+        result.c2_target_state__ModelReplied_0.reply = 0;
+        result.c2_target_state__ModelReplied_0.target.place = 0;
+        result.c2_target_state__ModelReplied_0.target.start = 0;
+        result.c2_target_state__ModelReplied_0.target.rest = 0;
+        result.c2_target_state__ModelReplied_0.target.next = 0;
+        result.c2_target_state__ModelReplied_0.target.count = 0;
+        result.c2_target_state__ModelReplied_0.target.point = 0;
+        result.c2_target_state__ModelReplied_0.target.heard = 0;
+        result.c2_target_state__ModelReplied_0.target.value = 0;
+        result.c2_target_state__ModelReplied_0.target.left = 0;
+        result.c2_target_state__ModelReplied_0.target.zeros = 0;
+        result.c2_target_state__ModelReplied_0.target.effect = 0;
+        result.c2_target_state__ModelReplied_0.target.byte = 0;
+        result.c2_target_state__ModelReplied_0.target.collision = 0;
+        result.c2_target_state__ModelReplied_0.target.address = 0;
+        result.c2_target_state__ModelReplied_0.target.on = 0;
+        result.c2_target_state__ModelReplied_0.target.keys = 0;
+        result.c2_target_state__ModelReplied_0.target.met1 = 0;
+        result.c2_target_state__ModelReplied_0.target.met2 = 0;
+        result.c2_target_state__ModelReplied_0.target.met3 = 0;
+        result.c2_target_state__ModelReplied_0.target.met4 = 0;
+        result.c2_target_state__ModelReplied_0.target.command = 0;
+        result.c2_target_state__ModelReplied_0.target.write = 0;
+        result.c2_target_state__ModelReplied_0.target.page = 0;
+        result.c2_target_state__ModelReplied_0.target.high = 0;
+        result.c2_target_state__ModelReplied_0.target.output = 0;
+        result.c2_target_state__ModelReplied_0.target.passed = 0;
+        result.c2_target_state__ModelReplied_0.target.busy = 0;
+        result.c2_target_state__ModelReplied_0.target.late = 0;
         return result;
     }
-    result = c2_target_state__model__refused(v7.f0, a3);
+    v7.f0.tag = v17.f0.tag;
+    v7.f0.u64_0 = v17.f0.u64_0;
+    v7.f0.u64_1 = v17.f0.u64_1;
+    v7.f0.c2_target__Effect_0.tag = v17.f0.c2_target__Effect_0.tag;
+    v7.f0.c2_target__Effect_0.u64_0 = v17.f0.c2_target__Effect_0.u64_0;
+    v7.f1 = v17.f1;
+    v7.f2 = v17.f2;
+    v7.f3.f0 = v17.f3.f0;
+    v7.f3.f1 = v17.f3.f1;
+    v7.f3.f2 = v17.f3.f2;
+    v7.f3.f3.f0 = v17.f3.f3.f0;
+    v7.f3.f3.f1 = v17.f3.f3.f1;
+    v7.f3.f3.f2 = v17.f3.f3.f2;
+    v7.f3.f3.f3 = v17.f3.f3.f3;
+    v7.f3.f4.f0.tag = v17.f3.f4.f0.tag;
+    v7.f3.f4.f0.u64_0 = v17.f3.f4.f0.u64_0;
+    v7.f3.f4.f0.bool_0 = v17.f3.f4.f0.bool_0;
+    v7.f3.f4.f0.u64_1 = v17.f3.f4.f0.u64_1;
+    v7.f3.f4.f1.tag = v17.f3.f4.f1.tag;
+    v7.f3.f4.f1.bool_0 = v17.f3.f4.f1.bool_0;
+    v7.f3.f4.f1.u64_0 = v17.f3.f4.f1.u64_0;
+    v7.f3.f4.f1.u64_1 = v17.f3.f4.f1.u64_1;
+    v7.f3.f4.f2 = v17.f3.f4.f2;
+    v7.f3.f4.f3 = v17.f3.f4.f3;
+    v22 = a4.at;
+    v23.at = v22;
+    v23.length = a4.length;
+    v21 = c2_target_step__steps__step(a1, a2, &v7, v23, a5, a6);
+    v20 = core__ResultTry__branch_Turned_Refusal(&v21);
+    switch (v20.tag) {
+    case 0u:
+        v13.f0 = v20.c2_target__Turned_0.f0;
+        v13.f1.f0.tag = v20.c2_target__Turned_0.f1.f0.tag;
+        v13.f1.f0.u64_0 = v20.c2_target__Turned_0.f1.f0.u64_0;
+        v13.f1.f0.u64_1 = v20.c2_target__Turned_0.f1.f0.u64_1;
+        v13.f1.f0.c2_target__Effect_0.tag = v20.c2_target__Turned_0.f1.f0.c2_target__Effect_0.tag;
+        v13.f1.f0.c2_target__Effect_0.u64_0 = v20.c2_target__Turned_0.f1.f0.c2_target__Effect_0.u64_0;
+        v13.f1.f1 = v20.c2_target__Turned_0.f1.f1;
+        v13.f1.f2 = v20.c2_target__Turned_0.f1.f2;
+        v13.f1.f3.f0 = v20.c2_target__Turned_0.f1.f3.f0;
+        v13.f1.f3.f1 = v20.c2_target__Turned_0.f1.f3.f1;
+        v13.f1.f3.f2 = v20.c2_target__Turned_0.f1.f3.f2;
+        v13.f1.f3.f3.f0 = v20.c2_target__Turned_0.f1.f3.f3.f0;
+        v13.f1.f3.f3.f1 = v20.c2_target__Turned_0.f1.f3.f3.f1;
+        v13.f1.f3.f3.f2 = v20.c2_target__Turned_0.f1.f3.f3.f2;
+        v13.f1.f3.f3.f3 = v20.c2_target__Turned_0.f1.f3.f3.f3;
+        v13.f1.f3.f4.f0.tag = v20.c2_target__Turned_0.f1.f3.f4.f0.tag;
+        v13.f1.f3.f4.f0.u64_0 = v20.c2_target__Turned_0.f1.f3.f4.f0.u64_0;
+        v13.f1.f3.f4.f0.bool_0 = v20.c2_target__Turned_0.f1.f3.f4.f0.bool_0;
+        v13.f1.f3.f4.f0.u64_1 = v20.c2_target__Turned_0.f1.f3.f4.f0.u64_1;
+        v13.f1.f3.f4.f1.tag = v20.c2_target__Turned_0.f1.f3.f4.f1.tag;
+        v13.f1.f3.f4.f1.bool_0 = v20.c2_target__Turned_0.f1.f3.f4.f1.bool_0;
+        v13.f1.f3.f4.f1.u64_0 = v20.c2_target__Turned_0.f1.f3.f4.f1.u64_0;
+        v13.f1.f3.f4.f1.u64_1 = v20.c2_target__Turned_0.f1.f3.f4.f1.u64_1;
+        v13.f1.f3.f4.f2 = v20.c2_target__Turned_0.f1.f3.f4.f2;
+        v13.f1.f3.f4.f3 = v20.c2_target__Turned_0.f1.f3.f4.f3;
+        v24.f0 = v13.f0;
+        v24.f1.f0.tag = v13.f1.f0.tag;
+        v24.f1.f0.u64_0 = v13.f1.f0.u64_0;
+        v24.f1.f0.u64_1 = v13.f1.f0.u64_1;
+        v24.f1.f0.c2_target__Effect_0.tag = v13.f1.f0.c2_target__Effect_0.tag;
+        v24.f1.f0.c2_target__Effect_0.u64_0 = v13.f1.f0.c2_target__Effect_0.u64_0;
+        v24.f1.f1 = v13.f1.f1;
+        v24.f1.f2 = v13.f1.f2;
+        v24.f1.f3.f0 = v13.f1.f3.f0;
+        v24.f1.f3.f1 = v13.f1.f3.f1;
+        v24.f1.f3.f2 = v13.f1.f3.f2;
+        v24.f1.f3.f3.f0 = v13.f1.f3.f3.f0;
+        v24.f1.f3.f3.f1 = v13.f1.f3.f3.f1;
+        v24.f1.f3.f3.f2 = v13.f1.f3.f3.f2;
+        v24.f1.f3.f3.f3 = v13.f1.f3.f3.f3;
+        v24.f1.f3.f4.f0.tag = v13.f1.f3.f4.f0.tag;
+        v24.f1.f3.f4.f0.u64_0 = v13.f1.f3.f4.f0.u64_0;
+        v24.f1.f3.f4.f0.bool_0 = v13.f1.f3.f4.f0.bool_0;
+        v24.f1.f3.f4.f0.u64_1 = v13.f1.f3.f4.f0.u64_1;
+        v24.f1.f3.f4.f1.tag = v13.f1.f3.f4.f1.tag;
+        v24.f1.f3.f4.f1.bool_0 = v13.f1.f3.f4.f1.bool_0;
+        v24.f1.f3.f4.f1.u64_0 = v13.f1.f3.f4.f1.u64_0;
+        v24.f1.f3.f4.f1.u64_1 = v13.f1.f3.f4.f1.u64_1;
+        v24.f1.f3.f4.f2 = v13.f1.f3.f4.f2;
+        v24.f1.f3.f4.f3 = v13.f1.f3.f4.f3;
+        break;
+    default: /* 1 */
+        v14.f0 = v20.core__ErrResidual_Refusal_0.f0;
+        result = core__ResultFromResidualErrResidual__from_residua_368e9c(&v14);
+        return result;
+    }
+    v12.f0 = v24.f0;
+    v12.f1.f0.tag = v24.f1.f0.tag;
+    v12.f1.f0.u64_0 = v24.f1.f0.u64_0;
+    v12.f1.f0.u64_1 = v24.f1.f0.u64_1;
+    v12.f1.f0.c2_target__Effect_0.tag = v24.f1.f0.c2_target__Effect_0.tag;
+    v12.f1.f0.c2_target__Effect_0.u64_0 = v24.f1.f0.c2_target__Effect_0.u64_0;
+    v12.f1.f1 = v24.f1.f1;
+    v12.f1.f2 = v24.f1.f2;
+    v12.f1.f3.f0 = v24.f1.f3.f0;
+    v12.f1.f3.f1 = v24.f1.f3.f1;
+    v12.f1.f3.f2 = v24.f1.f3.f2;
+    v12.f1.f3.f3.f0 = v24.f1.f3.f3.f0;
+    v12.f1.f3.f3.f1 = v24.f1.f3.f3.f1;
+    v12.f1.f3.f3.f2 = v24.f1.f3.f3.f2;
+    v12.f1.f3.f3.f3 = v24.f1.f3.f3.f3;
+    v12.f1.f3.f4.f0.tag = v24.f1.f3.f4.f0.tag;
+    v12.f1.f3.f4.f0.u64_0 = v24.f1.f3.f4.f0.u64_0;
+    v12.f1.f3.f4.f0.bool_0 = v24.f1.f3.f4.f0.bool_0;
+    v12.f1.f3.f4.f0.u64_1 = v24.f1.f3.f4.f0.u64_1;
+    v12.f1.f3.f4.f1.tag = v24.f1.f3.f4.f1.tag;
+    v12.f1.f3.f4.f1.bool_0 = v24.f1.f3.f4.f1.bool_0;
+    v12.f1.f3.f4.f1.u64_0 = v24.f1.f3.f4.f1.u64_0;
+    v12.f1.f3.f4.f1.u64_1 = v24.f1.f3.f4.f1.u64_1;
+    v12.f1.f3.f4.f2 = v24.f1.f3.f4.f2;
+    v12.f1.f3.f4.f3 = v24.f1.f3.f4.f3;
+    v25 = c2_target_state__model__is_inside(a3->point, a6);
+    if (v25) {
+        v27.f0.tag = v12.f1.f0.tag;
+        v27.f0.u64_0 = v12.f1.f0.u64_0;
+        v27.f0.u64_1 = v12.f1.f0.u64_1;
+        v27.f0.c2_target__Effect_0.tag = v12.f1.f0.c2_target__Effect_0.tag;
+        v27.f0.c2_target__Effect_0.u64_0 = v12.f1.f0.c2_target__Effect_0.u64_0;
+        v27.f1 = v12.f1.f1;
+        v27.f2 = v12.f1.f2;
+        v27.f3.f0 = v12.f1.f3.f0;
+        v27.f3.f1 = v12.f1.f3.f1;
+        v27.f3.f2 = v12.f1.f3.f2;
+        v27.f3.f3.f0 = v12.f1.f3.f3.f0;
+        v27.f3.f3.f1 = v12.f1.f3.f3.f1;
+        v27.f3.f3.f2 = v12.f1.f3.f3.f2;
+        v27.f3.f3.f3 = v12.f1.f3.f3.f3;
+        v27.f3.f4.f0.tag = v12.f1.f3.f4.f0.tag;
+        v27.f3.f4.f0.u64_0 = v12.f1.f3.f4.f0.u64_0;
+        v27.f3.f4.f0.bool_0 = v12.f1.f3.f4.f0.bool_0;
+        v27.f3.f4.f0.u64_1 = v12.f1.f3.f4.f0.u64_1;
+        v27.f3.f4.f1.tag = v12.f1.f3.f4.f1.tag;
+        v27.f3.f4.f1.bool_0 = v12.f1.f3.f4.f1.bool_0;
+        v27.f3.f4.f1.u64_0 = v12.f1.f3.f4.f1.u64_0;
+        v27.f3.f4.f1.u64_1 = v12.f1.f3.f4.f1.u64_1;
+        v27.f3.f4.f2 = v12.f1.f3.f4.f2;
+        v27.f3.f4.f3 = v12.f1.f3.f4.f3;
+        v26 = c2_target_state__encode__point_moved(a3, &v27);
+    } else {
+        v28.f0.tag = v12.f1.f0.tag;
+        v28.f0.u64_0 = v12.f1.f0.u64_0;
+        v28.f0.u64_1 = v12.f1.f0.u64_1;
+        v28.f0.c2_target__Effect_0.tag = v12.f1.f0.c2_target__Effect_0.tag;
+        v28.f0.c2_target__Effect_0.u64_0 = v12.f1.f0.c2_target__Effect_0.u64_0;
+        v28.f1 = v12.f1.f1;
+        v28.f2 = v12.f1.f2;
+        v28.f3.f0 = v12.f1.f3.f0;
+        v28.f3.f1 = v12.f1.f3.f1;
+        v28.f3.f2 = v12.f1.f3.f2;
+        v28.f3.f3.f0 = v12.f1.f3.f3.f0;
+        v28.f3.f3.f1 = v12.f1.f3.f3.f1;
+        v28.f3.f3.f2 = v12.f1.f3.f3.f2;
+        v28.f3.f3.f3 = v12.f1.f3.f3.f3;
+        v28.f3.f4.f0.tag = v12.f1.f3.f4.f0.tag;
+        v28.f3.f4.f0.u64_0 = v12.f1.f3.f4.f0.u64_0;
+        v28.f3.f4.f0.bool_0 = v12.f1.f3.f4.f0.bool_0;
+        v28.f3.f4.f0.u64_1 = v12.f1.f3.f4.f0.u64_1;
+        v28.f3.f4.f1.tag = v12.f1.f3.f4.f1.tag;
+        v28.f3.f4.f1.bool_0 = v12.f1.f3.f4.f1.bool_0;
+        v28.f3.f4.f1.u64_0 = v12.f1.f3.f4.f1.u64_0;
+        v28.f3.f4.f1.u64_1 = v12.f1.f3.f4.f1.u64_1;
+        v28.f3.f4.f2 = v12.f1.f3.f4.f2;
+        v28.f3.f4.f3 = v12.f1.f3.f4.f3;
+        v26 = core__AnyInto__into_Target_State(&v28);
+    }
+    v15.place = v26.place;
+    v15.start = v26.start;
+    v15.rest = v26.rest;
+    v15.next = v26.next;
+    v15.count = v26.count;
+    v15.point = v26.point;
+    v15.heard = v26.heard;
+    v15.value = v26.value;
+    v15.left = v26.left;
+    v15.zeros = v26.zeros;
+    v15.effect = v26.effect;
+    v15.byte = v26.byte;
+    v15.collision = v26.collision;
+    v15.address = v26.address;
+    v15.on = v26.on;
+    v15.keys = v26.keys;
+    v15.met1 = v26.met1;
+    v15.met2 = v26.met2;
+    v15.met3 = v26.met3;
+    v15.met4 = v26.met4;
+    v15.command = v26.command;
+    v15.write = v26.write;
+    v15.page = v26.page;
+    v15.high = v26.high;
+    v15.output = v26.output;
+    v15.passed = v26.passed;
+    v15.busy = v26.busy;
+    v15.late = v26.late;
+    v29 = core__AnyInto__into_bool_u32(v12.f0);
+    v30.number = UINT32_C(0);
+    v30.reply = v29;
+    v30.target.place = v15.place;
+    v30.target.start = v15.start;
+    v30.target.rest = v15.rest;
+    v30.target.next = v15.next;
+    v30.target.count = v15.count;
+    v30.target.point = v15.point;
+    v30.target.heard = v15.heard;
+    v30.target.value = v15.value;
+    v30.target.left = v15.left;
+    v30.target.zeros = v15.zeros;
+    v30.target.effect = v15.effect;
+    v30.target.byte = v15.byte;
+    v30.target.collision = v15.collision;
+    v30.target.address = v15.address;
+    v30.target.on = v15.on;
+    v30.target.keys = v15.keys;
+    v30.target.met1 = v15.met1;
+    v30.target.met2 = v15.met2;
+    v30.target.met3 = v15.met3;
+    v30.target.met4 = v15.met4;
+    v30.target.command = v15.command;
+    v30.target.write = v15.write;
+    v30.target.page = v15.page;
+    v30.target.high = v15.high;
+    v30.target.output = v15.output;
+    v30.target.passed = v15.passed;
+    v30.target.busy = v15.busy;
+    v30.target.late = v15.late;
+    result.tag = 0u;
+    result.c2_target_state__ModelReplied_0.number = v30.number;
+    result.c2_target_state__ModelReplied_0.reply = v30.reply;
+    result.c2_target_state__ModelReplied_0.target.place = v30.target.place;
+    result.c2_target_state__ModelReplied_0.target.start = v30.target.start;
+    result.c2_target_state__ModelReplied_0.target.rest = v30.target.rest;
+    result.c2_target_state__ModelReplied_0.target.next = v30.target.next;
+    result.c2_target_state__ModelReplied_0.target.count = v30.target.count;
+    result.c2_target_state__ModelReplied_0.target.point = v30.target.point;
+    result.c2_target_state__ModelReplied_0.target.heard = v30.target.heard;
+    result.c2_target_state__ModelReplied_0.target.value = v30.target.value;
+    result.c2_target_state__ModelReplied_0.target.left = v30.target.left;
+    result.c2_target_state__ModelReplied_0.target.zeros = v30.target.zeros;
+    result.c2_target_state__ModelReplied_0.target.effect = v30.target.effect;
+    result.c2_target_state__ModelReplied_0.target.byte = v30.target.byte;
+    result.c2_target_state__ModelReplied_0.target.collision = v30.target.collision;
+    result.c2_target_state__ModelReplied_0.target.address = v30.target.address;
+    result.c2_target_state__ModelReplied_0.target.on = v30.target.on;
+    result.c2_target_state__ModelReplied_0.target.keys = v30.target.keys;
+    result.c2_target_state__ModelReplied_0.target.met1 = v30.target.met1;
+    result.c2_target_state__ModelReplied_0.target.met2 = v30.target.met2;
+    result.c2_target_state__ModelReplied_0.target.met3 = v30.target.met3;
+    result.c2_target_state__ModelReplied_0.target.met4 = v30.target.met4;
+    result.c2_target_state__ModelReplied_0.target.command = v30.target.command;
+    result.c2_target_state__ModelReplied_0.target.write = v30.target.write;
+    result.c2_target_state__ModelReplied_0.target.page = v30.target.page;
+    result.c2_target_state__ModelReplied_0.target.high = v30.target.high;
+    result.c2_target_state__ModelReplied_0.target.output = v30.target.output;
+    result.c2_target_state__ModelReplied_0.target.passed = v30.target.passed;
+    result.c2_target_state__ModelReplied_0.target.busy = v30.target.busy;
+    result.c2_target_state__ModelReplied_0.target.late = v30.target.late;
+    result.numbers__Refusal_0 = 0;
+    return result;
+}
+
+/* numbers::U32FromRefusal::from */
+static uint32_t numbers__U32FromRefusal__from(numbers__Refusal a1)
+{
+    uint32_t result;
+    uint32_t v2;
+    switch (a1) {
+    case 0u:
+        v2 = UINT32_C(1);
+        break;
+    case 1u:
+        v2 = UINT32_C(2);
+        break;
+    case 2u:
+        v2 = UINT32_C(3);
+        break;
+    case 3u:
+        v2 = UINT32_C(4);
+        break;
+    case 4u:
+        v2 = UINT32_C(5);
+        break;
+    case 5u:
+        v2 = UINT32_C(6);
+        break;
+    case 6u:
+        v2 = UINT32_C(7);
+        break;
+    case 7u:
+        v2 = UINT32_C(8);
+        break;
+    case 8u:
+        v2 = UINT32_C(16);
+        break;
+    case 9u:
+        v2 = UINT32_C(17);
+        break;
+    case 10u:
+        v2 = UINT32_C(18);
+        break;
+    case 11u:
+        v2 = UINT32_C(19);
+        break;
+    case 12u:
+        v2 = UINT32_C(20);
+        break;
+    case 13u:
+        v2 = UINT32_C(21);
+        break;
+    case 14u:
+        v2 = UINT32_C(22);
+        break;
+    case 15u:
+        v2 = UINT32_C(23);
+        break;
+    case 16u:
+        v2 = UINT32_C(24);
+        break;
+    case 17u:
+        v2 = UINT32_C(25);
+        break;
+    case 18u:
+        v2 = UINT32_C(26);
+        break;
+    case 19u:
+        v2 = UINT32_C(28);
+        break;
+    case 20u:
+        v2 = UINT32_C(29);
+        break;
+    case 21u:
+        v2 = UINT32_C(30);
+        break;
+    default: /* 22 */
+        v2 = UINT32_C(31);
+        break;
+    }
+    result = v2;
+    return result;
+}
+
+/* core::AnyInto::into_Refusal_u32 */
+static uint32_t core__AnyInto__into_Refusal_u32(numbers__Refusal a1)
+{
+    uint32_t result;
+    numbers__Refusal v2;
+    v2 = a1;
+    result = numbers__U32FromRefusal__from(v2);
     return result;
 }
 
@@ -5751,26 +7548,145 @@ static c2_replied c2_target_state__model__step(const c2_settings *a1, const c2_p
     slice_mut_u8 a4, slice_u8 a5, uint8_t a6)
 {
     c2_replied result;
-    uint32_t v7;
-    _Bool v8;
-    uint8_t *v9;
-    slice_mut_u8 v10;
-    _Bool v11;
-    v8 = c2_target_state__form__in_form(a3);
-    if (v8) {
-        v9 = a4.at;
-        v10.at = v9;
-        v10.length = a4.length;
-        result = c2_target_state__model__held(a1, a2, a3, v10, a5, a6);
-        return result;
+    c2_replied v7;
+    numbers__Refusal v8;
+    core__Result_ModelReplied_Refusal v9;
+    uint8_t *v10;
+    slice_mut_u8 v11;
+    c2_replied v12;
+    uint32_t v13;
+    v10 = a4.at;
+    v11.at = v10;
+    v11.length = a4.length;
+    v9 = c2_target_state__model__stepped(a1, a2, a3, v11, a5, a6);
+    switch (v9.tag) {
+    case 0u:
+        v7.number = v9.c2_target_state__ModelReplied_0.number;
+        v7.reply = v9.c2_target_state__ModelReplied_0.reply;
+        v7.target.place = v9.c2_target_state__ModelReplied_0.target.place;
+        v7.target.start = v9.c2_target_state__ModelReplied_0.target.start;
+        v7.target.rest = v9.c2_target_state__ModelReplied_0.target.rest;
+        v7.target.next = v9.c2_target_state__ModelReplied_0.target.next;
+        v7.target.count = v9.c2_target_state__ModelReplied_0.target.count;
+        v7.target.point = v9.c2_target_state__ModelReplied_0.target.point;
+        v7.target.heard = v9.c2_target_state__ModelReplied_0.target.heard;
+        v7.target.value = v9.c2_target_state__ModelReplied_0.target.value;
+        v7.target.left = v9.c2_target_state__ModelReplied_0.target.left;
+        v7.target.zeros = v9.c2_target_state__ModelReplied_0.target.zeros;
+        v7.target.effect = v9.c2_target_state__ModelReplied_0.target.effect;
+        v7.target.byte = v9.c2_target_state__ModelReplied_0.target.byte;
+        v7.target.collision = v9.c2_target_state__ModelReplied_0.target.collision;
+        v7.target.address = v9.c2_target_state__ModelReplied_0.target.address;
+        v7.target.on = v9.c2_target_state__ModelReplied_0.target.on;
+        v7.target.keys = v9.c2_target_state__ModelReplied_0.target.keys;
+        v7.target.met1 = v9.c2_target_state__ModelReplied_0.target.met1;
+        v7.target.met2 = v9.c2_target_state__ModelReplied_0.target.met2;
+        v7.target.met3 = v9.c2_target_state__ModelReplied_0.target.met3;
+        v7.target.met4 = v9.c2_target_state__ModelReplied_0.target.met4;
+        v7.target.command = v9.c2_target_state__ModelReplied_0.target.command;
+        v7.target.write = v9.c2_target_state__ModelReplied_0.target.write;
+        v7.target.page = v9.c2_target_state__ModelReplied_0.target.page;
+        v7.target.high = v9.c2_target_state__ModelReplied_0.target.high;
+        v7.target.output = v9.c2_target_state__ModelReplied_0.target.output;
+        v7.target.passed = v9.c2_target_state__ModelReplied_0.target.passed;
+        v7.target.busy = v9.c2_target_state__ModelReplied_0.target.busy;
+        v7.target.late = v9.c2_target_state__ModelReplied_0.target.late;
+        v12.number = v7.number;
+        v12.reply = v7.reply;
+        v12.target.place = v7.target.place;
+        v12.target.start = v7.target.start;
+        v12.target.rest = v7.target.rest;
+        v12.target.next = v7.target.next;
+        v12.target.count = v7.target.count;
+        v12.target.point = v7.target.point;
+        v12.target.heard = v7.target.heard;
+        v12.target.value = v7.target.value;
+        v12.target.left = v7.target.left;
+        v12.target.zeros = v7.target.zeros;
+        v12.target.effect = v7.target.effect;
+        v12.target.byte = v7.target.byte;
+        v12.target.collision = v7.target.collision;
+        v12.target.address = v7.target.address;
+        v12.target.on = v7.target.on;
+        v12.target.keys = v7.target.keys;
+        v12.target.met1 = v7.target.met1;
+        v12.target.met2 = v7.target.met2;
+        v12.target.met3 = v7.target.met3;
+        v12.target.met4 = v7.target.met4;
+        v12.target.command = v7.target.command;
+        v12.target.write = v7.target.write;
+        v12.target.page = v7.target.page;
+        v12.target.high = v7.target.high;
+        v12.target.output = v7.target.output;
+        v12.target.passed = v7.target.passed;
+        v12.target.busy = v7.target.busy;
+        v12.target.late = v7.target.late;
+        break;
+    default: /* 1 */
+        v8 = v9.numbers__Refusal_0;
+        v13 = core__AnyInto__into_Refusal_u32(v8);
+        v12.number = v13;
+        v12.reply = UINT32_C(1);
+        v12.target.place = a3->place;
+        v12.target.start = a3->start;
+        v12.target.rest = a3->rest;
+        v12.target.next = a3->next;
+        v12.target.count = a3->count;
+        v12.target.point = a3->point;
+        v12.target.heard = a3->heard;
+        v12.target.value = a3->value;
+        v12.target.left = a3->left;
+        v12.target.zeros = a3->zeros;
+        v12.target.effect = a3->effect;
+        v12.target.byte = a3->byte;
+        v12.target.collision = a3->collision;
+        v12.target.address = a3->address;
+        v12.target.on = a3->on;
+        v12.target.keys = a3->keys;
+        v12.target.met1 = a3->met1;
+        v12.target.met2 = a3->met2;
+        v12.target.met3 = a3->met3;
+        v12.target.met4 = a3->met4;
+        v12.target.command = a3->command;
+        v12.target.write = a3->write;
+        v12.target.page = a3->page;
+        v12.target.high = a3->high;
+        v12.target.output = a3->output;
+        v12.target.passed = a3->passed;
+        v12.target.busy = a3->busy;
+        v12.target.late = a3->late;
+        break;
     }
-    v7 = c2_target_wanted__setup_refusal(a1, a2);
-    v11 = v7 != UINT32_C(0);
-    if (v11) {
-        result = c2_target_state__model__refused(v7, a3);
-        return result;
-    }
-    result = c2_target_state__model__refused(UINT32_C(17), a3);
+    result.number = v12.number;
+    result.reply = v12.reply;
+    result.target.place = v12.target.place;
+    result.target.start = v12.target.start;
+    result.target.rest = v12.target.rest;
+    result.target.next = v12.target.next;
+    result.target.count = v12.target.count;
+    result.target.point = v12.target.point;
+    result.target.heard = v12.target.heard;
+    result.target.value = v12.target.value;
+    result.target.left = v12.target.left;
+    result.target.zeros = v12.target.zeros;
+    result.target.effect = v12.target.effect;
+    result.target.byte = v12.target.byte;
+    result.target.collision = v12.target.collision;
+    result.target.address = v12.target.address;
+    result.target.on = v12.target.on;
+    result.target.keys = v12.target.keys;
+    result.target.met1 = v12.target.met1;
+    result.target.met2 = v12.target.met2;
+    result.target.met3 = v12.target.met3;
+    result.target.met4 = v12.target.met4;
+    result.target.command = v12.target.command;
+    result.target.write = v12.target.write;
+    result.target.page = v12.target.page;
+    result.target.high = v12.target.high;
+    result.target.output = v12.target.output;
+    result.target.passed = v12.target.passed;
+    result.target.busy = v12.target.busy;
+    result.target.late = v12.target.late;
     return result;
 }
 

@@ -52,10 +52,11 @@ for field in 1 2; do
     test -z "$twice" || fail "$list has $twice twice"
 done
 
-# The radio module's own numbers stand in its lowest crate.
+# Refusals are an enum, ends of sessions and jobs are constants; those of the radio module stand in its lowest crate.
+refusals='/^pub enum Refusal/,/^}/s/^ *\([A-Za-z]*\) = \([0-9]*\),$/\1 \2/p'
 constants='s/^pub const \([A-Z_]*\): u32 = \([0-9]*\);$/\1 \2/p'
 file=crates/numbers/src/lib.rt
-sed -n "$constants" $file crates/radio_command/src/lib.rt >$there
+{ sed -n "$refusals" $file | upper; sed -n "$constants" $file crates/radio_command/src/lib.rt; } | sort -u >$there
 same numbers
 file=compare/src/second/numbers.rs
 sed -n "$constants" $file >$there
@@ -86,7 +87,7 @@ same radio.words
 worded RADIO_ERR radio
 same codes.words
 file=bench/src/plain/wire.rs
-sed -n '/^pub enum Refusal/,/^}/s/^ *\([A-Za-z]*\) = \([0-9]*\),$/\1 \2/p' $file | upper >$there
+sed -n "$refusals" $file | upper >$there
 within
 file=bench/src/plain/session.rs
 sed -n 's/^ *Outcome::\([A-Za-z]*\).* => (\([0-9]*\), .*),$/\1 \2/p' $file | upper >$there

@@ -14,7 +14,7 @@ import re
 import sys
 
 import calls
-from machine import Block, Machine, Pointer, Stuck, is_number, listed, statements
+from machine import Block, Machine, Pointer, Spot, Stuck, check, followed, listed, row, statements, width_of
 
 SEED = 20127
 RANDOM = 24  # random calls kept of each function,
@@ -35,12 +35,46 @@ def is_slice(of):
     return of[0] == 'tyStruct'
 
 
-def width_of_slice(of):
-    return int(listed(of[2])[0][3][1])
+def element_of(of):
+    """What a slice is of."""
+    return listed(of[2])[0][3]
 
 
-def is_lent_for_writing(of):
-    return is_slice(of) and listed(of[2])[0][2] == 'mut'
+def one_and_count(of):
+    """A type, or that of an array's elements, and how many there are."""
+    return (of[1], int(of[2][1])) if of[0] == 'tyArray' else (of, 1)
+
+
+class Types:
+    """What is asked of types."""
+
+    def __init__(self, declared):
+        self.declared = declared
+
+    def parts(self, of):
+        """The types of a struct's fields, or of each of an enum's variants' fields."""
+        kind, body = self.declared[symbol_of(of)]
+        return kind, listed(body) if kind == 'fields' else [listed(variant) for variant in listed(body)]
+
+    def is_empty(self, of):
+        """Whether C keeps nothing of it."""
+        if of[0] == 'tyRef':
+            return self.is_empty(of[3])
+        if of[0] != 'tyNamed':
+            return of == 'tyUnit'
+        kind, parts = self.parts(of)
+        return all(map(self.is_empty, parts)) if kind == 'fields' else parts == []
+
+    def is_lent_for_writing(self, of):
+        """Whether something can be written where it leads."""
+        if of[0] == 'tyRef':
+            return of[2] == 'mut' or self.is_lent_for_writing(of[3])
+        if is_slice(of):
+            return self.is_lent_for_writing(listed(of[2])[0])
+        if of[0] != 'tyNamed':
+            return False
+        kind, parts = self.parts(of)
+        return any(map(self.is_lent_for_writing, parts if kind == 'fields' else sum(parts, [])))
 
 
 # ---- random values
@@ -48,7 +82,7 @@ def is_lent_for_writing(of):
 
 class Random:
     def __init__(self, machine, seed):
-        self.machine, self.rng = machine, random.Random(seed)
+        self.types, self.rng = Types(machine.declared), random.Random(seed)
 
     def number(self, width):
         rng = self.rng
@@ -57,27 +91,40 @@ class Random:
                  rng.getrandbits(width), 1 << rng.randrange(width))
         return rng.choice(kinds) % (1 << width)
 
-    def elements(self, width):
-        count = self.rng.choice((0, 1, 2, 8, 31, 32, 32, 32, 33, 64))
-        return [self.number(width) if self.rng.random() < 0.5 else self.rng.randrange(3) for _ in range(count)]
+    def elements(self, of):
+        if of[0] != 'tyInt':
+            return row([self.value(of) for _ in range(self.rng.choice((1, 2, 3, 8)))])
+        count, width = self.rng.choice((0, 1, 2, 8, 31, 32, 32, 32, 33, 64)), int(of[1])
+        return Block(width, [self.number(width) if self.rng.random() < 0.5 else self.rng.randrange(3) for _ in range(count)])
 
     def value(self, of):
+        if of == 'tyUnit':
+            return ()
         if of == 'tyBool':
             return self.rng.random() < 0.5
+        if of[0] == 'tyRef':
+            return self.reference(of[3])
         if of[0] == 'tyInt':
             return int(of[1]), self.number(int(of[1]))
         if of[0] == 'tyArray':
-            width = int(of[1][1])
-            return Block(width, [self.number(width) for _ in range(int(of[2][1]))])
+            return row([self.value(of[1]) for _ in range(int(of[2][1]))])
         if is_slice(of):
-            elements = self.elements(width_of_slice(of))
-            return Pointer(Block(width_of_slice(of), elements), 0), (64, len(elements))
-        kind, body = self.machine.declared[symbol_of(of)]
+            one, count = one_and_count(element_of(of))
+            block = self.elements(one)
+            return Pointer(block, 0), (64, len(block.elements) // count)
+        kind, parts = self.types.parts(of)
         if kind == 'fields':
-            return tuple(self.value(field) for field in listed(body))
-        variants = listed(body)
-        tag = self.rng.randrange(len(variants))
-        return ((8, tag),) + tuple(self.value(field) for field in listed(variants[tag]))
+            return tuple(self.value(field) for field in parts)
+        if parts == []:
+            raise Stuck('a value of no variant')
+        tag = self.rng.randrange(len(parts))
+        return ((8, tag),) + tuple(self.value(field) for field in parts[tag])
+
+    def reference(self, of):
+        whole = self.value(of)
+        if of[0] == 'tyInt':
+            return Pointer(row([whole]), 0)
+        return Pointer(whole, 0) if of[0] == 'tyArray' else Spot([whole], 0)
 
 
 # ---- cases as bytes: each number in groups of seven bits, the lowest first
@@ -92,53 +139,63 @@ def number_bytes(n):
     return out
 
 
-def slice_elements(of):
-    pointer, (_, count) = of
-    begin = pointer.byte * 8 // pointer.block.width
-    return pointer.block.elements[begin:begin + count]
-
-
-def value_bytes(value):
-    if value is None:
-        return b''
-    if isinstance(value, bool):
-        return bytes([value])
-    if isinstance(value, Block):
-        return b''.join(map(number_bytes, value.elements))
-    if is_number(value):
-        return number_bytes(value[1])
-    if isinstance(value[0], Pointer):
-        elements = slice_elements(value)
-        return number_bytes(len(elements)) + b''.join(map(number_bytes, elements))
-    return b''.join(map(value_bytes, value))
-
-
 class Cases:
     """The cases kept, and how many of each function."""
 
-    def __init__(self, wanted):
-        self.wanted, self.kept, self.of_function, self.data = wanted, 0, {}, bytearray()
+    def __init__(self, types, wanted):
+        self.types, self.wanted, self.kept, self.of_function, self.data = types, wanted, 0, {}, bytearray()
+
+    def bytes_of(self, of, value):
+        """A value, with all that it leads to."""
+        if self.types.is_empty(of):
+            return b''
+        if of == 'tyBool':
+            return bytes([value])
+        if of[0] == 'tyInt':
+            return number_bytes(value[1])
+        if of[0] == 'tyArray':
+            return self.bytes_of_all(of[1], value.elements)
+        if of[0] == 'tyRef':
+            led = followed(value, of[3]) if isinstance(value, Pointer) else value
+            return self.bytes_of(of[3], led.read())
+        if is_slice(of):
+            pointer, (_, length) = value
+            one, count = one_and_count(element_of(of))
+            begin = pointer.byte * 8 // width_of(one)
+            elements = pointer.block.elements[begin:begin + length * count]
+            check(len(elements) == length * count, 'a slice outside of its block')
+            return number_bytes(length) + self.bytes_of_all(one, elements)
+        kind, parts = self.types.parts(of)
+        fields = parts if kind == 'fields' else [['tyInt', '8']] + parts[value[0][1]]
+        return b''.join(map(self.bytes_of, fields, value))
+
+    def bytes_of_all(self, of, elements):
+        values = ((int(of[1]), it) for it in elements) if of[0] == 'tyInt' else elements
+        return b''.join(self.bytes_of(of, it) for it in values)
+
+    def before(self, function, arguments):
+        return b''.join(map(self.bytes_of, function.types[1:], arguments))
 
     def keep(self, function, before, arguments, result):
+        after = self.bytes_of(function.types[0], result)
+        for of, value in zip(function.types[1:], arguments):
+            if self.types.is_lent_for_writing(of):
+                after += self.bytes_of(of, value)
         self.kept += 1
         self.of_function[function.symbol] = self.of_function.get(function.symbol, 0) + 1
-        self.data += number_bytes(self.wanted.index(function.symbol)) + before + value_bytes(result)
-        for of, value in zip(function.types[1:], arguments):
-            if is_lent_for_writing(of):
-                self.data += b''.join(map(number_bytes, slice_elements(value)))
+        self.data += number_bytes(self.wanted.index(function.symbol)) + before + after
 
 
 def random_cases(machine, cases, rng):
     for symbol in cases.wanted:
         function, kept = machine.functions[symbol], 0
         for _ in range(TRIES):
-            arguments = [rng.value(of) for of in function.types[1:1 + function.parameters]]
-            before = b''.join(map(value_bytes, arguments))
             try:
-                result = machine.call(symbol, list(arguments))
+                arguments = [rng.value(of) for of in function.types[1:1 + function.parameters]]
+                before = cases.before(function, arguments)
+                cases.keep(function, before, arguments, machine.call(symbol, list(arguments)))
             except Stuck:
                 continue
-            cases.keep(function, before, arguments, result)
             kept += 1
             if kept == RANDOM:
                 break
@@ -154,7 +211,7 @@ def cases_inside(machine, cases, rng, crate):
         count = seen.get(function.symbol, 0)
         if count >= INSIDE or rng.rng.random() > 2.0 ** (-count / 3):
             return None
-        before = b''.join(map(value_bytes, arguments))
+        before = cases.before(function, arguments)
         if len(before) > LONG and count >= FEW:
             return None
         seen[function.symbol] = count + 1
@@ -175,16 +232,28 @@ class Text:
         plain = re.sub(r'/\*.*?\*/', ' ', headers + c_text, flags=re.S)
         self.structs = {}
         for body, title in re.findall(r'typedef struct \{([^{}]*)\}\s*(\w+);', plain):
-            members = [re.fullmatch(r'(.*?[\s*])(\w+(?:\[\d+\])?)', member.strip()) for member in body.split(';') if member.strip()]
+            members = [re.fullmatch(r'(.*[\s*])(\w+(?:\[\d+\])?)', member.strip()) for member in body.split(';') if member.strip()]
             self.structs[title] = [(member[1].strip(), member[2]) for member in members]
         self.bare = set(re.findall(r'typedef uint8_t (\w+);', plain))
         self.functions = {}
-        for path, result, params in re.findall(r'^/\* (\S+) \*/\nstatic (\w+) \w+\(([^()]*)\)$', c_text, flags=re.M):
-            params = [re.fullmatch(r'(?:const )?(\w+) (\*?)a\d+', param.strip()) for param in params.split(',') if param.strip() != 'void']
-            self.functions[path] = (result, [(param[1], param[2] == '*') for param in params])
+        for path, result, params in re.findall(r'^/\* (\S+) \*/\nstatic ([\w *]*?)\w+\(([^()]*)\)$', c_text, flags=re.M):
+            params = [re.fullmatch(r'([\w *]*?)a\d+', param.strip()) for param in params.split(',') if param.strip() != 'void']
+            self.functions[path] = (result.strip(), [param[1].strip() for param in params])
 
 
-SCALARS = {'uint8_t': 8, 'uint16_t': 16, 'uint32_t': 32, 'uint64_t': 64, '_Bool': 1, 'bool': 1}
+SCALARS = {'uint8_t', 'uint16_t', 'uint32_t', 'uint64_t', '_Bool', 'bool'}
+
+
+def pointed(c):
+    """What a pointer of C points to, without its own const."""
+    c = c[:-1].strip()
+    return c.removesuffix('const').strip() if c.endswith('*const') else c if c.endswith('*') else c.removeprefix('const ')
+
+
+def called(of, c):
+    """A name for the functions of a type: C has one pointer for arrays of all lengths."""
+    count = f'_{of[3][2][1]}' if of[0] == 'tyRef' and of[3][0] == 'tyArray' else ''
+    return re.sub(r'\W+', '_', c) + count
 
 
 class Writer:
@@ -192,29 +261,41 @@ class Writer:
 
     def __init__(self, machine, text):
         self.machine, self.text, self.made, self.lines = machine, text, set(), []
+        self.types = Types(machine.declared)
 
     def say(self, *lines):
         self.lines += lines
 
     def need(self, verb, of, c):
-        """That function for the MIR's type that C calls so."""
-        if (verb, c) in self.made or c in SCALARS or c == 'void':
-            return
-        self.made.add((verb, c))
+        """The name of that function for the MIR's type that C calls so."""
+        name = called(of, c)
+        if (verb, name) in self.made or c in SCALARS or c == 'void':
+            return name
+        self.made.add((verb, name))
         if c in self.text.bare:
             self.say(f'#define {verb}_{c} {verb}_uint8_t')
+        elif of[0] == 'tyRef':
+            self.reference(verb, of[3], c, name)
         elif is_slice(of):
-            self.slice(verb, c, width_of_slice(of))
+            self.slice(verb, c, *one_and_count(element_of(of)))
         elif of[0] == 'tyArray':
-            self.array(verb, c)
+            self.array(verb, c, of[1])
         else:
-            kind, body = self.machine.declared[symbol_of(of)]
-            members = self.text.structs[c]
-            if kind == 'fields':
-                assert len(members) == len(listed(body)), f'the members of {c}'
-                self.struct(verb, c, list(zip(listed(body), members)))
-            else:
-                self.enum(verb, c, [variant(fields, members) for fields in map(listed, listed(body))])
+            self.declared(verb, of, c)
+        return name
+
+    def declared(self, verb, of, c):
+        kind, parts = self.types.parts(of)
+        members = self.text.structs[c]
+        if kind == 'fields':
+            kept = self.kept(parts)
+            assert len(members) == len(kept), f'the members of {c}'
+            self.struct(verb, c, list(zip(kept, members)))
+        else:
+            self.enum(verb, c, [variant(self.kept(fields), members) for fields in parts])
+
+    def kept(self, fields):
+        return [of for of in fields if not self.types.is_empty(of)]
 
     def head(self, verb, c):
         if verb == 'read':
@@ -229,16 +310,14 @@ class Writer:
         self.say(f'    made.{name} = read_{c}();' if verb == 'read' else f'    same &= same_{c}(found.{name});')
 
     def struct(self, verb, c, pairs):
-        for of, (member, _) in pairs:
-            self.need(verb, of, member)
+        named = [(self.need(verb, of, member), name) for of, (member, name) in pairs]
         self.head(verb, c)
-        for _, (member, name) in pairs:
+        for member, name in named:
             self.parts(verb, member, name)
         self.tail(verb)
 
     def enum(self, verb, c, variants):
-        for of, (member, _) in (pair for pairs in variants for pair in pairs):
-            self.need(verb, of, member)
+        named = [[(self.need(verb, of, member), name) for of, (member, name) in pairs] for pairs in variants]
         self.head(verb, c)
         self.say('    const uint8_t tag = read_uint8_t();')
         if verb == 'read':
@@ -246,9 +325,9 @@ class Writer:
         else:
             self.say('    same &= tag == found.tag;')
         self.say('    switch (tag) {')
-        for tag, pairs in enumerate(variants):
+        for tag, pairs in enumerate(named):
             self.say(f'    case {tag}:')
-            for _, (member, name) in pairs:
+            for member, name in pairs:
                 self.part(verb, member, name)
             self.say('    break;')
         self.say('    }')
@@ -262,63 +341,87 @@ class Writer:
             name = f'{array[1]}[i]'
         self.part(verb, c, name)
 
-    def array(self, verb, c):
+    def array(self, verb, c, of):
         (element, member), = self.text.structs[c]
+        element = self.need(verb, of, element)
         self.head(verb, c)
         self.parts(verb, element, member)
         self.tail(verb)
 
-    def slice(self, verb, c, width):
+    def memory(self, element, count, read):
         """Memory for exactly the elements, so that a sanitizer sees an access too far."""
-        (_, at), (_, length) = self.text.structs[c]
-        element = f'uint{width}_t'
+        self.say(f'    {element} *memory = malloc({count} == 0 ? 1 : (size_t){count} * sizeof *memory);',
+                 f'    for (uint64_t i = 0; i < {count}; i++)', f'        memory[i] = read_{read}();', '    lend(memory);')
+
+    def slice(self, verb, c, of, many):
+        (pointer, at), (_, length) = self.text.structs[c]
+        element, inner = pointed(pointer), self.need(verb, of, pointed(pointer))
         self.head(verb, c)
+        self.say('    const uint64_t length = next();')
         if verb == 'read':
-            self.say('    const uint64_t count = next();')
-            self.say(f'    {element} *memory = malloc(count == 0 ? 1 : (size_t)count * sizeof *memory);')
-            self.say('    for (uint64_t i = 0; i < count; i++)', f'        memory[i] = read_{element}();')
-            self.say(f'    made.{at} = memory;', f'    made.{length} = count;', '    lend(memory);')
+            self.say(f'    const uint64_t count = length * {many};')
+            self.memory(element, 'count', inner)
+            self.say(f'    made.{at} = memory;', f'    made.{length} = length;')
         else:
-            self.say(f'    for (uint64_t i = 0; i < found.{length}; i++)')
-            self.part(verb, element, f'{at}[i]')
+            self.say(f'    same &= length == found.{length};', f'    for (uint64_t i = 0; i < length * {many} && same; i++)')
+            self.part(verb, inner, f'{at}[i]')
         self.tail(verb)
+
+    def reference(self, verb, of, c, name):
+        element, count = pointed(c), 1
+        if of[0] == 'tyArray':
+            of, count = of[1], int(of[2][1])
+        inner = self.need(verb, of, element)
+        if verb == 'read':
+            self.say(f'static {c}read_{name}(void)', '{')
+            self.memory(element, f'UINT64_C({count})', inner)
+            self.say('    return memory;', '}')
+        else:
+            self.say(f'static int same_{name}({c}found)', '{', '    int same = 1;')
+            self.say(f'    for (uint64_t i = 0; i < {count}; i++)', f'        same &= same_{inner}(found[i]);')
+            self.tail(verb)
 
     def function(self, k, symbol):
         function, (result, params) = self.machine.functions[symbol], self.text.functions[symbol]
-        types = function.types[1:1 + function.parameters]
+        types = self.kept(function.types[1:1 + function.parameters])
         assert len(types) == len(params), symbol
-        self.need('same', function.types[0], result)
-        written = []
-        for i, (of, (c, _)) in enumerate(zip(types, params), 1):
-            self.need('read', of, c)
-            if is_lent_for_writing(of):
-                self.need('same', of, c)
-                written.append((c, i))
-        self.say(f'static int case_{k}(void)', '{', '    int same = 1;')
-        self.say(*(f'    const {c} a{i} = read_{c}();' for i, (c, _) in enumerate(params, 1)))
-        handed = ', '.join(f'{"&" if pointer else ""}a{i}' for i, (_, pointer) in enumerate(params, 1))
-        called = f'{symbol.replace("::", "__")}({handed})'
-        self.say(f'    {called};' if result == 'void' else f'    same &= same_{result}({called});')
-        self.say(*(f'    same &= same_{c}(a{i});' for c, i in written), '    return same;', '}')
+        result_name = self.need('same', function.types[0], result)
+        read, handed, written = [], [], []
+        for i, (of, c) in enumerate(zip(types, params), 1):
+            by_pointer = c.endswith('*') and of[0] != 'tyRef'
+            value = pointed(c) if by_pointer else c
+            read.append(f'    {value} a{i} = read_{self.need("read", of, value)}();')
+            handed.append(f'{"&" if by_pointer else ""}a{i}')
+            if self.types.is_lent_for_writing(of):
+                written.append(f'    same &= same_{self.need("same", of, value)}(a{i});')
+        called_ = f'{symbol.replace("::", "__")}({", ".join(handed)})'
+        self.say(f'static int case_{k}(void)', '{', '    int same = 1;', *read)
+        self.say(f'    {called_};' if result == 'void' else f'    same &= same_{result_name}({called_});')
+        self.say(*written, '    return same;', '}')
 
 
-def c_types(of):
-    """What C may call the MIR's type within an enum."""
+def label(of):
+    """What a member of an enum is called after."""
     if of == 'tyBool':
-        return {'_Bool', 'bool'}
+        return 'bool'
     if of[0] == 'tyInt':
-        return {f'uint{of[1]}_t'}
-    return {symbol_of(of).replace('::', '__')}
+        return f'u{of[1]}'
+    if of[0] == 'tyArray':
+        return f'array_{of[2][1]}_{label(of[1])}'
+    if of[0] == 'tyRef':
+        return f'{"mut" if of[2] == "mut" else "ref"}_{label(of[3])}'
+    if is_slice(of):
+        return f'slice_{"mut_" if listed(of[2])[0][2] == "mut" else ""}{label(element_of(of))}'
+    return symbol_of(of).replace('::', '__')
 
 
 def variant(fields, members):
-    """A variant's fields and their members: the first field of a type is in the first member of that type. A struct of
-    the header's has its own name in C; its member is called after the MIR's."""
+    """A variant's fields and their members: the first field of a type is in the first member of that type."""
     pairs = []
     for of in fields:
         taken = [member for _, member in pairs]
-        fits = [m for m in members[1:] if not c_types(of).isdisjoint((m[0], m[1].rsplit('_', 1)[0]))]
-        pairs.append((of, next(m for m in fits if m not in taken)))
+        fits = [member for member in members[1:] if member[1].rsplit('_', 1)[0] == label(of)]
+        pairs.append((of, next(member for member in fits if member not in taken)))
     return pairs
 
 
@@ -332,7 +435,7 @@ static const uint64_t data[] = {
 %s
 };
 static uint32_t place;
-static void *lent[16];
+static void *lent[256];
 static int lent_count;
 
 static uint8_t byte(void)
@@ -431,7 +534,7 @@ def main(crate, mir, c_file, *headers):
     machine, text = Machine(read(mir)), Text(''.join(with_included(path, seen) for path in headers), read(c_file))
     wanted = [symbol for symbol in machine.functions if symbol in text.functions]
     assert len(wanted) == len(text.functions) > 0, 'a function of the C file that the MIR does not have'
-    cases, rng = Cases(wanted), Random(machine, SEED)
+    cases, rng = Cases(Types(machine.declared), wanted), Random(machine, SEED)
     random_cases(machine, cases, rng)
     cases_inside(machine, cases, rng, crate)
     left = [symbol for symbol in wanted if symbol not in cases.of_function]

@@ -1,11 +1,12 @@
 """A second reading of the MIR: a machine that runs it, with every check that the proofs rule out.
 
 What is undefined in MIR ends the run (Stuck): a sum or a cast that does not fit, a shift of the width or
-more, an access or a pointer outside of its block, a read of what was never written, a switch without an arm.
-Nothing here is shared with the translator in src/.
+more, an access or a pointer outside of its block, a read of what was never written, a switch without an arm, what is
+never reached. Nothing here is shared with the translator in src/.
 
-A number is (width, value), a truth value a bool, no value None, a struct a tuple of its fields, an enum a
-tuple of its tag and its variant's fields, an array a Block, a pointer a Pointer.
+A number is (width, value), a truth value a bool, no value (), a struct a tuple of its fields, an enum a tuple of its
+tag and its variant's fields, an array a Block, a pointer among elements a Pointer, a reference to anything else a
+Spot. What was never written is None.
 """
 import re
 
@@ -22,13 +23,14 @@ def check(holds, what):
 
 
 class Block:
-    """Elements of one width in a row: an array, or memory that was lent."""
+    """Elements of one width in a row: an array, or memory that was lent. Numbers stand in it without their width, other
+    values as they are; the machine takes each for eight bytes wide."""
 
     def __init__(self, width, elements):
         self.width, self.elements = width, elements
 
     def copy(self):
-        return Block(self.width, list(self.elements))
+        return Block(self.width, [fresh(element) for element in self.elements])
 
 
 class Pointer:
@@ -48,6 +50,93 @@ class Pointer:
         index = self.byte * 8 // width
         check(index < len(self.block.elements), 'an access outside of its block')
         return index
+
+
+class Spot:
+    """A part of a local: fields, and variants before the fields that they have."""
+
+    def __init__(self, frame, local, path=()):
+        self.frame, self.local, self.path = frame, local, path
+
+    def at(self, kind, number):
+        return Spot(self.frame, self.local, self.path + ((kind, number),))
+
+    def read(self):
+        found = self.frame[self.local]
+        for k, (kind, number) in enumerate(self.path):
+            check(found is not None, 'a read of what was never written')
+            if kind == 'field':
+                check(number < len(found), 'a field of another variant')
+                found = found[number]
+            elif self.path[k + 1] != ('field', 0):
+                # a variant's fields are there for its own tag only
+                check(found[0][1] == number, 'a field of another variant')
+        return found
+
+    def write(self, of):
+        self.frame[self.local] = stored(self.frame[self.local], self.path, of)
+
+
+def stored(whole, path, of):
+    """The whole with a part of it replaced."""
+    if not path:
+        return of
+    kind, number = path[0]
+    if kind == 'variant':
+        check(path[1] != ('field', 0) and whole[0][1] == number, 'a store into another variant')
+        return stored(whole, path[1:], of)
+    check(whole is not None, 'a store into a part')
+    return whole[:number] + (stored(whole[number], path[1:], of),) + whole[number + 1:]
+
+
+WIDE = 64  # the width that the machine takes what is no number for
+
+
+def width_of(of):
+    return int(of[1]) if of[0] == 'tyInt' else WIDE
+
+
+def row(values):
+    """Values of one type as a block."""
+    if is_number(values[0]):
+        return Block(values[0][0], [number for _, number in values])
+    return Block(WIDE, list(values))
+
+
+def room(of):
+    """What a local is before it is written; an array can be written element by element."""
+    return Block(width_of(of[1]), [None] * int(of[2][1])) if of[0] == 'tyArray' else None
+
+
+class Followed:
+    """What a pointer among elements points to: a number, or as many elements as an array has."""
+
+    def __init__(self, pointer, of):
+        self.pointer, self.of = pointer, of
+
+    def range(self):
+        is_array = self.of[0] == 'tyArray'
+        width, count = (width_of(self.of[1]), int(self.of[2][1])) if is_array else (width_of(self.of), 1)
+        begin = self.pointer.index(width)
+        check(begin + count <= len(self.pointer.block.elements), 'an access outside of its block')
+        return width, slice(begin, begin + count)
+
+    def read(self):
+        width, places = self.range()
+        elements = self.pointer.block.elements[places]
+        check(None not in elements, 'a read of what was never written')
+        return Block(width, elements) if self.of[0] == 'tyArray' else (width, elements[0])
+
+    def write(self, of):
+        width, places = self.range()
+        elements = of.elements if self.of[0] == 'tyArray' else [of[1]]
+        check(width == (of.width if self.of[0] == 'tyArray' else of[0]), 'a store of another width')
+        self.pointer.block.elements[places] = elements
+
+
+def followed(pointer, of):
+    """What a pointer among elements points to; an element that is no number has parts."""
+    return Followed(pointer, of) if of[0] in ('tyInt', 'tyArray') else Spot(pointer.block.elements, pointer.index(WIDE))
 
 
 # ---- reading
@@ -91,10 +180,7 @@ def in_a_row(body, holds_array):
 def place(tree):
     steps = []
     for step in listed(tree[2]):
-        if step[0] == 'deref':
-            steps.append(('deref', int(step[1][1])))
-        else:
-            steps.append((step[0], int(step[1])))
+        steps.append((step[0], step[1] if step[0] == 'deref' else int(step[1])))
     return int(tree[1]), steps
 
 
@@ -102,9 +188,14 @@ def operand(tree):
     if tree in ('true', 'false'):
         return 'constant', tree == 'true'
     if tree == 'unit':
-        return 'constant', None
+        return 'constant', ()
     if tree[0] == 'copy':
         return 'copy', place(tree[1])
+    if tree[0] == 'size':
+        return 'constant', (64, WIDE // 8)
+    if tree[0] == 'parts':
+        parts = [operand(part)[1] for part in listed(tree[2])]
+        return 'constant', row(parts) if tree[1][0] == 'tyArray' else tuple(parts)
     check(tree[0] == 'int' and int(tree[2]) < 1 << int(tree[1]), tree)
     return 'constant', (int(tree[1]), int(tree[2]))
 
@@ -128,8 +219,8 @@ def value(tree, is_array):
 
 
 def statement(tree, holds_array):
-    if tree == 'return':
-        return ('return',)
+    if tree in ('return', 'unreachable'):
+        return (tree,)
     if tree[0] == 'assign':
         to = place(tree[1])
         return 'assign', to, value(tree[2], holds_array(to))
@@ -176,12 +267,23 @@ class Function:
 
     def holds_array(self, at):
         local, steps = at
-        of = self.types[local]
+        of, variant = self.types[local], 0
         for kind, number in steps:
-            if kind != 'field' or of[0] != 'tyNamed':
-                return False
-            of = listed(self.declared[of[1][1][1:-1]][1])[number]
+            if kind == 'deref':
+                of = number
+            elif kind == 'variant':
+                variant = number
+            elif of[0] == 'tyStruct':
+                of = listed(of[2])[number]
+            else:
+                of = self.field(of[1][1][1:-1], variant, number)
         return of[0] == 'tyArray'
+
+    def field(self, symbol, variant, number):
+        kind, parts = self.declared[symbol]
+        if kind == 'fields':
+            return listed(parts)[number]
+        return ['tyInt', '8'] if number == 0 else listed(listed(parts)[variant])[number - 1]
 
 
 # ---- running
@@ -199,6 +301,8 @@ def fits(width, number, what):
 
 def op2(name, a, b):
     if name == 'offset':
+        if isinstance(a, Spot):
+            a = first_element(a.read())
         check(isinstance(a, Pointer) and b[0] == 64, name)
         return a.moved(b[1])
     if isinstance(a, bool):
@@ -207,8 +311,8 @@ def op2(name, a, b):
     width, x, y = same_width(a, b, name)
     if name in ('add', 'sub', 'mul'):
         return fits(width, x + y if name == 'add' else x - y if name == 'sub' else x * y, name)
-    if name == 'wrapadd':
-        return width, (x + y) % (1 << width)
+    if name in ('wrapadd', 'wrapsub', 'wrapmul'):
+        return width, (x + y if name == 'wrapadd' else x - y if name == 'wrapsub' else x * y) % (1 << width)
     if name in ('div', 'rem'):
         check(y > 0, name)
         return width, x // y if name == 'div' else x % y
@@ -220,9 +324,16 @@ def op2(name, a, b):
     return {'eq': x == y, 'ne': x != y, 'lt': x < y, 'le': x <= y}[name]
 
 
+def first_element(of):
+    """A pointer into the array that a struct has alone."""
+    while isinstance(of, tuple) and len(of) == 1:
+        of = of[0]
+    return Pointer(of, 0) if isinstance(of, Block) else of
+
+
 def is_number(of):
     """Not a struct whose first field is a truth value, which Python takes for a number."""
-    return isinstance(of, tuple) and type(of[0]) is int
+    return isinstance(of, tuple) and of != () and type(of[0]) is int
 
 
 def fresh(of):
@@ -256,47 +367,37 @@ class Machine:
         function = self.functions[symbol]
         check(len(arguments) == function.parameters, 'a call with too many or too few arguments')
         seen = self.watch and self.watch(function, arguments)
-        frame = [None] * len(function.types)
+        frame = [room(of) for of in function.types]
         frame[1:1 + len(arguments)] = arguments
         check(self.run(function.body, frame) == 'return', 'a function that does not return')
         if seen:
             seen(frame[0])
         return frame[0]
 
-    def load(self, at, frame):
+    def located(self, at, frame):
+        """Where a place is, references followed."""
         local, steps = at
-        found = frame[local]
-        for k, (kind, number) in enumerate(steps):
-            check(found is not None, 'a read of what was never written')
+        found = Spot(frame, local)
+        for kind, number in steps:
             if kind == 'deref':
-                found = (number, found.block.elements[found.index(number)])
-            elif kind == 'field':
-                check(number < len(found), 'a field of another variant')
-                found = found[number]
-            elif steps[k + 1] != ('field', 0):
-                # a variant's fields are there for its own tag only
-                check(found[0][1] == number, 'a field of another variant')
+                found = found.read()
+                check(isinstance(found, (Spot, Pointer)), 'a reference that was never written')
+                found = followed(found, number) if isinstance(found, Pointer) else found
+            else:
+                check(isinstance(found, Spot), 'a part of an element')
+                found = found.at(kind, number)
+        return found
+
+    def load(self, at, frame):
+        found = self.located(at, frame).read()
         check(found is not None, 'a read of what was never written')
         return fresh(found)
 
     def store(self, at, of, frame):
-        local, steps = at
-        frame[local] = self.stored(frame[local], steps, of)
-
-    def stored(self, whole, steps, of):
-        """The whole with a part of it replaced."""
-        if not steps:
-            return of
-        kind, number = steps[0]
-        if kind == 'deref':
-            check(len(steps) == 1 and of[0] == number, 'a store of another width')
-            whole.block.elements[whole.index(number)] = of[1]
-            return whole
-        check(kind == 'field' and whole is not None, 'a store into a part')
-        return whole[:number] + (self.stored(whole[number], steps[1:], of),) + whole[number + 1:]
+        self.located(at, frame).write(of)
 
     def operand(self, part, frame):
-        return part[1] if part[0] == 'constant' else self.load(part[1], frame)
+        return fresh(part[1]) if part[0] == 'constant' else self.load(part[1], frame)
 
     def value(self, of, frame):
         kind = of[0]
@@ -313,21 +414,17 @@ class Machine:
         if kind == 'address':
             return self.address(of[1], frame)
         if kind == 'repeat':
-            width, number = self.operand(of[1], frame)
-            return Block(width, [number] * of[2])
+            return row([self.operand(of[1], frame)] * of[2])
         parts = [self.operand(part, frame) for part in of[1]]
-        return Block(parts[0][0], [number for _, number in parts]) if kind == 'array' else tuple(parts)
+        return row(parts) if kind == 'array' else tuple(parts)
 
     def address(self, at, frame):
         local, steps = at
         if steps and steps[-1][0] == 'deref':
             return self.load((local, steps[:-1]), frame)
-        found = frame[local]
-        for kind, number in steps:
-            check(kind == 'field', 'an address')
-            found = found[number]
-        check(isinstance(found, Block), 'the address of what is no array')
-        return Pointer(found, 0)
+        found = self.located(at, frame)
+        whole = found.read()
+        return Pointer(whole, 0) if isinstance(whole, Block) else found
 
     def run(self, body, frame):
         """None to go on after the body, 'return', or the number of an exit."""
@@ -348,6 +445,8 @@ class Machine:
                 out = self.run(arm, frame)
             elif kind == 'return':
                 return kind
+            elif kind == 'unreachable':
+                raise Stuck('what is never reached')
             elif kind == 'exit':
                 return todo[1]
             elif kind == 'block':

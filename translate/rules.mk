@@ -69,21 +69,21 @@ dist-strict:
 	    for file in $(DIST); do $$cc $(STRICTEST) -O2 -c $$file -o target/dist/strict.o || exit 1; done; \
 	    echo "ok     $$cc: no warning"; done
 
-# The machine's answers, function by function: for each file of a face, and for the zoo, which has the
-# constructs that the translator knows and no face uses.
+# The machine's answers, function by function: for each file of a face, and for the zoo, which has constructs and
+# forms that the translator knows and the faces use little or not at all.
 cases = python3 -B translate/cases.py $(call crate_of,$(1)) target/mir/$(1).mir $(2) $($(1)_HEADERS) >target/dist/cases_$(notdir $(2)) && \
     $(CC) -std=c99 -O1 $(STRICT) -Wno-unused-function -Idist target/dist/cases_$(notdir $(2)) -o target/dist/cases_$(basename $(notdir $(2))) && \
     timeout 60 target/dist/cases_$(basename $(notdir $(2)))
 
-ZOO := zoo translate/zoo/zoo.mir target/dist/zoo.c translate/zoo/zoo.h
+ZOO := zoo forms
 
 dist-cases: $(MIR)
 	@mkdir -p target/dist
-	@$(TRANSLATE) zoo translate/zoo/zoo.mir target/dist translate/zoo/zoo.h
-	@python3 -B translate/cases.py $(ZOO) >target/dist/cases_zoo.c
-	@$(CC) $(STRICTEST) -Itranslate/zoo -c target/dist/zoo.c -o target/dist/zoo.o
-	@$(CC) -std=c99 -O1 $(STRICT) -Itranslate/zoo target/dist/cases_zoo.c -o target/dist/cases_zoo
-	@timeout 60 target/dist/cases_zoo
+	@for name in $(ZOO); do \
+	    from=translate/zoo/$$name; made=target/dist/$$name.c; cases=target/dist/cases_$$name; \
+	    $(TRANSLATE) $$name $$from.mir target/dist $$from.h && $(CC) $(STRICTEST) -Itranslate/zoo -c $$made -o target/dist/zoo.o && \
+	    python3 -B translate/cases.py $$name $$from.mir $$made $$from.h >$$cases.c && \
+	    $(CC) -std=c99 -O1 $(STRICT) -Wno-unused-function -Itranslate/zoo $$cases.c -o $$cases && timeout 60 $$cases || exit 1; done
 	@$(foreach face,$(FACES),$(foreach header,$($(face)_HEADERS),$(call cases,$(face),dist/$(notdir $(header:.h=.c))) &&)) true
 
 # The same random calls over the library and over dist/.

@@ -3,6 +3,7 @@
 use std::collections::HashMap;
 
 use crate::mir::{goes_on, Body, Operand, Place, Statement, Step, Type, Value};
+use crate::offsets::ensure_sized;
 use crate::refused::{ensure, refuse, Result};
 use crate::types::{c_name, Types};
 use crate::uses::Uses;
@@ -22,6 +23,8 @@ pub struct Writer<'a> {
     pub types: &'a Types,
     functions: &'a Functions<'a>,
     pub uses: &'a Uses<'a>,
+    /// The types of the copies that are made for calls.
+    copies: Vec<Type>,
     around: Vec<Around>,
     labels: usize,
     lines: Vec<String>,
@@ -37,21 +40,32 @@ impl Writer<'_> {
         }
     }
 
+    /// Whether C has the local that a place begins with.
+    fn is_kept(&self, place: &Place) -> bool {
+        self.uses.read.contains(&place.local)
+    }
+
     fn say(&mut self, line: impl AsRef<str>) {
         self.lines.push(format!("{}{}", "    ".repeat(self.depth), line.as_ref()));
     }
 
     fn assign(&mut self, to: &Place, value: &Value) -> Result<()> {
-        let (target, want) = self.place(to)?;
-        if let Some(numbers) = self.uses.tables.get(&to.local) {
-            let Value::Aggregate(parts) = value else { refuse!("a table that is no aggregate") };
-            ensure!(self.elements(parts, &want)?.len() == numbers.len(), "a table's entries");
+        if !self.is_kept(to) {
             return Ok(());
+        }
+        let (target, want) = self.place(to)?;
+        if let Some(parts) = self.uses.tables.get(&to.local) {
+            return self.elements(parts, &want).map(drop);
+        }
+        if let Some(constant) = self.uses.constants.get(&to.local) {
+            return self.ensure_types(&[self.initial(constant)?], &[want]);
         }
         if let Value::Repeat(of, count) = value {
             let given = self.operand(of)?;
             let fits = matches!(&want, Type::Array { length, of } if length == count && &**of == given.of());
-            ensure!(fits && matches!(given, Given::Constant(..)), "a repeated {:?} as {want:?}", given.of());
+            let apart =
+                !matches!(of, Operand::Copy(place) if place.local == to.local || !place.steps.is_empty());
+            ensure!(fits && apart, "a repeated {:?} as {want:?}", given.of());
             let name = target.elements();
             self.say(format!("for (uint32_t i = 0; i < UINT32_C({count}); i++) {{"));
             self.say(format!("    {name}[i] = {};", given.text()));
@@ -59,7 +73,7 @@ impl Writer<'_> {
             return Ok(());
         }
         let text = self.value(value, &want)?;
-        if want == Type::Unit || !self.uses.read.contains(&to.local) {
+        if self.types.is_empty(&want)? {
             return Ok(());
         }
         if let Some(lines) = self.by_members(to, &target, value, &want)? {
@@ -120,7 +134,9 @@ impl Writer<'_> {
 
     /// Another variant's member: 0, so that a copy of the whole reads nothing that was never written.
     fn cleared(&self, target: &Spot, of: &Type) -> Result<Vec<String>> {
-        ensure!(!matches!(of, Type::Array { .. }), "an array within an enum");
+        if matches!(of, Type::Array { .. }) {
+            return Ok(vec![format!("{} = ({}){{{{0}}}};", target.value(), self.types.c(of)?)]);
+        }
         if !self.types.has_members(of)? {
             return Ok(vec![format!("{} = 0;", target.value())]);
         }
@@ -149,17 +165,12 @@ impl Writer<'_> {
         self.ensure_types(&given, &function.locals[1..=function.function.parameters])?;
         let mut handed = Vec::new();
         for (k, given) in given.iter().enumerate() {
+            if self.types.is_empty(given.of())? {
+                continue;
+            }
             handed.push(match given {
-                Given::Place(spot, _) if function.by_pointer(self.types, k + 1)? => {
-                    let Operand::Copy(place) = &arguments[k] else { refuse!("a struct that is no place") };
-                    let lent = self.uses.is_addressed(place.local)
-                        || place.steps.iter().any(|s| matches!(s, Step::Deref(_)));
-                    ensure!(!lent, "a struct handed over that a reference leads to");
-                    if spot.pointer {
-                        spot.text.clone()
-                    } else {
-                        format!("&{}", spot.text)
-                    }
+                Given::Place(..) if function.by_pointer(self.types, k + 1)? => {
+                    self.by_pointer(&arguments[k], given, function)?
                 }
                 _ => self.whole(given)?,
             });
@@ -172,12 +183,34 @@ impl Writer<'_> {
             function.locals[0]
         );
         let called = format!("{}({});", c_name(callee)?, handed.join(", "));
-        match (&want, self.uses.read.contains(&to.local)) {
-            (Type::Unit, _) => self.say(called),
+        match (self.types.is_empty(&want)?, self.is_kept(to)) {
+            (true, _) => self.say(called),
             (_, true) => self.say(format!("{} = {called}", target.value())),
             (_, false) => self.say(format!("(void){called}")),
         }
         Ok(())
+    }
+
+    /// A struct that the callee only reads, by a pointer to it: to a copy, if the callee could reach it by a reference
+    /// and write to it.
+    fn by_pointer(&mut self, operand: &Operand, given: &Given, callee: &Uses) -> Result<String> {
+        let (Operand::Copy(place), Given::Place(spot, of)) = (operand, given) else {
+            refuse!("a struct that is no place")
+        };
+        let lent =
+            self.uses.is_addressed(place.local) || place.steps.iter().any(|s| matches!(s, Step::Deref(_)));
+        let mut writes = false;
+        for parameter in &callee.locals[1..=callee.function.parameters] {
+            writes |= self.types.leads_to_writing(parameter)?;
+        }
+        if lent && writes {
+            self.copies.push(of.clone());
+            let text = format!("c{}", self.copies.len());
+            let copy = Spot { text, pointer: false, bare: false };
+            self.copied(&copy, given)?.iter().for_each(|line| self.say(line));
+            return Ok(format!("&{}", copy.text));
+        }
+        Ok(if spot.pointer { spot.text.clone() } else { format!("&{}", spot.text) })
     }
 
     fn inner(&mut self, body: &Body) -> Result<()> {
@@ -213,8 +246,9 @@ impl Writer<'_> {
                 self.say("}");
             }
             Statement::Exit(count) => self.exit(*count)?,
-            Statement::Return if self.uses.locals[0] == Type::Unit => self.say("return;"),
+            Statement::Return if self.types.is_empty(&self.uses.locals[0])? => self.say("return;"),
             Statement::Return => self.say("return result;"),
+            Statement::Unreachable => refuse!("a statement that is never reached"),
         }
         Ok(())
     }
@@ -301,6 +335,18 @@ impl Writer<'_> {
         Ok(())
     }
 
+    /// The declaration of a constant, which the compiler keeps with the code.
+    fn constant(&self, declared: &str, constant: &Operand) -> Result<String> {
+        match constant {
+            Operand::Parts(Type::Array { .. }, parts)
+                if parts.iter().all(|part| matches!(part, Operand::Int { .. })) =>
+            {
+                Ok(table(declared, parts))
+            }
+            _ => Ok(format!("    static const {declared} = {};\n", self.initial(constant)?.text())),
+        }
+    }
+
     fn arm(&mut self, arm: &Body) -> Result<()> {
         self.inner(arm)?;
         if goes_on(arm) {
@@ -332,9 +378,13 @@ pub fn listed(head: &str, items: &[String]) -> String {
     lines.join("\n")
 }
 
-/// A table of constants, which the compiler keeps with the code, with as many lines as it needs.
-fn table(declared: &str, numbers: &[u64]) -> String {
-    let numbers: Vec<_> = numbers.iter().map(|n| format!("{n}u")).collect();
+/// A table of numbers, which the compiler keeps with the code, with as many lines as it needs.
+fn table(declared: &str, parts: &[Operand]) -> String {
+    let number = |part: &Operand| match part {
+        Operand::Int { value, .. } => Some(format!("{value}u")),
+        _ => None,
+    };
+    let numbers: Vec<_> = parts.iter().filter_map(number).collect();
     let one = format!("    static const {declared} = {{{{{}}}}};\n", numbers.join(", "));
     if one.len() <= COLUMNS {
         return one;
@@ -356,6 +406,9 @@ fn signature(types: &Types, uses: &Uses) -> Result<String> {
     let mut parameters = Vec::new();
     for local in 1..=uses.function.parameters {
         let of = &uses.locals[local];
+        if types.is_empty(of)? {
+            continue;
+        }
         parameters.push(if uses.by_pointer(types, local)? {
             format!("const {} *a{local}", types.c(of)?)
         } else {
@@ -365,30 +418,47 @@ fn signature(types: &Types, uses: &Uses) -> Result<String> {
     if parameters.is_empty() {
         parameters.push("void".to_string());
     }
-    let name = types.declaration(&uses.locals[0], &c_name(&uses.function.symbol)?)?;
+    let result = if types.is_empty(&uses.locals[0])? { &Type::Unit } else { &uses.locals[0] };
+    let name = types.declaration(result, &c_name(&uses.function.symbol)?)?;
     Ok(listed(&format!("static {name}"), &parameters))
 }
 
 /// The whole function, its path above it.
 pub fn function(types: &Types, functions: &Functions, uses: &Uses) -> Result<String> {
     ensure_found(uses.function)?;
+    ensure_sized(uses)?;
     ensure!(!goes_on(&uses.function.body), "{}: a body that ends without a return", uses.function.symbol);
-    let mut writer =
-        Writer { types, functions, uses, around: Vec::new(), labels: 0, lines: Vec::new(), depth: 1 };
+    let mut writer = Writer {
+        types,
+        functions,
+        uses,
+        copies: Vec::new(),
+        around: Vec::new(),
+        labels: 0,
+        lines: Vec::new(),
+        depth: 1,
+    };
     writer.body(&uses.function.body)?;
     let mut text = format!("/* {} */\n{}\n{{\n", uses.function.symbol, signature(types, uses)?);
     for (local, of) in uses.locals.iter().enumerate() {
         if (1..=uses.function.parameters).contains(&local) {
             continue;
         }
-        if let Some(numbers) = uses.tables.get(&local) {
-            text += &table(&types.declaration(of, &writer.name(local))?, numbers);
-        } else if *of != Type::Unit && uses.read.contains(&local) {
+        if let Some(parts) = uses.tables.get(&local) {
+            text += &table(&types.declaration(of, &writer.name(local))?, parts);
+        } else if let (Some(constant), false) = (uses.constants.get(&local), types.is_empty(of)?) {
+            text += &writer.constant(&types.declaration(of, &writer.name(local))?, constant)?;
+        } else if uses.read.contains(&local) && !types.is_empty(of)? {
             text += &format!("    {};\n", types.declaration(of, &writer.name(local))?);
         }
     }
+    for (k, of) in writer.copies.iter().enumerate() {
+        text += &format!("    {};\n", types.declaration(of, &format!("c{}", k + 1))?);
+    }
     for local in (1..=uses.function.parameters).filter(|local| !uses.read.contains(local)) {
-        text += &format!("    (void){};\n", writer.name(local));
+        if !types.is_empty(&uses.locals[local])? {
+            text += &format!("    (void){};\n", writer.name(local));
+        }
     }
     Ok(text + &writer.lines.join("\n") + "\n}\n")
 }

@@ -5,6 +5,7 @@ use std::collections::HashSet;
 use crate::emit::{self, Functions};
 use crate::header::Header;
 use crate::mir::{all_statements, program, Program, Statement, Type};
+use crate::reached::leave_out_the_rest;
 use crate::refused::{ensure, refuse, Result};
 use crate::sha256::sha256;
 use crate::types::{c_name, Types};
@@ -59,10 +60,12 @@ fn ensure_names(types: &Types, functions: &Functions, headers: &[Header]) -> Res
 
 const HEAD: &str = "\
 /*
- * Made by `make c`, not to be edited. A function stands under its path in the proved code. Its result is
- * called result, its parameters a1, a2 .. and its other locals v.., by their numbers in the MIR. A statement
- * of the MIR is one statement here, but structs and arrays are assigned member by member. An enum is its tag
- * and the members that its variants share. A length is 64 bits wide, as in the proof, whatever size_t is.
+ * Made by `make c`, not to be edited. A function stands under its path in the proved code; one that is generic
+ * there, as those of the library are, stands once for each of what it is given, under the end of its path and
+ * its types. Its result is called result, its parameters a1, a2 .. and its other locals v.., by their numbers
+ * in the MIR, and copies that a call wants c1, c2 .. A statement of the MIR is one statement here, but structs
+ * and arrays are assigned member by member. An enum is its tag and the members that its variants share; of
+ * what has no bits there is nothing. A length is 64 bits wide, as in the proof, whatever size_t is.
  */
 ";
 
@@ -88,11 +91,14 @@ fn file(
 
 /// The files, one for each header: its name and its text.
 pub fn files(crate_name: &str, mir: &str, headers: &[Header]) -> Result<Vec<(String, String)>> {
-    let Program { functions: known, declared } = program(mir)?;
+    let mut program = program(mir)?;
+    leave_out_the_rest(&mut program)?;
+    let Program { functions: known, declared } = program;
     let mut types = Types::default();
     for (symbol, declared) in declared {
         types.declare(&symbol, declared)?;
     }
+    types.ensure_no_cycle()?;
     let mut functions = Functions::new();
     for function in &known {
         functions.insert(&function.symbol, Uses::of(function)?);

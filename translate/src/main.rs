@@ -9,6 +9,8 @@ mod emit;
 mod file;
 mod header;
 mod mir;
+mod offsets;
+mod reached;
 mod refused;
 mod sha256;
 #[cfg(test)]

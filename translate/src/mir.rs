@@ -1,6 +1,6 @@
 //! MIR: types, functions and statements, with exactly the constructs that this program knows.
 
-use std::collections::BTreeSet;
+use std::collections::{BTreeSet, HashSet};
 
 use crate::refused::{ensure, refuse, Result};
 use crate::words::{read, Tree};
@@ -12,7 +12,7 @@ pub enum Type {
     Unit,
     /// A raw pointer; what it points to is found from where it is followed.
     Raw,
-    /// A reference to an element; one to an array is one to its first element.
+    /// A reference; in C one to an array is one to its first element.
     Reference {
         mutable: bool,
         to: Box<Type>,
@@ -27,6 +27,16 @@ pub enum Type {
     },
     /// A declared struct or enum, by its symbol.
     Named(String),
+}
+
+impl Type {
+    /// What a pointer to it points to in C: an array's first element.
+    pub fn pointed(&self) -> &Type {
+        match self {
+            Type::Array { of, .. } => of,
+            other => other,
+        }
+    }
 }
 
 pub const BYTE: Type = Type::Int(8);
@@ -55,9 +65,16 @@ pub struct Place {
 #[derive(Clone, Debug)]
 pub enum Operand {
     Copy(Place),
-    Int { width: u32, value: u64 },
+    Int {
+        width: u32,
+        value: u64,
+    },
     Bool(bool),
     Unit,
+    /// The bytes from one element to the next.
+    SizeOf(Type),
+    /// A constant that is made of others.
+    Parts(Type, Vec<Operand>),
 }
 
 #[derive(Clone, Copy, Debug, PartialEq, Eq)]
@@ -66,7 +83,9 @@ pub enum Op {
     /// A sum that wraps around.
     WrapAdd,
     Sub,
+    WrapSub,
     Mul,
+    WrapMul,
     Div,
     Rem,
     And,
@@ -111,6 +130,8 @@ pub enum Statement {
     /// Leaves the block with that number, counted from the innermost; of a loop, it is the next turn.
     Exit(usize),
     Return,
+    /// Proved never to be reached.
+    Unreachable,
 }
 
 pub type Body = Vec<Statement>;
@@ -121,6 +142,8 @@ pub struct Function {
     /// 0 is the result, then come the parameters, then the rest.
     pub locals: Vec<Type>,
     pub parameters: usize,
+    /// The locals that are constants, made once and lent.
+    pub constants: HashSet<usize>,
     pub body: Body,
 }
 
@@ -160,11 +183,6 @@ fn declaration(tree: &Tree) -> Result<(String, Declared)> {
         }
         (word, _) => refuse!("a declared type: {word}"),
     };
-    let parts = match &declared {
-        Declared::Struct(fields) => fields.len(),
-        Declared::Enum(variants) => variants.len(),
-    };
-    ensure!(parts > 0, "a type with nothing in it: {symbol:?}");
     Ok((symbol.quoted()?, declared))
 }
 
@@ -197,14 +215,11 @@ fn typed(tree: &Tree) -> Result<Type> {
             Type::Array { length, of: Box::new(element(typed(of)?)?) }
         }
         ("tyRef", [_, mutability, to]) => {
-            let to = match typed(to)? {
-                Type::Array { of, .. } => of,
-                to => Box::new(element(to)?),
-            };
-            Type::Reference { mutable: mutable(mutability)?, to }
+            Type::Reference { mutable: mutable(mutability)?, to: Box::new(lent(typed(to)?)?) }
         }
         ("tyStruct", [symbol, parts]) if symbol.quoted()? == "&[]" => match &types(parts)?[..] {
             [Type::Reference { mutable, to }, length] if *length == WORD => {
+                element(to.pointed().clone())?;
                 Type::Slice { mutable: *mutable, of: to.clone() }
             }
             parts => refuse!("a slice of {parts:?}"),
@@ -214,7 +229,16 @@ fn typed(tree: &Tree) -> Result<Type> {
 }
 
 fn element(found: Type) -> Result<Type> {
-    ensure!(matches!(found, Type::Int(_)), "an element of type {found:?}");
+    let is_one = matches!(
+        found,
+        Type::Int(_) | Type::Bool | Type::Named(_) | Type::Reference { .. } | Type::Slice { .. }
+    );
+    ensure!(is_one, "an element of type {found:?}");
+    Ok(found)
+}
+
+fn lent(found: Type) -> Result<Type> {
+    ensure!(found != Type::Raw, "a reference to a raw pointer");
     Ok(found)
 }
 
@@ -228,17 +252,23 @@ fn mutable(tree: &Tree) -> Result<bool> {
 
 fn function(symbol: String, item: &Tree) -> Result<Function> {
     let ("fnItem", [_, _, parameters, locals, body]) = item.parts()? else { refuse!("the item of {symbol}") };
-    let mut kept = Vec::new();
+    let (mut kept, mut constants) = (Vec::new(), HashSet::new());
     for local in locals.items()? {
         let ("local", [found, home]) = local.parts()? else { refuse!("a local of {symbol}") };
-        ensure!(matches!(home.word()?, "valueLocal" | "memorySlot"), "a local's home: {home:?}");
+        match home.word()? {
+            "valueLocal" | "memorySlot" => (),
+            "staticSlot" => {
+                constants.insert(kept.len());
+            }
+            word => refuse!("a local's home: {word}"),
+        }
         kept.push(typed(found)?);
     }
     let parameters = parameters.count()?;
     ensure!(parameters < kept.len(), "the parameters of {symbol}");
     ensure!(!kept[..=parameters].contains(&Type::Raw), "{symbol} hands over a raw pointer");
-    ensure!(!kept[1..=parameters].contains(&Type::Unit), "{symbol} has a parameter of no value");
-    Ok(Function { symbol, locals: kept, parameters, body: statements(body)? })
+    ensure!(constants.iter().all(|local| *local > parameters), "{symbol} hands over a constant");
+    Ok(Function { symbol, locals: kept, parameters, constants, body: statements(body)? })
 }
 
 fn place(tree: &Tree) -> Result<Place> {
@@ -246,7 +276,7 @@ fn place(tree: &Tree) -> Result<Place> {
     let mut made = Place { local: local.count()?, steps: Vec::new() };
     for step in steps.items()? {
         made.steps.push(match step.parts()? {
-            ("deref", [to]) => Step::Deref(element(typed(to)?)?),
+            ("deref", [to]) => Step::Deref(lent(typed(to)?)?),
             ("field", [k]) => Step::Field(k.count()?),
             ("variant", [k]) => Step::Variant(k.count()?),
             (word, _) => refuse!("a step {word}"),
@@ -266,6 +296,8 @@ fn operand(tree: &Tree) -> Result<Operand> {
         ("true", []) => Operand::Bool(true),
         ("false", []) => Operand::Bool(false),
         ("unit", []) => Operand::Unit,
+        ("size", [of]) => Operand::SizeOf(element(typed(of)?)?),
+        ("parts", [of, parts]) => Operand::Parts(typed(of)?, operands(parts)?),
         (word, _) => refuse!("the operand {word}"),
     })
 }
@@ -287,6 +319,8 @@ fn op(tree: &Tree) -> Result<Op> {
         ("lt", ["unsigned"]) => Op::Lt,
         ("le", ["unsigned"]) => Op::Le,
         ("wrapadd", []) => Op::WrapAdd,
+        ("wrapsub", []) => Op::WrapSub,
+        ("wrapmul", []) => Op::WrapMul,
         ("and", []) => Op::And,
         ("or", []) => Op::Or,
         ("xor", []) => Op::Xor,
@@ -343,6 +377,7 @@ fn statement(word: &str, arguments: &[Tree]) -> Result<Statement> {
         ("loop", [body]) => Statement::Loop(statements(body)?),
         ("exit", [count]) => Statement::Exit(count.count()?),
         ("return", []) => Statement::Return,
+        ("unreachable", []) => Statement::Unreachable,
         _ => refuse!("the statement {word}"),
     })
 }
@@ -376,7 +411,11 @@ pub fn bodies(statement: &Statement) -> Vec<&Body> {
         Statement::If(_, yes, no) => vec![yes, no],
         Statement::Switch { arms, default, .. } => arms.iter().map(|(_, body)| body).chain(default).collect(),
         Statement::Block(body) | Statement::Loop(body) => vec![body],
-        Statement::Assign(..) | Statement::Call { .. } | Statement::Exit(_) | Statement::Return => Vec::new(),
+        Statement::Assign(..)
+        | Statement::Call { .. }
+        | Statement::Exit(_)
+        | Statement::Return
+        | Statement::Unreachable => Vec::new(),
     }
 }
 
@@ -391,7 +430,7 @@ pub fn all_statements(body: &Body) -> Vec<&Statement> {
 }
 
 /// The operands that a statement itself reads; a body inside it is not looked at.
-fn operands_of(statement: &Statement) -> Vec<&Operand> {
+pub fn operands_of(statement: &Statement) -> Vec<&Operand> {
     match statement {
         Statement::Assign(_, value) => match value {
             Value::Use(a) | Value::Not(a) | Value::Cast(_, a) | Value::Repeat(a, _) => vec![a],
@@ -401,7 +440,11 @@ fn operands_of(statement: &Statement) -> Vec<&Operand> {
         },
         Statement::Call { arguments, .. } => arguments.iter().collect(),
         Statement::If(on, ..) | Statement::Switch { on, .. } => vec![on],
-        Statement::Block(_) | Statement::Loop(_) | Statement::Exit(_) | Statement::Return => Vec::new(),
+        Statement::Block(_)
+        | Statement::Loop(_)
+        | Statement::Exit(_)
+        | Statement::Return
+        | Statement::Unreachable => Vec::new(),
     }
 }
 
@@ -454,7 +497,7 @@ fn ends(body: &Body) -> Ends {
     for statement in body {
         let this = match statement {
             Statement::Assign(..) | Statement::Call { .. } => continue,
-            Statement::Return => Ends::default(),
+            Statement::Return | Statement::Unreachable => Ends::default(),
             Statement::Exit(count) => Ends { goes_on: false, exits: [*count].into() },
             Statement::Block(inner) => ends(inner).outside(true),
             Statement::Loop(inner) => ends(inner).outside(false),

@@ -140,6 +140,100 @@ const ARRAYS_HEADER_EDITS: [Edit; 7] = [
     ("toy_pairs pairs;", "toy_pairs pairs[1];", "pairs of toy_settings is an array"),
 ];
 
+/// `toy_go(n)` lends a struct that it hands over too, and a constant; takes a value of no bits along; and goes over
+/// the struct as a slice of one.
+const REFERENCES: &str = r#"program
+(lcons (fn-def "toy::first" (fnItem 1 lnil 1
+  (lcons (local (tyInt 8) valueLocal)
+  (lcons (local (tyStruct "&[]" (tcons (tyRef erased mut (tyNamed (pair "toy::Held" lnil))) (tcons (tyInt 64) tnil))) valueLocal)
+  (lcons (local (tyInt 64) valueLocal) (lcons (local tyPtr valueLocal) lnil))))
+  (seq (assign (place 2 lnil) (op2 (mul unsigned) (int 64 0) (size (tyNamed (pair "toy::Held" lnil)))))
+  (seq (assign (place 3 lnil) (op2 offset (copy (place 1 (lcons (field 0) lnil))) (copy (place 2 lnil))))
+  (seq (assign (place 0 lnil) (rvOpd (copy (place 3
+    (lcons (deref (tyNamed (pair "toy::Held" lnil))) (lcons (field 1) lnil)))))) return)))) lnil)
+(lcons (fn-def "toy::moved" (fnItem 1 lnil 3
+  (lcons (local (tyInt 8) valueLocal) (lcons (local (tyNamed (pair "toy::Held" lnil)) valueLocal)
+  (lcons (local (tyRef erased mut (tyNamed (pair "toy::Held" lnil))) valueLocal)
+  (lcons (local (tyNamed (pair "toy::Nothing" lnil)) valueLocal) lnil))))
+  (seq (assign (place 2 (lcons (deref (tyNamed (pair "toy::Held" lnil))) (lcons (field 1) lnil))) (rvOpd (int 8 7)))
+  (seq (if false unreachable (assign (place 0 lnil) (rvOpd (copy (place 1 (lcons (field 1) lnil)))))) return))) lnil)
+(lcons (fn-def "toy::never" (fnItem 0 lnil 0 (lcons (local tyUnit valueLocal) lnil)
+  (seq (assign (place 0 lnil) (rvOpd unit)) unreachable)) lnil)
+(lcons (fn-def "toy::toy_go" (fnItem 0 lnil 1
+  (lcons (local (tyInt 8) valueLocal) (lcons (local (tyInt 8) valueLocal)
+  (lcons (local (tyNamed (pair "toy::Held" lnil)) memorySlot)
+  (lcons (local (tyRef erased mut (tyNamed (pair "toy::Held" lnil))) valueLocal)
+  (lcons (local (tyNamed (pair "toy::Nothing" lnil)) valueLocal) (lcons (local (tyInt 8) valueLocal)
+  (lcons (local (tyRef erased imm (tyNamed (pair "toy::Kind" lnil))) valueLocal)
+  (lcons (local (tyNamed (pair "toy::Kind" lnil)) staticSlot) (lcons (local tyUnit valueLocal)
+  (lcons (local (tyStruct "&[]" (tcons (tyRef erased mut (tyNamed (pair "toy::Held" lnil))) (tcons (tyInt 64) tnil))) valueLocal)
+  lnil))))))))))
+  (seq (assign (place 7 lnil) (rvOpd (parts (tyNamed (pair "toy::Kind" lnil)) (lcons (int 8 1) lnil))))
+  (seq (assign (place 6 lnil) (addrOf (place 7 lnil)))
+  (seq (assign (place 2 lnil) (aggregate (lcons (copy (place 6 (lcons (deref (tyNamed (pair "toy::Kind" lnil))) lnil)))
+    (lcons (copy (place 1 lnil)) lnil))))
+  (seq (assign (place 4 lnil) (aggregate lnil))
+  (seq (assign (place 3 lnil) (addrOf (place 2 lnil)))
+  (seq (call (direct (fnRef "toy::moved"))
+    (lcons (copy (place 2 lnil)) (lcons (copy (place 3 lnil)) (lcons (copy (place 4 lnil)) lnil))) (place 5 lnil))
+  (seq (switch (copy (place 2 (lcons (field 0) (lcons (variant 0) (lcons (field 0) lnil)))))
+    (arm (lcons 0 lnil) (seq (call (direct (fnRef "toy::never")) lnil (place 8 lnil)) unreachable)
+    (arm (lcons 1 lnil) (assign (place 9 lnil) (aggregate (lcons (copy (place 3 lnil)) (lcons (int 64 1) lnil)))) noDefault)))
+  (seq (call (direct (fnRef "toy::first")) (lcons (copy (place 9 lnil)) lnil) (place 0 lnil)) return)))))))))
+  (lcons (pair "toy::Nothing" (fields tnil))
+  (lcons (pair "toy::Kind" (variants (ttcons tnil (ttcons tnil ttnil))))
+  (lcons (pair "toy::Held" (fields (tcons (tyNamed (pair "toy::Kind" lnil)) (tcons (tyInt 8) tnil)))) lnil))))
+lnil))))"#;
+
+const REFERENCES_HEADER: &str = "
+#include <stdint.h>
+uint8_t toy_go(uint8_t n);
+";
+
+const REFERENCES_EDITS: [Edit; 13] = [
+    (
+        "(rvOpd (int 8 7))",
+        "(rvOpd (size (tyNamed (pair \"toy::Kind\" lnil))))",
+        "a size that counts no elements",
+    ),
+    ("(lcons (int 8 1) lnil))))", "(lcons (int 8 2) lnil))))", "variant 2 of toy::Kind"),
+    (
+        "(rvOpd (parts (tyNamed (pair \"toy::Kind\" lnil)) (lcons (int 8 1) lnil)))",
+        "(rvOpd (copy (place 6 (lcons (deref (tyNamed (pair \"toy::Kind\" lnil))) lnil))))",
+        "a constant that is written, or no constant",
+    ),
+    ("(place 4 lnil) (aggregate lnil)", "(place 7 lnil) (aggregate lnil)", "a constant that is written"),
+    ("staticSlot", "elsewhere", "a local's home"),
+    (
+        "(copy (place 6 (lcons (deref (tyNamed (pair \"toy::Kind\" lnil)))",
+        "(copy (place 6 (lcons (deref (tyInt 8))",
+        "followed as Int(8)",
+    ),
+    ("(addrOf (place 2 lnil))", "(addrOf (place 1 lnil))", "the address of a Int(8)"),
+    ("(rvOpd unit)) unreachable)", "(rvOpd unit)) (seq (if true return skip) unreachable))", "never reached"),
+    (
+        "(fields (tcons (tyNamed (pair \"toy::Kind\" lnil))",
+        "(fields (tcons (tyRef erased imm (tyNamed (pair \"toy::Held\" lnil)))",
+        "a type within itself",
+    ),
+    (
+        "(tyRef erased imm (tyNamed (pair \"toy::Kind\" lnil)))",
+        "(tyRef erased imm tyPtr)",
+        "a reference to a raw pointer",
+    ),
+    ("(size (tyNamed (pair \"toy::Held\" lnil)))", "(int 64 2)", "counted by more than its size"),
+    (
+        "(size (tyNamed (pair \"toy::Held\" lnil)))",
+        "(size (tyNamed (pair \"toy::Kind\" lnil)))",
+        "counted by more than its size",
+    ),
+    (
+        "(lcons (copy (place 3 lnil)) (lcons (copy (place 4 lnil)) lnil))",
+        "(lcons (copy (place 4 lnil)) (lcons (copy (place 3 lnil)) lnil))",
+        "parts [",
+    ),
+];
+
 fn translated(mir: &str, header: &str) -> Result<Vec<(String, String)>> {
     files("toy", mir, &[Header::of("toy.h".to_string(), header, Path::new("."))?])
 }
@@ -179,6 +273,7 @@ fn refused(mir: &str, header: &str, edits: &[Edit], of_header: bool) {
 fn every_edit_of_the_mir_is_refused() {
     refused(MIR, HEADER, &EDITS, false);
     refused(ARRAYS, ARRAYS_HEADER, &ARRAYS_EDITS, false);
+    refused(REFERENCES, REFERENCES_HEADER, &REFERENCES_EDITS, false);
 }
 
 #[test]
@@ -201,6 +296,26 @@ fn arrays_of_the_header_are_translated() {
     ] {
         assert!(made[0].1.contains(line), "{line}: {}", made[0].1);
     }
+}
+
+/// What is lent and handed over is copied where the callee can write to it; of what has no bits, and of what is never
+/// reached, nothing is left.
+#[test]
+fn references_are_translated() {
+    let made = translated(REFERENCES, REFERENCES_HEADER).expect("it is translated");
+    for line in [
+        "static uint8_t toy__moved(const toy__Held *a1, toy__Held *a2)",
+        "a2->f1 = 7u;\n    result = a1->f1;",
+        "v3 = a1.at + (size_t)(v2 / sizeof(toy__Held));",
+        "static const toy__Kind v7 = 1u;",
+        "v2 = (toy__Held){.f0 = *v6, .f1 = a1};",
+        "c1.f1 = v2.f1;",
+        "(void)toy__moved(&c1, v3);",
+        "default: /* 1 */",
+    ] {
+        assert!(made[0].1.contains(line), "{line}: {}", made[0].1);
+    }
+    assert!(!made[0].1.contains("never") && !made[0].1.contains("Nothing"), "{}", made[0].1);
 }
 
 /// A function that nothing calls is exported, or would not be there.

@@ -37,7 +37,11 @@ fn label(of: &Type) -> Result<String> {
         Type::Bool => "bool".to_string(),
         Type::Named(symbol) => c_name(symbol)?,
         Type::Array { length, of } => format!("array_{length}_{}", label(of)?),
-        _ => refuse!("a part of type {of:?}"),
+        Type::Slice { mutable, of } => format!("slice_{}{}", if *mutable { "mut_" } else { "" }, label(of)?),
+        Type::Reference { mutable, to } => format!("{}_{}", if *mutable { "mut" } else { "ref" }, label(to)?),
+        // Nothing in C is made of these.
+        Type::Unit => "unit".to_string(),
+        Type::Raw => refuse!("a part of type {of:?}"),
     })
 }
 
@@ -62,6 +66,93 @@ impl Types {
         Ok(())
     }
 
+    /// Whether no declared type holds itself, by a reference either.
+    pub fn ensure_no_cycle(&self) -> Result<()> {
+        let mut done = HashSet::new();
+        self.table.keys().try_for_each(|symbol| self.visit(symbol, &mut Vec::new(), &mut done))
+    }
+
+    fn visit(&self, symbol: &str, open: &mut Vec<String>, done: &mut HashSet<String>) -> Result<()> {
+        ensure!(!open.iter().any(|other| other == symbol), "a type within itself: {symbol}");
+        if !done.insert(symbol.to_string()) {
+            return Ok(());
+        }
+        open.push(symbol.to_string());
+        let parts = match self.declared(symbol)? {
+            Declared::Struct(fields) => fields.clone(),
+            Declared::Enum(variants) => variants.concat(),
+        };
+        for mut of in &parts {
+            while let Type::Reference { to: inner, .. }
+            | Type::Slice { of: inner, .. }
+            | Type::Array { of: inner, .. } = of
+            {
+                of = inner;
+            }
+            if let Type::Named(inner) = of {
+                self.visit(inner, open, done)?;
+            }
+        }
+        open.pop();
+        Ok(())
+    }
+
+    /// Whether it has one value at most, of which C keeps nothing; so it is with a reference to one.
+    pub fn is_empty(&self, of: &Type) -> Result<bool> {
+        Ok(match of {
+            Type::Unit => true,
+            Type::Reference { to, .. } => self.is_empty(to)?,
+            Type::Named(symbol) => match self.declared(symbol)? {
+                Declared::Struct(fields) => self.are_empty(fields)?,
+                Declared::Enum(variants) => variants.is_empty(),
+            },
+            _ => false,
+        })
+    }
+
+    fn are_empty(&self, all: &[Type]) -> Result<bool> {
+        for of in all {
+            if !self.is_empty(of)? {
+                return Ok(false);
+            }
+        }
+        Ok(true)
+    }
+
+    /// Whether something can be written where it leads.
+    pub fn leads_to_writing(&self, of: &Type) -> Result<bool> {
+        let parts = match of {
+            Type::Reference { mutable: true, .. } | Type::Slice { mutable: true, .. } => return Ok(true),
+            Type::Reference { to: inner, .. }
+            | Type::Slice { of: inner, .. }
+            | Type::Array { of: inner, .. } => {
+                return self.leads_to_writing(inner);
+            }
+            Type::Named(symbol) => match self.declared(symbol)? {
+                Declared::Struct(fields) => fields.clone(),
+                Declared::Enum(variants) => variants.concat(),
+            },
+            Type::Int(_) | Type::Bool | Type::Unit | Type::Raw => Vec::new(),
+        };
+        for part in &parts {
+            if self.leads_to_writing(part)? {
+                return Ok(true);
+            }
+        }
+        Ok(false)
+    }
+
+    /// Members without those of which C keeps nothing.
+    fn kept(&self, members: Members<Type>) -> Result<Members<Type>> {
+        let mut found = Members::new();
+        for (name, of) in members {
+            if !self.is_empty(&of)? {
+                found.push((name, of));
+            }
+        }
+        Ok(found)
+    }
+
     /// Whether it is a struct of the header, whose arrays stand in it as they are.
     pub fn is_face(&self, of: &Type) -> bool {
         matches!(of, Type::Named(symbol) if self.faces.contains_key(symbol))
@@ -75,7 +166,7 @@ impl Types {
     pub fn is_bare(&self, symbol: &str) -> Result<bool> {
         Ok(match self.declared(symbol)? {
             Declared::Struct(_) => false,
-            Declared::Enum(variants) => variants.iter().all(Vec::is_empty),
+            Declared::Enum(variants) => self.are_empty(&variants.concat())?,
         })
     }
 
@@ -83,12 +174,12 @@ impl Types {
     pub fn has_members(&self, of: &Type) -> Result<bool> {
         match of {
             Type::Slice { .. } => Ok(true),
-            Type::Named(symbol) => Ok(!self.is_bare(symbol)?),
+            Type::Named(symbol) => Ok(!self.is_empty(of)? && !self.is_bare(symbol)?),
             _ => Ok(false),
         }
     }
 
-    /// The members of a struct, in order.
+    /// A struct's fields by their names, in order.
     pub fn fields(&self, symbol: &str) -> Result<Members<Type>> {
         let Declared::Struct(fields) = self.declared(symbol)? else {
             refuse!("a field of the enum {symbol}")
@@ -100,7 +191,7 @@ impl Types {
         Ok(fields.iter().enumerate().map(|(k, of)| (name(k), of.clone())).collect())
     }
 
-    /// The members of one variant, in order. Variants share members: the first of a type is the same one in
+    /// The fields of one variant by their names, in order. Variants share members: the first of a type is the same one in
     /// every variant.
     pub fn variant(&self, symbol: &str, k: usize) -> Result<Members<Type>> {
         let Declared::Enum(variants) = self.declared(symbol)? else {
@@ -117,7 +208,7 @@ impl Types {
         let Declared::Enum(variants) = self.declared(symbol)? else { refuse!("{symbol} is no enum") };
         let mut found = Members::new();
         for k in 0..variants.len() {
-            for member in self.variant(symbol, k)? {
+            for member in self.kept(self.variant(symbol, k)?)? {
                 if !found.contains(&member) {
                     found.push(member);
                 }
@@ -134,7 +225,7 @@ impl Types {
                 vec![("at".to_string(), at), ("length".to_string(), WORD)]
             }
             Type::Named(symbol) => match self.declared(symbol)? {
-                Declared::Struct(_) => self.fields(symbol)?,
+                Declared::Struct(_) => self.kept(self.fields(symbol)?)?,
                 Declared::Enum(_) => {
                     let tag = ("tag".to_string(), BYTE);
                     [tag].into_iter().chain(self.members_of_enum(symbol)?).collect()
@@ -170,10 +261,7 @@ impl Types {
             Type::Int(width) => format!("uint{width}_t"),
             Type::Bool => "_Bool".to_string(),
             Type::Unit => "void".to_string(),
-            Type::Slice { mutable, of } => {
-                format!("slice_{}{}", if *mutable { "mut_" } else { "" }, label(of)?)
-            }
-            Type::Array { .. } => label(of)?,
+            Type::Slice { .. } | Type::Array { .. } => label(of)?,
             Type::Named(symbol) => match self.faces.get(symbol) {
                 Some(face) => face.name.clone(),
                 None => c_name(symbol)?,
@@ -185,8 +273,12 @@ impl Types {
     /// A declaration without its semicolon: `uint8_t v3`, `const uint8_t *v4`.
     pub fn declaration(&self, of: &Type, name: &str) -> Result<String> {
         Ok(match of {
-            Type::Reference { mutable: true, to } => format!("{} *{name}", self.c(to)?),
-            Type::Reference { mutable: false, to } => format!("const {} *{name}", self.c(to)?),
+            Type::Reference { mutable, to } => match (to.pointed(), mutable) {
+                (to @ Type::Reference { .. }, true) => self.declaration(to, &format!("*{name}"))?,
+                (to @ Type::Reference { .. }, false) => self.declaration(to, &format!("const *{name}"))?,
+                (to, true) => format!("{} *{name}", self.c(to)?),
+                (to, false) => format!("const {} *{name}", self.c(to)?),
+            },
             _ => format!("{} {name}", self.c(of)?),
         })
     }
@@ -195,7 +287,7 @@ impl Types {
     pub fn definitions<'a>(&self, used: impl Iterator<Item = &'a Type>) -> Result<Vec<String>> {
         let (mut lines, mut done) = (Vec::new(), HashSet::new());
         for of in used {
-            self.define(of, &mut Vec::new(), &mut done, &mut lines)?;
+            self.define(of, &mut done, &mut lines)?;
         }
         Ok(lines)
     }
@@ -214,29 +306,23 @@ impl Types {
         })
     }
 
-    fn define(
-        &self,
-        of: &Type,
-        open: &mut Vec<Type>,
-        done: &mut HashSet<Type>,
-        lines: &mut Vec<String>,
-    ) -> Result<()> {
-        ensure!(!open.contains(of), "a type within itself: {of:?}");
-        if !done.insert(of.clone()) {
+    fn define(&self, of: &Type, done: &mut HashSet<Type>, lines: &mut Vec<String>) -> Result<()> {
+        if self.is_empty(of)? || !done.insert(of.clone()) {
             return Ok(());
+        }
+        if let Type::Reference { to: inner, .. } | Type::Array { of: inner, .. } = of {
+            self.define(inner.pointed(), done, lines)?;
         }
         lines.extend(self.plain_definition(of)?);
         if !self.has_members(of)? {
             return Ok(());
         }
-        open.push(of.clone());
         let members = self.members(of)?;
         for (_, inner) in
             members.iter().filter(|(_, inner)| !(self.is_face(of) && matches!(inner, Type::Array { .. })))
         {
-            self.define(inner, open, done, lines)?;
+            self.define(inner, done, lines)?;
         }
-        open.pop();
         if self.is_face(of) {
             return Ok(());
         }

@@ -13,7 +13,9 @@ pub struct Uses<'a> {
     pub locals: Vec<Type>,
     pub read: HashSet<usize>,
     /// The arrays that are made once, of constants, and lent only to be read: C keeps each as a table.
-    pub tables: HashMap<usize, Vec<u64>>,
+    pub tables: HashMap<usize, &'a [Operand]>,
+    /// The constants that are lent, which C keeps so too.
+    pub constants: HashMap<usize, &'a Operand>,
     assigned: HashSet<usize>,
     addressed: HashSet<usize>,
 }
@@ -22,13 +24,33 @@ fn starts_with_deref(place: &Place) -> bool {
     matches!(place.steps.first(), Some(Step::Deref(_)))
 }
 
+/// The locals that something depends on. What goes to a local that nothing reads is not read for it.
+fn read(all: &[&Statement]) -> HashSet<usize> {
+    let mut found = HashSet::from([0]);
+    loop {
+        let before = found.len();
+        for statement in all {
+            let target = target_of(statement);
+            let is_whole =
+                target.is_some_and(|target| target.steps.is_empty() && !found.contains(&target.local));
+            if is_whole && matches!(statement, Statement::Assign(..)) {
+                continue;
+            }
+            found.extend(places_read(statement).iter().map(|place| place.local));
+            found.extend(target.filter(|target| !target.steps.is_empty()).map(|target| target.local));
+        }
+        if found.len() == before {
+            return found;
+        }
+    }
+}
+
 impl<'a> Uses<'a> {
     pub fn of(function: &'a Function) -> Result<Uses<'a>> {
         let all = all_statements(&function.body);
-        let (mut read, mut assigned, mut addressed) = (HashSet::from([0]), HashSet::new(), HashSet::new());
+        let (mut assigned, mut addressed) = (HashSet::new(), HashSet::new());
         for statement in &all {
-            let read_here = places_read(statement);
-            for place in read_here.iter().copied().chain(target_of(statement)) {
+            for place in places_read(statement).into_iter().chain(target_of(statement)) {
                 ensure!(
                     place.local < function.locals.len(),
                     "{} has no local {}",
@@ -36,11 +58,7 @@ impl<'a> Uses<'a> {
                     place.local
                 );
             }
-            read.extend(read_here.iter().map(|place| place.local));
-            if let Some(target) = target_of(statement) {
-                assigned.insert(target.local);
-                read.extend(Some(target.local).filter(|_| !target.steps.is_empty()));
-            }
+            assigned.extend(target_of(statement).map(|target| target.local));
             if let Statement::Assign(_, Value::AddressOf(place)) = statement {
                 if !place.steps.iter().any(|step| matches!(step, Step::Deref(_))) {
                     addressed.insert(place.local);
@@ -50,13 +68,23 @@ impl<'a> Uses<'a> {
         let mut uses = Uses {
             function,
             locals: function.locals.clone(),
-            read,
+            read: read(&all),
             tables: HashMap::new(),
+            constants: HashMap::new(),
             assigned,
             addressed,
         };
         uses.settle_raw_pointers(&all)?;
         uses.find_tables(&all);
+        for local in &function.constants {
+            let made = uses.made_once(&all, *local);
+            let Some(Value::Use(constant)) =
+                made.filter(|value| !matches!(value, Value::Use(Operand::Copy(_))))
+            else {
+                refuse!("{}: a constant that is written, or no constant", function.symbol)
+            };
+            uses.constants.insert(*local, constant);
+        }
         Ok(uses)
     }
 
@@ -92,22 +120,28 @@ impl<'a> Uses<'a> {
         Ok(())
     }
 
-    fn find_tables(&mut self, all: &[&Statement]) {
+    fn find_tables(&mut self, all: &[&'a Statement]) {
         for local in self.function.parameters + 1..self.locals.len() {
             let Type::Array { .. } = self.locals[local] else { continue };
-            let writes: Vec<_> =
-                all.iter().filter(|s| target_of(s).is_some_and(|target| target.local == local)).collect();
-            let lent_mutably = all.iter().any(|s| match s {
-                Statement::Assign(target, Value::AddressOf(place)) if place.local == local => {
-                    !matches!(self.locals[target.local], Type::Reference { mutable: false, .. })
-                }
-                _ => false,
-            });
-            let [Statement::Assign(target, Value::Aggregate(parts))] = writes[..] else { continue };
-            let numbers: Option<Vec<u64>> = parts.iter().map(constant).collect();
-            if let (Some(numbers), true, false) = (numbers, target.steps.is_empty(), lent_mutably) {
-                self.tables.insert(local, numbers);
+            let Some(Value::Aggregate(parts)) = self.made_once(all, local) else { continue };
+            if parts.iter().all(|part| matches!(part, Operand::Int { .. })) {
+                self.tables.insert(local, parts);
             }
+        }
+    }
+
+    /// What goes to a local, if it is written once, whole, and lent only to be read.
+    fn made_once(&self, all: &[&'a Statement], local: usize) -> Option<&'a Value> {
+        let mut writes = all.iter().filter(|s| target_of(s).is_some_and(|target| target.local == local));
+        let lent_mutably = all.iter().any(|s| match s {
+            Statement::Assign(target, Value::AddressOf(place)) if place.local == local => {
+                !matches!(self.locals[target.local], Type::Reference { mutable: false, .. })
+            }
+            _ => false,
+        });
+        match (writes.next(), writes.next(), lent_mutably) {
+            (Some(Statement::Assign(target, value)), None, false) if target.steps.is_empty() => Some(value),
+            _ => None,
         }
     }
 }
@@ -125,13 +159,16 @@ impl RawPointers {
     fn note(&mut self, locals: &[Type], statement: &Statement) {
         for place in places_read(statement).into_iter().chain(target_of(statement)) {
             if let (Type::Raw, Some(Step::Deref(to))) = (&locals[place.local], place.steps.first()) {
-                self.pointees.entry(place.local).or_default().insert(to.clone());
+                self.pointees.entry(place.local).or_default().insert(to.pointed().clone());
             }
         }
         if let Some(target) = target_of(statement).filter(|target| starts_with_deref(target)) {
             self.written.insert(target.local);
         }
         let Statement::Assign(target, value) = statement else { return };
+        if let (Value::Aggregate(parts), []) = (value, &target.steps[..]) {
+            self.note_slice(&locals[target.local], parts, locals);
+        }
         let (Value::Use(Operand::Copy(source))
         | Value::Op(Op::Offset, Operand::Copy(source), _)
         | Value::AddressOf(source)) = value
@@ -150,6 +187,15 @@ impl RawPointers {
         }
     }
 
+    /// A slice that begins where a raw pointer points.
+    fn note_slice(&mut self, made: &Type, parts: &[Operand], locals: &[Type]) {
+        let (Type::Slice { mutable, of }, Some(Operand::Copy(begin))) = (made, parts.first()) else { return };
+        if locals[begin.local] == Type::Raw && begin.steps.is_empty() {
+            self.pointees.entry(begin.local).or_default().insert(of.pointed().clone());
+            self.written.extend(mutable.then_some(begin.local));
+        }
+    }
+
     /// What one points to, the one that it was made from does too; so it is with what is written.
     fn spread(&mut self) {
         for _ in 0..self.made_from.len() {
@@ -164,12 +210,5 @@ impl RawPointers {
                 }
             }
         }
-    }
-}
-
-fn constant(operand: &Operand) -> Option<u64> {
-    match operand {
-        Operand::Int { value, .. } => Some(*value),
-        _ => None,
     }
 }

@@ -1,7 +1,7 @@
 //! Places, operands and values in C, each typed again.
 
 use crate::emit::Writer;
-use crate::mir::{Op, Operand, Place, Step, Type, Value, BYTE, WORD};
+use crate::mir::{Declared, Op, Operand, Place, Step, Type, Value, BYTE, WORD};
 use crate::refused::{ensure, refuse, Result};
 use crate::types::Members;
 
@@ -21,6 +21,13 @@ impl Spot {
 
     pub fn value(&self) -> String {
         format!("{}{}", if self.pointer { "*" } else { "" }, self.text)
+    }
+
+    /// What a pointer that stands here points to; of an array, the elements.
+    fn followed(&self, to: &Type) -> Spot {
+        let is_array = matches!(to, Type::Array { .. });
+        let text = if self.pointer { format!("(*{})", self.text) } else { self.text.clone() };
+        Spot { text, pointer: !is_array, bare: is_array }
     }
 
     /// The elements of an array.
@@ -59,9 +66,10 @@ fn one_by_one(from: &Spot, length: u64) -> Vec<String> {
     (0..length).map(|k| format!("{}[{k}]", from.elements())).collect()
 }
 
+/// What a pointer points to in C: of an array, its first element.
 fn pointee(of: &Type) -> Option<&Type> {
     match of {
-        Type::Reference { to, .. } => Some(to),
+        Type::Reference { to, .. } => Some(to.pointed()),
         _ => None,
     }
 }
@@ -78,8 +86,11 @@ impl Writer<'_> {
         while let Some(step) = steps.next() {
             let (next, then) = match (step, &of) {
                 (Step::Deref(to), Type::Reference { to: found, .. }) => {
-                    ensure!(to == &**found, "a {found:?} followed as {to:?}");
-                    (Spot { text: spot.value(), pointer: true, bare: false }, to.clone())
+                    ensure!(
+                        to == &**found || to.pointed() == found.pointed(),
+                        "a {found:?} followed as {to:?}"
+                    );
+                    (spot.followed(to), to.clone())
                 }
                 (Step::Variant(k), Type::Named(symbol)) => {
                     let members = self.types.variant(symbol, *k)?;
@@ -139,7 +150,34 @@ impl Writer<'_> {
             }
             Operand::Bool(value) => Given::Constant(u8::from(*value).to_string(), Type::Bool),
             Operand::Unit => Given::Constant(String::new(), Type::Unit),
+            Operand::SizeOf(of) => Given::Constant(format!("(uint64_t){}", self.size_of(of)?), WORD),
+            Operand::Parts(of, _) => refuse!("a constant {of:?} that is not lent"),
         })
+    }
+
+    fn size_of(&self, of: &Type) -> Result<String> {
+        ensure!(!self.types.is_empty(of)?, "elements of nothing: {of:?}");
+        Ok(format!("sizeof({})", self.types.declaration(of, "")?.trim_end()))
+    }
+
+    /// A constant as C has it where it is declared.
+    pub fn initial(&self, constant: &Operand) -> Result<Given> {
+        let Operand::Parts(of, parts) = constant else { return self.operand(constant) };
+        if let Type::Array { length, of: element } = of {
+            let given = parts.iter().map(|part| self.initial(part)).collect::<Result<Vec<_>>>()?;
+            self.ensure_types(&given, &vec![(**element).clone(); *length as usize])?;
+            let all: Vec<_> = given.iter().map(Given::text).collect();
+            return Ok(Given::Constant(format!("{{{{{}}}}}", all.join(", ")), of.clone()));
+        }
+        let (named, _) = self.parts_by(parts, of, |part| self.initial(part))?;
+        let text = match &named[..] {
+            [(_, tag)] if !self.types.has_members(of)? => tag.text(),
+            _ => {
+                let one = |(name, given): &(String, Given)| format!(".{name} = {}", given.text());
+                format!("{{{}}}", named.iter().map(one).collect::<Vec<_>>().join(", "))
+            }
+        };
+        Ok(Given::Constant(text, of.clone()))
     }
 
     pub fn operands(&self, parts: &[Operand]) -> Result<Vec<Given>> {
@@ -148,6 +186,11 @@ impl Writer<'_> {
 
     /// A value that goes to a place of that type.
     pub fn value(&self, value: &Value, want: &Type) -> Result<String> {
+        if let (true, Value::AddressOf(place)) = (self.types.is_empty(want)?, value) {
+            let (_, of) = self.place(place)?;
+            ensure!(Some(of.pointed()) == pointee(want), "the address of a {of:?} as {want:?}");
+            return Ok(String::new());
+        }
         match value {
             Value::Use(from) => {
                 let given = self.operand(from)?;
@@ -177,13 +220,19 @@ impl Writer<'_> {
         }
     }
 
-    /// An array's address is that of its first element; the address of what a pointer points to is the
-    /// pointer.
+    /// An array's address is that of its first element, a struct's of one member that of the member, if that is
+    /// what is wanted; the address of what a pointer points to is the pointer.
     fn address(&self, place: &Place, want: &Type) -> Result<String> {
-        let (spot, of) = self.place(place)?;
+        let (mut spot, mut of) = self.place(place)?;
+        while let (Type::Named(symbol), false) = (&of, Some(&of) == pointee(want)) {
+            let Declared::Struct(_) = self.types.declared(symbol)? else { break };
+            let [(name, part)] = &self.types.members(&of)?[..] else { break };
+            (spot, of) = (self.member(&spot, &of, name, part), part.clone());
+        }
         match (&of, pointee(want)) {
             (Type::Array { of, .. }, Some(to)) if **of == *to => Ok(spot.elements()),
-            (Type::Int(_), Some(to)) if of == *to && spot.pointer => Ok(spot.text),
+            (_, Some(to)) if of == *to && spot.pointer => Ok(spot.text),
+            (_, Some(to)) if of == *to => Ok(format!("&{}", spot.text)),
             _ => refuse!("the address of a {of:?} as {want:?}"),
         }
     }
@@ -200,8 +249,8 @@ impl Writer<'_> {
             Op::Lt => "<",
             Op::Le => "<=",
             Op::Add | Op::WrapAdd => "+",
-            Op::Sub => "-",
-            Op::Mul => "*",
+            Op::Sub | Op::WrapSub => "-",
+            Op::Mul | Op::WrapMul => "*",
             Op::Div => "/",
             Op::Rem => "%",
             Op::And => "&",
@@ -219,8 +268,19 @@ impl Writer<'_> {
             }
             (Op::Eq | Op::Ne | Op::Lt | Op::Le, of) => refuse!("{op:?} of {of:?}"),
             (_, of) if of != want => refuse!("{op:?} of {of:?} where a {want:?} goes"),
-            // C wraps these around by the cast; a wider sum would wrap by itself, and look like a mistake.
-            (Op::WrapAdd, of) if !matches!(of, Type::Int(8 | 16)) => refuse!("{op:?} of {of:?}"),
+            // What wraps around is cut off a wider number, which does not; where there is none, it is told apart.
+            (Op::WrapAdd, Type::Int(64)) => {
+                Ok(format!("{x} > UINT64_MAX - {y} ? {x} - (UINT64_MAX - {y}) - 1u : {x} + {y}"))
+            }
+            (Op::WrapSub, Type::Int(64)) => {
+                Ok(format!("{x} < {y} ? {x} + (UINT64_MAX - {y}) + 1u : {x} - {y}"))
+            }
+            (Op::WrapMul, Type::Int(64)) => refuse!("{op:?} of {of:?}", of = a.of()),
+            (Op::WrapAdd | Op::WrapMul, Type::Int(32)) => Ok(format!("(uint32_t)((uint64_t){x} {sign} {y})")),
+            (Op::WrapSub, Type::Int(32)) => Ok(format!("(uint32_t)((UINT64_C(1) << 32) + {x} - {y})")),
+            (Op::WrapSub, Type::Int(width @ (8 | 16))) => {
+                Ok(format!("(uint{width}_t)({}u + {x} - {y})", 1u32 << width))
+            }
             (_, Type::Bool) if logical => Ok(format!("(_Bool)({x} {sign} {y})")),
             (_, Type::Int(64)) => Ok(format!("{x} {sign} {y}")),
             (_, Type::Int(32)) => Ok(format!("(uint32_t)({x} {sign} {y})")),
@@ -241,7 +301,7 @@ impl Writer<'_> {
         match to {
             Type::Int(8) => Ok(format!("{pointer} + (size_t){count}")),
             Type::Int(width) => Ok(format!("{pointer} + (size_t)({count} / {}u)", width / 8)),
-            _ => refuse!("an offset among {to:?}"),
+            _ => Ok(format!("{pointer} + (size_t)({count} / {})", self.size_of(to)?)),
         }
     }
 
@@ -255,8 +315,18 @@ impl Writer<'_> {
         Ok(())
     }
 
-    /// The members of a value that is made of its parts, by their names, and the members that it leaves at 0.
+    /// The members of a value that is made of its parts, by their names, and the members that it leaves at 0. Of
+    /// empty parts there is nothing.
     pub fn parts(&self, parts: &[Operand], want: &Type) -> Result<(Members<Given>, Members<Type>)> {
+        self.parts_by(parts, want, |part| self.operand(part))
+    }
+
+    fn parts_by(
+        &self,
+        parts: &[Operand],
+        want: &Type,
+        part: impl Fn(&Operand) -> Result<Given>,
+    ) -> Result<(Members<Given>, Members<Type>)> {
         let all = self.types.members(want)?;
         let made = match (want, parts.first()) {
             (Type::Named(symbol), tag) if self.types.is_enum(symbol)? => {
@@ -266,12 +336,14 @@ impl Writer<'_> {
                 let fields = self.types.variant(symbol, *value as usize)?;
                 [("tag".to_string(), BYTE)].into_iter().chain(fields).collect()
             }
+            (Type::Named(symbol), _) => self.types.fields(symbol)?,
             _ => all.clone(),
         };
-        let given = self.operands(parts)?;
+        let given = parts.iter().map(part).collect::<Result<Vec<_>>>()?;
         self.ensure_types(&given, &made.iter().map(|(_, of)| of.clone()).collect::<Vec<_>>())?;
-        let left = all.into_iter().filter(|member| !made.contains(member)).collect();
-        Ok((made.into_iter().map(|(name, _)| name).zip(given).collect(), left))
+        let left = all.iter().filter(|member| !made.contains(member)).cloned().collect();
+        let named = made.into_iter().zip(given).filter(|(member, _)| all.contains(member));
+        Ok((named.map(|((name, _), given)| (name, given)).collect(), left))
     }
 
     pub fn elements(&self, parts: &[Operand], want: &Type) -> Result<Vec<Given>> {
@@ -288,7 +360,7 @@ impl Writer<'_> {
         }
         let (named, _) = self.parts(parts, want)?;
         if !self.types.has_members(want)? {
-            return Ok(named[0].1.text());
+            return Ok(named.first().map_or(String::new(), |(_, tag)| tag.text()));
         }
         let mut members = Vec::new();
         for (name, given) in &named {

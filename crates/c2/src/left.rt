@@ -6,8 +6,7 @@ ghost use Rattle.c2_calls.specs.Family.{C2};
 
 use c2_calls::Remaining;
 use c2_outcome::outcome_of;
-use c2_record::Reached;
-use numbers::BAD_RECORD;
+use numbers::Refusal;
 
 // Tells the session's number and the most steps still to come. A record that holds no session in range has 6
 // and 0.
@@ -15,17 +14,15 @@ use numbers::BAD_RECORD;
 pub extern "C" fn c2_steps_left(held: &[u8]) -> Remaining
     ensures { result ≡ call_done C2 (asking held.now) }
 {
-    let Reached::At(point) = c2_record::point(held) else {
+    let Some(point) = c2_record::point(held) else {
         return Remaining {
-            number: BAD_RECORD,
+            number: Refusal::BadRecord.into(),
             steps: 0,
         };
     };
     let s = c2_record::session(held, point);
-    let reached = s.point;
-    let outcome = outcome_of(reached);
     Remaining {
-        number: outcome.number,
+        number: outcome_of(s.point).number,
         steps: c2_figure::steps_left(s) as u64,
     }
 }

@@ -7,7 +7,8 @@ ghost use Rattle.c2_target_state.specs.Model.{model_answer, model_flash};
 use c2_target_state::{ModelReplied, State};
 use settings::{Pairs, Settings};
 
-// The state of a fresh modelled target: all of its numbers are 0.
+// The state of a fresh modelled target: all of its numbers are 0. It was tried as a derived Default, whose proof didn't
+// close: another crate knows nothing of what that gives.
 #[unsafe(no_mangle)]
 pub extern "C" fn c2_target_fresh() -> State
     ensures { result ≡ state_of fresh }

@@ -15,7 +15,8 @@ pub const CLOSE_ACTS: u32 = 1;
 
 pub const REGISTER_ACTS: u32 = 2;
 
-// Acts of the lead: the Address Write of FPCTL, the three key writes, and the pause after them.
+// Acts have numbers and no enum: a session counts them, and `task_of` is stated of every number
+// (specs/Code/Acts.antt). Acts of the lead: the Address Write of FPCTL, the three key writes, and the pause after them.
 pub const LEAD_ADDRESS: u32 = 3;
 
 pub const FIRST_KEY: u32 = 4;
@@ -80,22 +81,13 @@ pub enum Task {
 fn lead_task(act: u32) -> Task
     ensures { result ≡ lead_task act }
 {
-    if act == 0 {
-        return Task::Reset;
+    match act {
+        0 | 2 => Task::Reset,
+        1 => Task::Ident,
+        LEAD_ADDRESS => Task::Address,
+        FIRST_KEY..LEAD_PAUSE => Task::Send,
+        _ => Task::Pause,
     }
-    if act == 1 {
-        return Task::Ident;
-    }
-    if act == 2 {
-        return Task::Reset;
-    }
-    if act == LEAD_ADDRESS {
-        return Task::Address;
-    }
-    if act < LEAD_PAUSE {
-        return Task::Send;
-    }
-    Task::Pause
 }
 
 // What an act of a put does: a put is two acts, the byte and then the poll.
@@ -103,9 +95,10 @@ fn put_task(act: u32) -> Task
     ensures { result ≡ put_task act }
 {
     if act % 2 == 1 {
-        return Task::Send;
+        Task::Send
+    } else {
+        Task::Input
     }
-    Task::Input
 }
 
 fn erase_task(act: u32) -> Task
@@ -114,70 +107,46 @@ fn erase_task(act: u32) -> Task
     if act == COMMAND_ADDRESS {
         return Task::Address;
     }
-    if act % 4 == 1 {
-        return Task::Send;
+    match act % 4 {
+        1 => Task::Send,
+        2 => Task::Input,
+        3 => Task::Output,
+        _ => Task::Status,
     }
-    if act % 4 == 2 {
-        return Task::Input;
-    }
-    if act % 4 == 3 {
-        return Task::Output;
-    }
-    Task::Status
 }
 
 fn write_task(act: u32) -> Task
     ensures { result ≡ write_task act }
 {
-    if act == COMMAND_ADDRESS {
-        return Task::Address;
+    match act {
+        COMMAND_ADDRESS => Task::Address,
+        COMMAND_READY | WRITE_READY => Task::Output,
+        COMMAND_STATUS => Task::Status,
+        0..WRITE_READY => put_task(act),
+        _ => Task::Status,
     }
-    if act == COMMAND_READY {
-        return Task::Output;
-    }
-    if act == COMMAND_STATUS {
-        return Task::Status;
-    }
-    if act < WRITE_READY {
-        return put_task(act);
-    }
-    if act == WRITE_READY {
-        return Task::Output;
-    }
-    Task::Status
 }
 
 fn read_task(act: u32) -> Task
     ensures { result ≡ read_task act }
 {
-    if act == COMMAND_ADDRESS {
-        return Task::Address;
+    match act {
+        COMMAND_ADDRESS => Task::Address,
+        COMMAND_READY => Task::Output,
+        COMMAND_STATUS | READ_STATUS => Task::Status,
+        0..BLOCK_BODY => put_task(act),
+        _ if act % 2 == 1 => Task::Output,
+        _ => Task::Compare,
     }
-    if act == COMMAND_READY {
-        return Task::Output;
-    }
-    if act == COMMAND_STATUS {
-        return Task::Status;
-    }
-    if act < BLOCK_BODY {
-        return put_task(act);
-    }
-    if act % 2 == 1 {
-        return Task::Output;
-    }
-    if act == READ_STATUS {
-        return Task::Status;
-    }
-    Task::Compare
 }
 
 fn register_task(act: u32) -> Task
     ensures { result ≡ register_task act }
 {
-    if act == PAIR_ADDRESS {
-        return Task::Address;
+    match act {
+        PAIR_ADDRESS => Task::Address,
+        _ => Task::Send,
     }
-    Task::Send
 }
 
 // What the act of a stage does.
@@ -201,8 +170,7 @@ pub fn acts_in(stage: Stage) -> u32
     match stage {
         Stage::Lead => LEAD_ACTS,
         Stage::Erase => ERASE_ACTS,
-        Stage::Write => BLOCK_ACTS,
-        Stage::Read => BLOCK_ACTS,
+        Stage::Write | Stage::Read => BLOCK_ACTS,
         Stage::Close => CLOSE_ACTS,
         Stage::Register => REGISTER_ACTS,
     }

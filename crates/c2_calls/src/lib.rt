@@ -2,6 +2,8 @@
 // calls are claims, in specs/ too, and laws.
 #![tactic(auto)]
 
+// All three are for C, which has no Result: a number, 0 where nothing is refused.
+
 // What an opening answers: its number, and the first step, 4, or 6 when refused.
 #[repr(C)]
 #[derive(Clone, Copy)]

@@ -4,12 +4,18 @@
 
 use c2_acts::{BLOCK_ACTS, ERASE_ACTS};
 use c2_session::Session;
-use c2_wire::{ADDRESS_STROBES, DATA_STROBES, READ_WAIT, WRITE_WAIT};
+use c2_wire::{ADDRESS_STROBES, DATA_STROBES};
 
 mod cost;
 mod left;
 
 pub use left::steps_left;
+
+// A session whose steps to come are counted.
+#[derive(Clone, Copy)]
+struct Figure {
+    session: Session,
+}
 
 // The strobes of the frames, and the limit of a poll, in the figure's width.
 const ADDRESS_FRAME: usize = ADDRESS_STROBES as usize;
@@ -17,11 +23,6 @@ const ADDRESS_FRAME: usize = ADDRESS_STROBES as usize;
 const DATA_FRAME: usize = DATA_STROBES as usize;
 
 const POLL_LIMIT: usize = Session::POLL_LIMIT as usize;
-
-// The strobe of the WAIT in a Data Write, and in a Data Read.
-const WRITES_WAIT: usize = WRITE_WAIT as usize;
-
-const READS_WAIT: usize = READ_WAIT as usize;
 
 // The strobes of a frame with data that are not its WAIT.
 const OTHER_STROBES: usize = DATA_FRAME - 1;

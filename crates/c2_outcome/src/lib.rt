@@ -7,52 +7,36 @@ ghost use Rattle.c2_outcome.specs.Outcome.{is_running, point_outcome};
 use c2_session::Point;
 use numbers::RUNNING;
 
-// The session's number, and the image offset for 14.
+// The session's number, and the image offset for 14. C has it so, and a point that has ended: a number, and 0 where it
+// goes without an offset.
 #[derive(Clone, Copy)]
 pub struct Outcome {
     pub number: u32,
     pub offset: u32,
 }
 
+impl From<Point> for Outcome {
+    ghost from_gives = { λ p o. o ≡ point_outcome p };
+
+    fn from(point: Point) -> Outcome {
+        match point {
+            Point::Running { .. } => Outcome {
+                number: RUNNING,
+                offset: 0,
+            },
+            Point::Ended { number, offset } => Outcome { number, offset },
+        }
+    }
+}
+
 pub fn is_running(point: Point) -> bool
     ensures { result ≡ is_running point }
 {
-    match point {
-        Point::Running {
-            stage: _,
-            page: _,
-            block: _,
-            act: _,
-            strobe: _,
-            count: _,
-            bits: _,
-        } => true,
-        Point::Ended {
-            number: _,
-            offset: _,
-        } => false,
-    }
+    matches!(point, Point::Running { .. })
 }
 
 pub fn outcome_of(point: Point) -> Outcome
     ensures { result ≡ point_outcome point }
 {
-    match point {
-        Point::Running {
-            stage: _,
-            page: _,
-            block: _,
-            act: _,
-            strobe: _,
-            count: _,
-            bits: _,
-        } => Outcome {
-            number: RUNNING,
-            offset: 0,
-        },
-        Point::Ended { number, offset } => Outcome {
-            number: number,
-            offset: offset,
-        },
-    }
+    point.into()
 }

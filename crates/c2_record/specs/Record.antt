@@ -1,6 +1,6 @@
 -- The record of a session, byte by byte (docs/RECORD.md), and the session of a record (document 01, "What the
 -- driver keeps over sleep").
-use Rattle.std.specs.Prelude.{Bool, true, false, cond, ◌&&◌, List, [], ◌∷◌, ℕ, ◌+◌, ◌*◌, ◌/◌, ◌%◌, eqb, get_or}
+use Rattle.std.specs.Prelude.{Bool, true, false, cond, ◌&&◌, List, [], ◌∷◌, ℕ, ◌+◌, ◌*◌, ◌/◌, ◌%◌, eqb, get_or, Option, Some, None}
 use Rattle.laws.specs.Bytes.{low}
 use Rattle.settings.specs.declared.Settings.{Settings}
 use Rattle.settings.specs.Registers.{pair_at}
@@ -11,8 +11,6 @@ use Rattle.c2_session.specs.declared.Point.TheVariants.{Running, Ended}
 use Rattle.c2_session.specs.declared.Session.{Session}
 use Rattle.c2_range.specs.Range.{in_range}
 use Rattle.c2_record.specs.declared.Fields.{Fields}
-use Rattle.c2_record.specs.declared.Reached.{Reached}
-use Rattle.c2_record.specs.declared.Reached.TheVariants.{At, Nowhere}
 
 -- the length of a record
 abbrev pub record_bytes : ℕ
@@ -99,23 +97,19 @@ fields_read r =
     }
 
 -- the stage of a number, if it has one
-pub data Named : Type 0 where
-  Of : Stage → Named
-  Nothing : Named
-
-unfoldable pub stage_named : ℕ → Named
+unfoldable pub stage_named : ℕ → Option Stage
 stage_named n =
-    cond (eqb n 0) (Of Lead)
-    (cond (eqb n 1) (Of Erase) (cond (eqb n 2) (Of Write) (cond (eqb n 3) (Of Read) (cond (eqb n 4) (Of Close) (cond (eqb n 5) (Of Register) Nothing)))))
+    cond (eqb n 0) (Some Lead)
+    (cond (eqb n 1) (Some Erase) (cond (eqb n 2) (Some Write) (cond (eqb n 3) (Some Read) (cond (eqb n 4) (Some Close) (cond (eqb n 5) (Some Register) None)))))
 
 -- the point of a running session that these fields tell, if they name a stage
-abbrev pub running_at : Named → Fields → Reached
-running_at (Of g) f = At (Running g f.page f.block f.act f.strobe f.count f.bits)
-running_at Nothing f = Nowhere
+abbrev pub running_at : Option Stage → Fields → Option Point
+running_at (Some g) f = Some (Running g f.page f.block f.act f.strobe f.count f.bits)
+running_at None f = None
 
 -- the point that these fields tell, if they tell one; with number 0 it is a running session's
-unfoldable pub point_of : Fields → Reached
-point_of f = cond (eqb f.number 0) (running_at (stage_named f.stage) f) (At (Ended f.number f.offset))
+unfoldable pub point_of : Fields → Option Point
+point_of f = cond (eqb f.number 0) (running_at (stage_named f.stage) f) (Some (Ended f.number f.offset))
 
 -- the session that any bytes say, with this point
 abbrev pub session_read : List ℕ → Point → Session
@@ -134,18 +128,18 @@ pub data Unpacked : Type 0 where
   Refused : Unpacked
 
 -- the point that the session of a record has reached, if it holds one
-abbrev pub reached_in : Unpacked → Reached
-reached_in (Held s) = At s.point
-reached_in Refused = Nowhere
+abbrev pub reached_in : Unpacked → Option Point
+reached_in (Held s) = Some s.point
+reached_in Refused = None
 
 -- the session that was read, if it is in range and these bytes are its record
 unfoldable pub checked : Session → List ℕ → Unpacked
 checked s r = cond (in_range s) (cond (same (packed s) r) (Held s) Refused) Refused
 
 -- the session at the point that was read, if there is a point
-abbrev pub taken_apart : Reached → List ℕ → Unpacked
-taken_apart (At p) r = checked (session_read r p) r
-taken_apart Nowhere r = Refused
+abbrev pub taken_apart : Option Point → List ℕ → Unpacked
+taken_apart (Some p) r = checked (session_read r p) r
+taken_apart None r = Refused
 
 -- The session that a record holds. specs/Claims.antt says of which records it is one: 32 bytes that are the
 -- packing of a session in range.

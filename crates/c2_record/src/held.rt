@@ -1,79 +1,65 @@
-// A record taken apart: the point that its session has reached, or nowhere.
-ghost use Rattle.std.specs.Prelude.{◌≡◌, length};
-ghost use Rattle.c2_order.specs.Conversation.{limits};
-ghost use Rattle.c2_record.specs.Record.{record_bytes, unpacked, reached_in};
+// A record taken apart: the point that its session has reached, or none.
+ghost use Rattle.std.specs.Prelude.{◌≡◌};
+ghost use Rattle.c2_order.specs.Conversation.{limits_of};
+ghost use Rattle.c2_record.specs.Record.{unpacked, reached_in};
 ghost use Rattle.c2_record.specs.Code.Holds.{is_session, running_holds, point_holds};
 
 use crate::read::{read_act, read_place, read_point, read_settings};
 use crate::spare::{spare, unused};
-use crate::words::{wide16, wide32, word32};
-use crate::{FIRST_PAGE, NUMBER, OFFSET, OFFSET_HIGH, PAGES, RECORD_BYTES, Reached, STAGE, STAGES};
+use crate::words::two_bytes;
+use crate::{FIRST_PAGE, NUMBER, OFFSET, OFFSET_HIGH, PAGES, RECORD_BYTES, STAGE, STAGES};
 use c2_range::{ended_in_range, opening_in_range, running_in_range};
-use c2_session::Session;
-use settings::image_bytes;
+use c2_session::{Point, Session};
+use settings::{Settings, image_bytes};
 
-fn running_holds(wait: u8, size: u32, pairs: u8, pages: u16, r: &[u8]) -> bool
-    requires { length r.now ≡ record_bytes }
-    ensures { result ≡ running_holds (limits wait 256) size pairs pages r.now }
+#[tactic(auto, using(laws::proofs::Pick::picks), unfolding(crate::specs::Code::Holds::running_holds))]
+fn running_holds(t: Settings, pages: u16, r: &[u8; RECORD_BYTES]) -> bool
+    ensures { result ≡ running_holds (limits_of t) t.size t.pairs.count pages r.now }
 {
-    if r[STAGE] < STAGES {
-        return running_in_range(
-            wait as u32,
+    r[STAGE] < STAGES
+        && running_in_range(
+            u32::from(t.wait),
             Session::POLL_LIMIT,
-            size,
-            pairs,
+            t.size,
+            t.pairs.count,
             pages,
             read_act(r),
             read_place(r),
-        );
-    }
-    false
+        )
 }
 
-// Whether the point is in range, of a session with so many pairs, over so many pages of this size.
-fn point_holds(wait: u8, size: u32, pairs: u8, pages: u16, r: &[u8]) -> bool
-    requires { length r.now ≡ record_bytes }
-    ensures { result ≡ point_holds (limits wait 256) size pairs pages r.now }
+// Whether the point is in range, of a session with these settings over so many pages.
+#[tactic(auto, using(laws::proofs::Pick::picks), unfolding(crate::specs::Code::Holds::point_holds))]
+fn point_holds(t: Settings, pages: u16, r: &[u8; RECORD_BYTES]) -> bool
+    ensures { result ≡ point_holds (limits_of t) t.size t.pairs.count pages r.now }
 {
     if r[NUMBER] == 0 {
-        return running_holds(wait, size, pairs, pages, r);
+        running_holds(t, pages, r)
+    } else {
+        ended_in_range(
+            image_bytes(t.size, pages),
+            u32::from(r[NUMBER]),
+            two_bytes(r[OFFSET], r[OFFSET_HIGH]),
+        )
     }
-    ended_in_range(
-        image_bytes(size, pages),
-        wide32(r[NUMBER]),
-        word32(r[OFFSET], r[OFFSET_HIGH]),
-    )
 }
 
 // Whether a record holds a session in range. Only its bytes are tested: no session is put together.
-fn holds(r: &[u8]) -> bool
+fn holds(r: &[u8; RECORD_BYTES]) -> bool
     ensures { result ≡ is_session (unpacked r.now) }
 {
-    if r.len() != RECORD_BYTES {
-        return false;
-    }
     let t = read_settings(r);
-    let pairs = t.pairs;
-    let pages = wide16(r[PAGES]);
-    if spare(r) {
-        if opening_in_range(t, wide16(r[FIRST_PAGE]), pages) {
-            if unused(r) {
-                return point_holds(t.wait, t.size, pairs.count, pages, r);
-            }
-        }
-    }
-    false
+    let pages = u16::from(r[PAGES]);
+    spare(r)
+        && opening_in_range(t, u16::from(r[FIRST_PAGE]), pages)
+        && unused(r)
+        && point_holds(t, pages, r)
 }
 
-// The point that the session of a record has reached, or nowhere: it holds no session in range.
-pub fn point(r: &[u8]) -> Reached
+// The point that the session of a record has reached, or none: it holds no session in range.
+pub fn point(r: &[u8]) -> Option<Point>
     ensures { result ≡ reached_in (unpacked r.now) }
 {
-    if r.len() != RECORD_BYTES {
-        return Reached::Nowhere;
-    }
-    if holds(r) {
-        return Reached::At(read_point(r));
-    }
-    Reached::Nowhere
+    let r = r.as_array()?;
+    if holds(r) { Some(read_point(r)) } else { None }
 }

@@ -2,8 +2,6 @@
 // point that is reached, and the session beside it.
 #![tactic(auto)]
 
-use c2_session::Point;
-
 mod held;
 mod read;
 mod spare;
@@ -77,15 +75,8 @@ const FOURTH_VALUE: usize = 27;
 // The byte of a stage is below this.
 const STAGES: u8 = 6;
 
-// What a record tells of its session: the point that it has reached, or that it holds none.
-#[derive(Clone, Copy)]
-pub enum Reached {
-    At(Point),
-    Nowhere,
-}
-
 // The numbers of a record that tell the point reached. Those not in use are 0.
-#[derive(Clone, Copy)]
+#[derive(Clone, Copy, Default)]
 struct Fields {
     number: u32,
     offset: u32,

@@ -1,10 +1,9 @@
 // What the bytes of a record say, whatever they are.
-ghost use Rattle.std.specs.Prelude.{◌≡◌, length};
-ghost use Rattle.c2_session.specs.Code.Next.{strobe_point};
-ghost use Rattle.c2_record.specs.Record.{record_bytes, settings_read};
+ghost use Rattle.std.specs.Prelude.{◌≡◌};
+ghost use Rattle.c2_record.specs.Record.{settings_read};
 ghost use Rattle.c2_record.specs.Code.Said.{stage_said, act_said, place_said, point_said, no_session, session_beside};
 
-use crate::words::{wide16, wide32, word32};
+use crate::words::two_bytes;
 use crate::{
     ACT, ACT_HIGH, BITS, BLOCK, COUNT, DEVICE_ID, FIRST_PAGE, FIRST_REGISTER, FIRST_VALUE,
     FOURTH_REGISTER, FOURTH_VALUE, FPDAT, NUMBER, OFFSET, OFFSET_HIGH, PAGE, PAGE_COUNT, PAGE_SIZE,
@@ -14,10 +13,10 @@ use crate::{
 use c2_acts::Stage;
 use c2_session::{At, Point, Session};
 use c2_wire::Place;
-use settings::{Pairs, Settings};
+use settings::{NO_PAIRS, Pairs, Settings};
 
-fn read_pairs(r: &[u8]) -> Pairs
-    requires { length r.now ≡ record_bytes }
+#[tactic(auto, unfolding(crate::specs::Record::settings_read))]
+fn read_pairs(r: &[u8; RECORD_BYTES]) -> Pairs
     ensures { result ≡ (settings_read r.now).pairs }
 {
     Pairs {
@@ -37,94 +36,90 @@ fn read_pairs(r: &[u8]) -> Pairs
     }
 }
 
-pub(crate) fn read_settings(r: &[u8]) -> Settings
-    requires { length r.now ≡ record_bytes }
+#[tactic(auto, unfolding(crate::specs::Record::settings_read))]
+pub(crate) fn read_settings(r: &[u8; RECORD_BYTES]) -> Settings
     ensures { result ≡ settings_read r.now }
 {
     Settings {
         id: r[DEVICE_ID],
         fpdat: r[FPDAT],
-        size: word32(r[PAGE_SIZE], r[PAGE_SIZE_HIGH]),
-        count: wide32(r[PAGE_COUNT]),
+        size: two_bytes(r[PAGE_SIZE], r[PAGE_SIZE_HIGH]),
+        count: u32::from(r[PAGE_COUNT]),
         wait: r[WAIT],
         pairs: read_pairs(r),
     }
 }
 
-// The stage of a byte; one that is no stage's says Register.
+// The stage of a byte; one that is no stage's says Register, so it is no TryFrom.
+#[tactic(auto, using(laws::proofs::Pick::picks), unfolding(crate::specs::Code::Said::stage_said))]
 fn read_stage(n: u8) -> Stage
     ensures { result ≡ stage_said n }
 {
-    if n == 0 {
-        return Stage::Lead;
+    match n {
+        0 => Stage::Lead,
+        1 => Stage::Erase,
+        2 => Stage::Write,
+        3 => Stage::Read,
+        4 => Stage::Close,
+        _ => Stage::Register,
     }
-    if n == 1 {
-        return Stage::Erase;
-    }
-    if n == 2 {
-        return Stage::Write;
-    }
-    if n == 3 {
-        return Stage::Read;
-    }
-    if n == 4 {
-        return Stage::Close;
-    }
-    Stage::Register
 }
 
-pub(crate) fn read_act(r: &[u8]) -> At
-    requires { length r.now ≡ record_bytes }
+pub(crate) fn read_act(r: &[u8; RECORD_BYTES]) -> At
     ensures { result ≡ act_said r.now }
 {
     At {
         stage: read_stage(r[STAGE]),
-        page: wide32(r[PAGE]),
-        block: wide32(r[BLOCK]),
-        act: word32(r[ACT], r[ACT_HIGH]),
+        page: u32::from(r[PAGE]),
+        block: u32::from(r[BLOCK]),
+        act: two_bytes(r[ACT], r[ACT_HIGH]),
     }
 }
 
-pub(crate) fn read_place(r: &[u8]) -> Place
-    requires { length r.now ≡ record_bytes }
+pub(crate) fn read_place(r: &[u8; RECORD_BYTES]) -> Place
     ensures { result ≡ place_said r.now }
 {
     Place {
-        strobe: wide32(r[STROBE]),
-        count: wide32(r[COUNT]),
-        bits: wide32(r[BITS]),
+        strobe: u32::from(r[STROBE]),
+        count: u32::from(r[COUNT]),
+        bits: u32::from(r[BITS]),
     }
 }
 
-fn running_at(at: At, place: Place) -> Point
-    ensures { result ≡ strobe_point at place }
-{
-    let stage = at.stage;
-    Point::Running {
-        stage: stage,
-        page: at.page,
-        block: at.block,
-        act: at.act,
-        strobe: place.strobe,
-        count: place.count,
-        bits: place.bits,
-    }
-}
-
-pub(crate) fn read_point(r: &[u8]) -> Point
-    requires { length r.now ≡ record_bytes }
+#[tactic(auto, using(laws::proofs::Pick::picks), unfolding(crate::specs::Code::Said::point_said))]
+pub(crate) fn read_point(r: &[u8; RECORD_BYTES]) -> Point
     ensures { result ≡ point_said r.now }
 {
     if r[NUMBER] == 0 {
-        return running_at(read_act(r), read_place(r));
-    }
-    Point::Ended {
-        number: wide32(r[NUMBER]),
-        offset: word32(r[OFFSET], r[OFFSET_HIGH]),
+        let At {
+            stage,
+            page,
+            block,
+            act,
+        } = read_act(r);
+        let Place {
+            strobe,
+            count,
+            bits,
+        } = read_place(r);
+        Point::Running {
+            stage,
+            page,
+            block,
+            act,
+            strobe,
+            count,
+            bits,
+        }
+    } else {
+        Point::Ended {
+            number: u32::from(r[NUMBER]),
+            offset: two_bytes(r[OFFSET], r[OFFSET_HIGH]),
+        }
     }
 }
 
-// What stands for a session where there are not the 32 bytes of one.
+// What stands for a session where there are not the 32 bytes of one: `session` never fails.
 fn no_session() -> Session
     ensures { result ≡ no_session }
 {
@@ -135,11 +130,7 @@ fn no_session() -> Session
             size: 0,
             count: 0,
             wait: 0,
-            pairs: Pairs {
-                count: 0,
-                registers: [0, 0, 0, 0],
-                values: [0, 0, 0, 0],
-            },
+            pairs: NO_PAIRS,
         },
         first: 0,
         pages: 0,
@@ -151,17 +142,17 @@ fn no_session() -> Session
 }
 
 // The session of 32 bytes beside its point, which was unpacked before.
+#[tactic(auto, using(laws::proofs::Pick::picks), unfolding(crate::specs::Code::Said::session_beside))]
 pub fn session(r: &[u8], point: Point) -> Session
     ensures { result ≡ session_beside point r.now }
 {
-    if r.len() != RECORD_BYTES {
+    let Some(r) = r.as_array() else {
         return no_session();
-    }
-    let settings = read_settings(r);
+    };
     Session {
-        settings: settings,
-        first: wide16(r[FIRST_PAGE]),
-        pages: wide16(r[PAGES]),
-        point: point,
+        settings: read_settings(r),
+        first: u16::from(r[FIRST_PAGE]),
+        pages: u16::from(r[PAGES]),
+        point,
     }
 }

@@ -1,38 +1,28 @@
-// Numbers of several bytes, lowest byte first.
+// The two bytes of a field, its low one first, and what is kept of a number in them.
 ghost use Rattle.std.specs.Prelude.{◌≡◌, ◌+◌, ◌*◌, ◌/◌, ◌%◌};
 
 pub(crate) fn low(x: u32) -> u8
     ensures { result ≡ x % 256 }
 {
-    (x % 256) as u8
+    x.to_le_bytes()[0]
 }
 
 pub(crate) fn high(x: u32) -> u8
     ensures { result ≡ x / 256 % 256 }
 {
-    (x / 256 % 256) as u8
+    x.to_le_bytes()[1]
 }
 
+// A byte as it is. What the bytes of a struct are is known where they are arguments: the contract says that none is
+// more than a byte.
 pub(crate) fn byte(x: u8) -> u8
     ensures { result ≡ x % 256 }
 {
     x
 }
 
-pub(crate) fn wide16(x: u8) -> u16
-    ensures { result ≡ x }
-{
-    x as u16
-}
-
-pub(crate) fn wide32(x: u8) -> u32
-    ensures { result ≡ x }
-{
-    x as u32
-}
-
-pub(crate) fn word32(l: u8, h: u8) -> u32
+pub(crate) fn two_bytes(l: u8, h: u8) -> u32
     ensures { result ≡ l + h * 256 }
 {
-    (l as u32) + (h as u32) * 256
+    u32::from(u16::from_le_bytes([l, h]))
 }

@@ -1,6 +1,6 @@
 // The record of a session.
-ghost use Rattle.std.specs.Prelude.{◌≡◌, length};
-ghost use Rattle.c2_record.specs.Record.{record_bytes, stage_code, fields_of, laid, packed};
+ghost use Rattle.std.specs.Prelude.{◌≡◌};
+ghost use Rattle.c2_record.specs.Record.{stage_code, fields_of, laid, packed};
 ghost use Rattle.c2_record.specs.Code.Put.{outcome_put, act_put, place_put, point_put};
 
 use crate::words::{byte, high, low};
@@ -10,73 +10,65 @@ use crate::{
 };
 use c2_acts::Stage;
 use c2_session::{Point, Session};
-use settings::Settings;
+use settings::{Pairs, Settings};
 
+// No From: the type is c2_acts's.
 fn stage_code(stage: Stage) -> u8
     ensures { result ≡ stage_code stage }
 {
-    match stage {
-        Stage::Lead => 0,
-        Stage::Erase => 1,
-        Stage::Write => 2,
-        Stage::Read => 3,
-        Stage::Close => 4,
-        Stage::Register => 5,
-    }
+    stage as u8
 }
 
-fn fields_of(point: Point) -> Fields
-    ensures { result ≡ fields_of point }
-{
-    match point {
-        Point::Running {
-            stage,
-            page,
-            block,
-            act,
-            strobe,
-            count,
-            bits,
-        } => Fields {
-            number: 0,
-            offset: 0,
-            stage: stage_code(stage),
-            page: page,
-            block: block,
-            act: act,
-            strobe: strobe,
-            count: count,
-            bits: bits,
-        },
-        Point::Ended { number, offset } => Fields {
-            number: number,
-            offset: offset,
-            stage: 0,
-            page: 0,
-            block: 0,
-            act: 0,
-            strobe: 0,
-            count: 0,
-            bits: 0,
-        },
+impl From<Point> for Fields {
+    ghost from_gives = { λ p f. f ≡ fields_of p };
+
+    fn from(point: Point) -> Fields {
+        match point {
+            Point::Running {
+                stage,
+                page,
+                block,
+                act,
+                strobe,
+                count,
+                bits,
+            } => Fields {
+                stage: stage_code(stage),
+                page,
+                block,
+                act,
+                strobe,
+                count,
+                bits,
+                ..Fields::default()
+            },
+            Point::Ended { number, offset } => Fields {
+                number,
+                offset,
+                ..Fields::default()
+            },
+        }
     }
 }
 
 // The 32 bytes of a record.
+#[tactic(auto, unfolding(crate::specs::Record::laid))]
 fn lay(t: Settings, first: u16, pages: u16, f: Fields) -> [u8; RECORD_BYTES]
     ensures { result ≡ laid t first pages f }
 {
-    let p = t.pairs;
-    let registers = p.registers;
-    let values = p.values;
+    let Pairs {
+        count,
+        registers,
+        values,
+    } = t.pairs;
     [
         byte(t.id),
         byte(t.fpdat),
         low(t.size),
         high(t.size),
         low(t.count),
-        low(first as u32),
-        low(pages as u32),
+        low(u32::from(first)),
+        low(u32::from(pages)),
         low(f.number),
         low(f.offset),
         high(f.offset),
@@ -89,7 +81,7 @@ fn lay(t: Settings, first: u16, pages: u16, f: Fields) -> [u8; RECORD_BYTES]
         low(f.count),
         low(f.bits),
         byte(t.wait),
-        byte(p.count),
+        byte(count),
         byte(registers[0]),
         byte(values[0]),
         byte(registers[1]),
@@ -106,17 +98,15 @@ fn lay(t: Settings, first: u16, pages: u16, f: Fields) -> [u8; RECORD_BYTES]
 }
 
 // The record of a session.
+#[tactic(auto, unfolding(crate::specs::Record::packed))]
 pub fn pack(s: Session) -> [u8; RECORD_BYTES]
     ensures { result ≡ packed s }
 {
-    let t = s.settings;
-    let point = s.point;
-    lay(t, s.first, s.pages, fields_of(point))
+    lay(s.settings, s.first, s.pages, s.point.into())
 }
 
 // The bytes of an outcome, 7 to 9, of an act, 10 to 14, and of a place, 15 to 17.
-fn put_outcome(f: Fields, r: &mut [u8])
-    requires { length r.old ≡ record_bytes }
+fn put_outcome(f: Fields, r: &mut [u8; RECORD_BYTES])
     ensures { r.new ≡ outcome_put f r.old }
 {
     r[NUMBER] = low(f.number);
@@ -124,19 +114,17 @@ fn put_outcome(f: Fields, r: &mut [u8])
     r[OFFSET_HIGH] = high(f.offset);
 }
 
-fn put_act(f: Fields, r: &mut [u8])
-    requires { length r.old ≡ record_bytes }
+fn put_act(f: Fields, r: &mut [u8; RECORD_BYTES])
     ensures { r.new ≡ act_put f r.old }
 {
-    r[STAGE] = low(f.stage as u32);
+    r[STAGE] = byte(f.stage);
     r[PAGE] = low(f.page);
     r[BLOCK] = low(f.block);
     r[ACT] = low(f.act);
     r[ACT_HIGH] = high(f.act);
 }
 
-fn put_place(f: Fields, r: &mut [u8])
-    requires { length r.old ≡ record_bytes }
+fn put_place(f: Fields, r: &mut [u8; RECORD_BYTES])
     ensures { r.new ≡ place_put f r.old }
 {
     r[STROBE] = low(f.strobe);
@@ -145,13 +133,14 @@ fn put_place(f: Fields, r: &mut [u8])
 }
 
 // Writes a point into a record, whose other bytes stay. What is not 32 bytes long stays whole.
+#[tactic(auto, using(crate::proofs::Laws::Put::put_none, crate::proofs::Laws::Put::put_fields))]
 pub fn put_point(point: Point, r: &mut [u8])
     ensures { r.new ≡ point_put point r.old }
 {
-    if r.len() != RECORD_BYTES {
+    let Some(r) = r.as_mut_array() else {
         return;
-    }
-    let f = fields_of(point);
+    };
+    let f = Fields::from(point);
     put_outcome(f, r);
     put_act(f, r);
     put_place(f, r);

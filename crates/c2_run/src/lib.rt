@@ -6,7 +6,7 @@ mod program;
 pub use program::c2_program;
 
 // The session's number and the image offset for 14, the replies that it took, and whether the target has
-// marked a collision.
+// marked a collision. C, which calls it too, has no Result: a refusal is its number.
 #[repr(C)]
 #[derive(Clone, Copy)]
 pub struct Run {

@@ -1,14 +1,13 @@
 // The byte that an act of the session sends or compares.
-ghost use Rattle.std.specs.Prelude.{◌≡◌, ◌+◌, ◌*◌, ◌%◌, ◌<◌};
-ghost use Rattle.c2_session.specs.Code.Bytes.{block_offset, page_number, high_byte, lead_byte, erase_byte, block_byte, image_byte, sent_offset, compared_offset, write_byte, register_byte, stage_byte};
+ghost use Rattle.std.specs.Prelude.{◌≡◌, cond, ◌+◌, ◌-◌, ◌*◌, ◌/◌, ◌%◌, ◌<◌, eqb};
+ghost use Rattle.c2_session.specs.Code.Bytes.{block_offset, page_number, high_byte, lead_byte, erase_byte, block_byte, image_byte, write_byte, register_byte, stage_byte};
 
 use crate::{At, Session};
 use c2_acts::{
-    BLOCK_BODY, COMMAND_ADDRESS, COMMAND_BYTE, COMMAND_PLACE, FIRST_COMPARE, FIRST_KEY,
-    LEAD_ADDRESS, PAIR_ADDRESS, SECOND_KEY, Stage,
+    BLOCK_BODY, COMMAND_ADDRESS, COMMAND_BYTE, COMMAND_PLACE, FIRST_KEY, LEAD_ADDRESS,
+    PAIR_ADDRESS, SECOND_KEY, Stage,
 };
 use c2_order::{BLOCK_READ, BLOCK_WRITE, FPCTL, KEY_1, KEY_2, KEY_3, PAGE_ERASE};
-use settings::Settings;
 
 // Where a page of this number begins, in the flash or in the image.
 fn page_offset(page: u32, size: u32) -> usize
@@ -19,27 +18,16 @@ fn page_offset(page: u32, size: u32) -> usize
     (page as usize) * (size as usize)
 }
 
-// The image offset of a block. The page is kept to 16 bits, so that the product fits a word.
-fn block_offset(t: Settings, at: At) -> usize
-    ensures value { result ≡ block_offset t at }
-    ensures upper_bound { result < 564049465049088 }
-{
-    page_offset(at.page % 65536, t.size) + (at.block as usize) * 256
-}
-
+#[tactic(auto, unfolding(crate::specs::Code::Bytes::lead_byte))]
 fn lead_byte(act: u32) -> u8
     ensures { result ≡ lead_byte act }
 {
-    if act == LEAD_ADDRESS {
-        return FPCTL;
+    match act {
+        LEAD_ADDRESS => FPCTL,
+        FIRST_KEY => KEY_1,
+        SECOND_KEY => KEY_2,
+        _ => KEY_3,
     }
-    if act == FIRST_KEY {
-        return KEY_1;
-    }
-    if act == SECOND_KEY {
-        return KEY_2;
-    }
-    KEY_3
 }
 
 // A byte of the image. Every call has tested the image's length: a missing byte, which would be 0, is not
@@ -47,10 +35,7 @@ fn lead_byte(act: u32) -> u8
 pub(crate) fn image_byte(image: &[u8], i: usize) -> u8
     ensures { result ≡ image_byte image.now i }
 {
-    if i < image.len() {
-        return image[i];
-    }
-    0
+    image.get(i).copied().unwrap_or(0)
 }
 
 impl Session {
@@ -59,101 +44,82 @@ impl Session {
         ensures value { result ≡ page_number self (page % 65536) }
         ensures upper_bound { result < 131072 }
     {
-        (self.first as u32) + page % 65536
+        u32::from(self.first) + page % 65536
     }
 
     // The high byte of the block's address in the flash.
     fn high_byte(self, at: At) -> u8
         ensures { result ≡ high_byte self at }
     {
-        let settings = self.settings;
-        let page = page_offset(self.page_number(at.page), settings.size);
+        let page = page_offset(self.page_number(at.page), self.settings.size);
         ((page + (at.block as usize) * 256) / 256 % 256) as u8
     }
 
+    // A byte of a command that is not the image's: after the command's own byte this one is put, a page or the high
+    // byte of an address. The low byte of an address and the length code are 0.
+    fn command_byte(self, at: At, command: u8, place: u8) -> u8
+        ensures { result ≡ cond (eqb at.act 0) self.settings.fpdat (cond (eqb at.act 1) command (cond (eqb at.act 5) place 0)) }
+    {
+        match at.act {
+            COMMAND_ADDRESS => self.settings.fpdat,
+            COMMAND_BYTE => command,
+            COMMAND_PLACE => place,
+            _ => 0,
+        }
+    }
+
+    #[tactic(auto, unfolding(crate::specs::Code::Bytes::erase_byte))]
     fn erase_byte(self, at: At) -> u8
         ensures { result ≡ erase_byte self at }
     {
-        let settings = self.settings;
-        if at.act == COMMAND_ADDRESS {
-            return settings.fpdat;
-        }
-        if at.act == COMMAND_BYTE {
-            return PAGE_ERASE;
-        }
-        if at.act == COMMAND_PLACE {
-            return (self.page_number(at.page) % 256) as u8;
-        }
-        0
+        self.command_byte(at, PAGE_ERASE, (self.page_number(at.page) % 256) as u8)
     }
 
-    // A byte of a block's command that is not the image's. The low byte of the address and the length code
-    // are 0.
+    #[tactic(auto, unfolding(crate::specs::Code::Bytes::block_byte))]
     fn block_byte(self, at: At, command: u8) -> u8
         ensures { result ≡ block_byte self at command }
     {
-        let settings = self.settings;
-        if at.act == COMMAND_ADDRESS {
-            return settings.fpdat;
-        }
-        if at.act == COMMAND_BYTE {
-            return command;
-        }
-        if at.act == COMMAND_PLACE {
-            return self.high_byte(at);
-        }
-        0
+        self.command_byte(at, command, self.high_byte(at))
     }
 
-    pub(crate) fn sent_offset(self, at: At) -> usize
-        ensures { result ≡ sent_offset self at }
+    // The image offset of the byte that an act of a block sends or compares, where the block's first byte is that of
+    // this act: each byte takes two acts. The page is kept to 16 bits, so that the product fits a word.
+    pub(crate) fn byte_offset(self, at: At, first: u32) -> usize
+        ensures { result ≡ block_offset self.settings at + (at.act - first) / 2 }
     {
-        let settings = self.settings;
-        if at.act < BLOCK_BODY {
-            return block_offset(settings, at);
-        }
-        block_offset(settings, at) + ((at.act - BLOCK_BODY) as usize) / 2
+        let block = page_offset(at.page % 65536, self.settings.size) + (at.block as usize) * 256;
+        block + (at.act.saturating_sub(first) as usize) / 2
     }
 
-    pub(crate) fn compared_offset(self, at: At) -> usize
-        ensures { result ≡ compared_offset self at }
-    {
-        let settings = self.settings;
-        if at.act < FIRST_COMPARE {
-            return block_offset(settings, at);
-        }
-        block_offset(settings, at) + ((at.act - FIRST_COMPARE) as usize) / 2
-    }
-
+    #[tactic(auto, unfolding(crate::specs::Code::Bytes::write_byte, crate::specs::Code::Bytes::sent_offset))]
     fn write_byte(self, at: At, image: &[u8]) -> u8
         ensures { result ≡ write_byte self at image.now }
     {
         if at.act < BLOCK_BODY {
-            return self.block_byte(at, BLOCK_WRITE);
+            self.block_byte(at, BLOCK_WRITE)
+        } else {
+            image_byte(image, self.byte_offset(at, BLOCK_BODY))
         }
-        image_byte(image, self.sent_offset(at))
     }
 
     // The byte that an act of a pair sends. The pair's number is kept below 4.
+    #[tactic(auto, unfolding(crate::specs::Code::Bytes::register_byte))]
     fn register_byte(self, at: At) -> u8
         ensures { result ≡ register_byte self at }
     {
-        let settings = self.settings;
-        let pairs = settings.pairs;
-        let registers = pairs.registers;
-        let values = pairs.values;
+        let pairs = self.settings.pairs;
         let i = (at.page % 4) as usize;
-        if at.act == PAIR_ADDRESS {
-            return registers[i];
+        match at.act {
+            PAIR_ADDRESS => pairs.registers[i],
+            _ => pairs.values[i],
         }
-        values[i]
     }
 
     // The byte that an act sends.
-    pub(crate) fn stage_byte(self, stage: Stage, at: At, image: &[u8]) -> u8
-        ensures { result ≡ stage_byte stage self at image.now }
+    pub(crate) fn stage_byte(self, at: At, image: &[u8]) -> u8
+        ensures { result ≡ stage_byte at.stage self at image.now }
     {
-        match stage {
+        match at.stage {
             Stage::Lead => lead_byte(at.act),
             Stage::Erase => self.erase_byte(at),
             Stage::Write => self.write_byte(at, image),

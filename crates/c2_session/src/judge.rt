@@ -1,12 +1,13 @@
 // What a reply makes of an act whose frame goes on, or is over: polls, status, ID and compare.
 ghost use Rattle.std.specs.Prelude.{◌≡◌, cond};
-ghost use Rattle.c2_session.specs.Code.Next.{way_point, end_point, next_act};
-ghost use Rattle.c2_session.specs.Code.Judge.{read_again, differs, compared, frame_judged, frame_answered};
+ghost use Rattle.c2_session.specs.Code.Bytes.{image_byte, compared_offset};
+ghost use Rattle.c2_session.specs.Code.Next.{next_act};
+ghost use Rattle.c2_session.specs.Code.Judge.{read_again, compared, frame_judged, frame_answered};
 
 use crate::bytes::image_byte;
 use crate::next::{end_point, end_with, strobe_point};
-use crate::{At, Session, Way};
-use c2_acts::Task;
+use crate::{At, Point, Session};
+use c2_acts::{FIRST_COMPARE, Task};
 use c2_order::OKAY;
 use c2_wire::{Moved, Place};
 use numbers::{BAD_STATUS, COMPARE_DIFFERS, OTHER_DEVICE, POLL_LIMIT_REACHED, WAIT_LIMIT_REACHED};
@@ -15,79 +16,63 @@ use numbers::{BAD_STATUS, COMPARE_DIFFERS, OTHER_DEVICE, POLL_LIMIT_REACHED, WAI
 const PASSED: u32 = OKAY as u32;
 
 // An unsatisfied read of a poll: the one that reaches the limit refuses.
-fn read_again(limit: u32, at: At, reads: u32) -> Way
-    ensures { way_point result ≡ read_again limit at reads }
+#[tactic(auto, unfolding(crate::specs::Code::Judge::read_again))]
+fn read_again(at: At, reads: u32) -> Point
+    ensures { result ≡ read_again 256 at reads }
 {
-    if limit <= reads {
-        return end_point(POLL_LIMIT_REACHED);
+    if reads < Session::POLL_LIMIT && reads + 1 < Session::POLL_LIMIT {
+        strobe_point(
+            at,
+            Place {
+                strobe: 0,
+                count: reads + 1,
+                bits: 0,
+            },
+        )
+    } else {
+        end_point(POLL_LIMIT_REACHED)
     }
-    if limit <= reads + 1 {
-        return end_point(POLL_LIMIT_REACHED);
-    }
-    strobe_point(
-        at,
-        Place {
-            strobe: 0,
-            count: reads + 1,
-            bits: 0,
-        },
-    )
 }
 
 impl Session {
-    fn differs(self, at: At) -> Way
-        ensures { way_point result ≡ differs self at }
+    // The point after an act that passes, or else this other one.
+    fn passed(self, passes: bool, at: At, otherwise: Point) -> Point
+        ensures { result ≡ cond passes (next_act self at) otherwise }
     {
-        end_with(
-            COMPARE_DIFFERS,
-            (self.compared_offset(at) % 4294967296) as u32,
+        if passes { self.next_act(at) } else { otherwise }
+    }
+
+    // The point after a byte read back.
+    #[tactic(auto, unfolding(crate::specs::Code::Judge::compared, crate::specs::Code::Judge::differs, crate::specs::Code::Bytes::compared_offset))]
+    fn compared(self, at: At, byte: u32, image: &[u8]) -> Point
+        ensures { result ≡ compared (image_byte image.now (compared_offset self at)) self at byte }
+    {
+        let offset = self.byte_offset(at, FIRST_COMPARE);
+        let passes = byte == u32::from(image_byte(image, offset));
+        self.passed(
+            passes,
+            at,
+            end_with(COMPARE_DIFFERS, (offset % 4294967296) as u32),
         )
     }
 
-    fn compared(self, wanted: u8, at: At, byte: u32) -> Way
-        ensures { way_point result ≡ compared wanted self at byte }
-    {
-        if byte == (wanted as u32) {
-            return self.next_act(at);
-        }
-        self.differs(at)
-    }
-
-    fn expects(self, passes: bool, number: u32, at: At) -> Way
-        ensures { way_point result ≡ cond passes (next_act self at) (end_point number) }
-    {
-        if passes {
-            return self.next_act(at);
-        }
-        end_point(number)
-    }
-
-    fn polled(self, passes: bool, at: At, reads: u32) -> Way
-        ensures { way_point result ≡ cond passes (next_act self at) (read_again 256 at reads) }
-    {
-        if passes {
-            return self.next_act(at);
-        }
-        read_again(Session::POLL_LIMIT, at, reads)
-    }
-
     // The point after the reply to a frame's STOP; the frame has given this byte.
-    fn frame_judged(self, task: Task, at: At, reads: u32, byte: u32, image: &[u8]) -> Way
-        ensures { way_point result ≡ frame_judged 256 task self at reads byte image.now }
+    fn frame_judged(self, task: Task, at: At, reads: u32, byte: u32, image: &[u8]) -> Point
+        ensures { result ≡ frame_judged 256 task self at reads byte image.now }
     {
-        let settings = self.settings;
         match task {
-            Task::Input => self.polled(byte / 2 % 2 == 0, at, reads),
-            Task::Output => self.polled(byte % 2 == 1, at, reads),
-            Task::Status => self.expects(byte == PASSED, BAD_STATUS, at),
-            Task::Compare => {
-                self.compared(image_byte(image, self.compared_offset(at)), at, byte)
+            Task::Input => self.passed(byte / 2 % 2 == 0, at, read_again(at, reads)),
+            Task::Output => self.passed(byte % 2 == 1, at, read_again(at, reads)),
+            Task::Status => self.passed(byte == PASSED, at, end_point(BAD_STATUS)),
+            Task::Ident => {
+                self.passed(
+                    byte == u32::from(self.settings.id),
+                    at,
+                    end_point(OTHER_DEVICE),
+                )
             }
-            Task::Ident => self.expects(byte == (settings.id as u32), OTHER_DEVICE, at),
-            Task::Reset => self.next_act(at),
-            Task::Pause => self.next_act(at),
-            Task::Address => self.next_act(at),
-            Task::Send => self.next_act(at),
+            Task::Compare => self.compared(at, byte, image),
+            Task::Reset | Task::Pause | Task::Address | Task::Send => self.next_act(at),
         }
     }
 
@@ -99,8 +84,8 @@ impl Session {
         at: At,
         reads: u32,
         image: &[u8],
-    ) -> Way
-        ensures { way_point result ≡ frame_answered 256 moved task self at reads image.now }
+    ) -> Point
+        ensures { result ≡ frame_answered 256 moved task self at reads image.now }
     {
         match moved {
             Moved::Within(next) => strobe_point(at, next),

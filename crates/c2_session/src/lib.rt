@@ -24,7 +24,9 @@ pub struct At {
 }
 
 // The point that a session has reached: an act, the strobe in its frame, the zeros seen in a WAIT or the
-// reads done in a poll, and the bits sampled so far; or the outcome, with the image offset for 14.
+// reads done in a poll, and the bits sampled so far; or the outcome, with the image offset for 14. The outcome is
+// a number and no enum: a record's bytes may hold any, and the laws of packing them speak of every number. The numbers
+// of a running point stand by themselves, as the record and the definition `position` have them.
 #[derive(Clone, Copy)]
 pub enum Point {
     Running {
@@ -40,23 +42,6 @@ pub enum Point {
         number: u32,
         offset: u32,
     },
-}
-
-// A point with all its numbers side by side, those that are not in use 0. What a reply leads to is told so, and
-// made a point at one place (`way_point`): points made at many places go through memory, a third of the
-// instructions of a strobe.
-#[derive(Clone, Copy)]
-struct Way {
-    ended: bool,
-    number: u32,
-    offset: u32,
-    stage: Stage,
-    page: u32,
-    block: u32,
-    act: u32,
-    strobe: u32,
-    count: u32,
-    bits: u32,
 }
 
 #[derive(Clone, Copy)]

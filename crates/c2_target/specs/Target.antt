@@ -1,7 +1,8 @@
 -- One step of the modelled target (document 01, "The modelled target"): strobes, the reset pulse, the wait of
 -- 20 ms, and the refusals.
-use Rattle.std.specs.Prelude.{Bool, true, false, not, cond, ◌&&◌, ◌||◌, List, ℕ, eqb, leb}
-use Rattle.numbers.specs.Numbers.{no_step, no_point, bad_pairs}
+use Rattle.std.specs.Prelude.{Bool, true, false, not, cond, ◌&&◌, ◌||◌, List, ℕ, eqb, leb, Result, Ok, Err}
+use Rattle.numbers.specs.declared.Refusal.{Refusal}
+use Rattle.numbers.specs.Numbers.{no_step, no_point, bad_pairs, refusal_number}
 use Rattle.c2_wire.specs.Bits.{bit}
 use Rattle.c2_wire.specs.Step.{Step, released, driven, reset, pause, off}
 use Rattle.settings.specs.Accepted.{settings_refusal}
@@ -11,7 +12,7 @@ use Rattle.c2_target.specs.declared.Output.TheVariants.{Empty}
 use Rattle.c2_target.specs.declared.Point.TheVariants.{Start}
 use Rattle.c2_target.specs.declared.Device.{Device}
 use Rattle.c2_target.specs.declared.Target.{Target}
-use Rattle.c2_target.specs.declared.Replied.{Replied}
+use Rattle.c2_target.specs.declared.Turned.{Turned}
 use Rattle.c2_target.specs.Delays.{Setup}
 use Rattle.c2_target.specs.Interface.{link, device, with_on, none_met}
 use Rattle.c2_target.specs.Strobes.{target, Turn, turn, strobed}
@@ -72,6 +73,17 @@ step_refusal u t f x =
     cond (eqb (setup_refusal u) 0)
     (cond (known u t f) (cond (is_step x) 0 no_step) no_point)
     (setup_refusal u)
+
+-- What a step gives back: a number, 0 where the step is accepted, the reply, and the target afterwards.
+pub record Replied : Type 0 where
+  pub number : ℕ
+  pub reply : ℕ
+  pub target : Target
+
+-- the same by what the code gives, which says of a refused step only why: it changes nothing and replies 1
+abbrev pub told : Target → Result Turned Refusal → Replied
+told t (Ok r) = record { number = 0; reply = bit r.reply; target = r.target }
+told t (Err e) = record { number = refusal_number e; reply = 1; target = t }
 
 -- What a step gives back by the number of its refusal (`answered`), and the flash afterwards (`flash_left`).
 -- A refused step changes nothing and replies 1.

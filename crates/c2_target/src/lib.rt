@@ -114,7 +114,8 @@ pub struct Link {
 }
 
 // Of each of the four pairs that the device may want, in their order: whether the last value written to its
-// register since the reset is the wanted one.
+// register since the reset is the wanted one. No array: to the definitions that is a list of any length, and each
+// would say besides that it has four.
 #[derive(Clone, Copy)]
 pub struct Met {
     pub first: bool,
@@ -143,10 +144,9 @@ pub struct Target {
     pub device: Device,
 }
 
-// What a step gives: a number, 0 where the step is accepted, the reply, and the target afterwards.
+// What an accepted step gives: the reply, a bit, and the target afterwards.
 #[derive(Clone, Copy)]
-pub struct Replied {
-    pub number: u32,
-    pub reply: u32,
+pub struct Turned {
+    pub reply: bool,
     pub target: Target,
 }

@@ -1,6 +1,6 @@
 -- The state of a target as C has it, plain numbers, and the target of a state. Numbers that are not in use
 -- are 0.
-use Rattle.std.specs.Prelude.{Bool, false, cond, ◌&&◌, ℕ, ◌%◌, eqb}
+use Rattle.std.specs.Prelude.{Bool, false, cond, ◌&&◌, ℕ, ◌%◌, eqb, Option, Some, None}
 use Rattle.laws.specs.Bytes.{low}
 use Rattle.c2_wire.specs.Bits.{bit}
 use Rattle.c2_target.specs.declared.Command.{Command}
@@ -19,8 +19,6 @@ use Rattle.c2_target_state.specs.declared.State.{State}
 use Rattle.c2_target_state.specs.declared.PointFields.{PointFields}
 use Rattle.c2_target_state.specs.declared.CommandFields.{CommandFields}
 use Rattle.c2_target_state.specs.declared.OutputFields.{OutputFields}
-use Rattle.c2_target_state.specs.declared.Seen.{Seen}
-use Rattle.c2_target_state.specs.declared.Seen.TheVariants as seen
 
 -- a number kept to two bytes
 abbrev pub word : ℕ → ℕ
@@ -36,11 +34,9 @@ effect_code CountDown = 3
 effect_code Read = 4
 
 unfoldable pub effect_byte : Effect → ℕ
-effect_byte Nothing = 0
 effect_byte (SetAddress a) = low a
 effect_byte (Write b) = low b
-effect_byte CountDown = 0
-effect_byte Read = 0
+effect_byte _ = 0
 
 -- the numbers of a point
 abbrev pub fields : (point heard value left zeros : ℕ) → Effect → PointFields
@@ -218,5 +214,5 @@ same_state a b = same_point a b && (same_device a b && (same_met a b && (same_co
 
 -- The target of which this is the state. A tag that does not exist, a truth value above 1 and a number that
 -- is not in use and not 0 make a state that is no target's.
-unfoldable pub target_of : State → Seen
-target_of s = cond (same_state (state_of (target_read s)) s) (seen.Held (target_read s)) seen.Nothing
+unfoldable pub target_of : State → Option Target
+target_of s = cond (same_state (state_of (target_read s)) s) (Some (target_read s)) None

@@ -1,99 +1,58 @@
 // The target that a state's numbers say.
-ghost use Rattle.std.specs.Prelude.{◌≡◌};
-ghost use Rattle.c2_target_state.specs.State.{effect_of, state_point, command_of, output_of, later_point, met_of, target_read};
+#![tactic(auto, using(std::proofs::lemmas::Bool::Decides::nat_tests), unfolding(crate::specs::State::effect_of, crate::specs::State::later_point, crate::specs::State::state_point, crate::specs::State::command_of, crate::specs::State::output_of, crate::specs::State::met_of, crate::specs::State::target_read))]
+
+ghost use Rattle.std.specs.Prelude.{◌≡◌, ok_or};
+ghost use Rattle.numbers.specs.declared.Refusal.TheVariants.{NoPoint};
+ghost use Rattle.c2_target_state.specs.State.{effect_of, state_point, command_of, output_of, met_of, target_read, target_of};
 
 use crate::State;
-use crate::fields::{wide, wide16};
+use crate::form::in_form;
 use c2_target::{Command, Device, Effect, Link, Met, Output, Point, Target};
+use numbers::Refusal;
 
 // What a frame does at its STOP, as the numbers of any state say it.
 fn effect_of(effect: u8, byte: u8) -> Effect
     ensures { result ≡ effect_of effect byte }
 {
-    if effect == 0 {
-        return Effect::Nothing;
+    match effect {
+        0 => Effect::Nothing,
+        1 => Effect::SetAddress(byte.into()),
+        2 => Effect::Write(byte.into()),
+        3 => Effect::CountDown,
+        _ => Effect::Read,
     }
-    if effect == 1 {
-        return Effect::SetAddress(wide(byte));
-    }
-    if effect == 2 {
-        return Effect::Write(wide(byte));
-    }
-    if effect == 3 {
-        return Effect::CountDown;
-    }
-    Effect::Read
-}
-
-// The point past the fields that are heard, as the numbers of any state say it.
-fn later_point(s: State) -> Point
-    ensures { result ≡ later_point s }
-{
-    let effect = effect_of(s.effect, s.byte);
-    if s.point == 6 {
-        return Point::LongData { left: wide(s.left) };
-    }
-    if s.point == 7 {
-        return Point::Wait {
-            left: wide(s.left),
-            effect: effect,
-        };
-    }
-    if s.point == 8 {
-        return Point::Waiting {
-            zeros: wide(s.zeros),
-            left: wide(s.left),
-            effect: effect,
-        };
-    }
-    if s.point == 9 {
-        return Point::Send {
-            left: wide(s.left),
-            value: wide(s.value),
-            effect: effect,
-        };
-    }
-    Point::Stop { effect: effect }
 }
 
 // The point that the numbers of any state say.
 fn point_of(s: State) -> Point
     ensures { result ≡ state_point s }
 {
-    if s.point == 0 {
-        return Point::Start;
+    let heard = usize::from(s.heard);
+    let value = usize::from(s.value);
+    let left = usize::from(s.left);
+    let zeros = usize::from(s.zeros);
+    let effect = effect_of(s.effect, s.byte);
+    match s.point {
+        0 => Point::Start,
+        1 => Point::Ins { heard, value },
+        2 => Point::WriteLength { heard, value },
+        3 => Point::ReadLength { heard, value },
+        4 => Point::Address { heard, value },
+        5 => Point::Data { heard, value },
+        6 => Point::LongData { left },
+        7 => Point::Wait { left, effect },
+        8 => Point::Waiting {
+            zeros,
+            left,
+            effect,
+        },
+        9 => Point::Send {
+            left,
+            value,
+            effect,
+        },
+        _ => Point::Stop { effect },
     }
-    if s.point == 1 {
-        return Point::Ins {
-            heard: wide(s.heard),
-            value: wide(s.value),
-        };
-    }
-    if s.point == 2 {
-        return Point::WriteLength {
-            heard: wide(s.heard),
-            value: wide(s.value),
-        };
-    }
-    if s.point == 3 {
-        return Point::ReadLength {
-            heard: wide(s.heard),
-            value: wide(s.value),
-        };
-    }
-    if s.point == 4 {
-        return Point::Address {
-            heard: wide(s.heard),
-            value: wide(s.value),
-        };
-    }
-    if s.point == 5 {
-        return Point::Data {
-            heard: wide(s.heard),
-            value: wide(s.value),
-        };
-    }
-    later_point(s)
 }
 
 // The command that the numbers of any state say.
@@ -101,38 +60,22 @@ fn command_of(s: State) -> Command
     ensures { result ≡ command_of s }
 {
     let write = s.write == 1;
-    if s.command == 0 {
-        return Command::Ready;
-    }
-    if s.command == 1 {
-        return Command::ErasePage;
-    }
-    if s.command == 2 {
-        return Command::EraseConfirm { page: wide(s.page) };
-    }
-    if s.command == 3 {
-        return Command::High { write: write };
-    }
-    if s.command == 4 {
-        return Command::Low {
-            write: write,
-            high: wide(s.high),
-        };
-    }
-    if s.command == 5 {
-        return Command::LengthCode {
-            write: write,
-            address: wide16(s.start),
-        };
-    }
-    if s.command == 6 {
-        return Command::Byte {
-            address: wide16(s.start),
-            left: wide16(s.rest),
-        };
-    }
-    Command::PastEnd {
-        left: wide16(s.rest),
+    let address = usize::from(s.start);
+    let left = usize::from(s.rest);
+    match s.command {
+        0 => Command::Ready,
+        1 => Command::ErasePage,
+        2 => Command::EraseConfirm {
+            page: s.page.into(),
+        },
+        3 => Command::High { write },
+        4 => Command::Low {
+            write,
+            high: s.high.into(),
+        },
+        5 => Command::LengthCode { write, address },
+        6 => Command::Byte { address, left },
+        _ => Command::PastEnd { left },
     }
 }
 
@@ -140,23 +83,14 @@ fn command_of(s: State) -> Command
 fn output_of(s: State) -> Output
     ensures { result ≡ output_of s }
 {
-    if s.output == 0 {
-        return Output::Empty;
-    }
-    if s.output == 1 {
-        return Output::Status {
-            passed: s.passed == 1,
-        };
-    }
-    if s.output == 2 {
-        return Output::StatusBlock {
-            address: wide16(s.next),
-            count: wide16(s.count),
-        };
-    }
-    Output::Block {
-        address: wide16(s.next),
-        count: wide16(s.count),
+    let passed = s.passed == 1;
+    let address = usize::from(s.next);
+    let count = usize::from(s.count);
+    match s.output {
+        0 => Output::Empty,
+        1 => Output::Status { passed },
+        2 => Output::StatusBlock { address, count },
+        _ => Output::Block { address, count },
     }
 }
 
@@ -173,26 +107,41 @@ fn met_of(s: State) -> Met
 }
 
 // The target that the numbers of any state say.
-pub(crate) fn target_read(s: State) -> Target
+fn target_read(s: State) -> Target
     ensures { result ≡ target_read s }
 {
     let link = Link {
         command: command_of(s),
         output: output_of(s),
-        busy: wide(s.busy),
-        late: wide(s.late),
+        busy: s.busy.into(),
+        late: s.late.into(),
     };
     let device = Device {
-        address: wide(s.address),
+        address: s.address.into(),
         on: s.on == 1,
-        keys: wide(s.keys),
+        keys: s.keys.into(),
         met: met_of(s),
-        link: link,
+        link,
     };
     Target {
         point: point_of(s),
         place: s.place as usize,
         collision: s.collision == 1,
-        device: device,
+        device,
+    }
+}
+
+// The target of which this is the state.
+impl TryFrom<State> for Target {
+    type Error = Refusal;
+
+    ghost try_from_gives = { λ s r. r ≡ ok_or (target_of s) NoPoint };
+
+    fn try_from(s: State) -> Result<Target, Refusal> {
+        if in_form(s) {
+            Ok(target_read(s))
+        } else {
+            Err(Refusal::NoPoint)
+        }
     }
 }

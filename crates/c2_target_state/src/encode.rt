@@ -1,9 +1,12 @@
 // The state of a target: its numbers, those that are not in use 0.
-ghost use Rattle.std.specs.Prelude.{◌≡◌};
-ghost use Rattle.c2_target_state.specs.Code.Inside.{point_moved};
-ghost use Rattle.c2_target_state.specs.State.{effect_code, effect_byte, fields, point_fields, command_fields, output_fields, command_numbers, output_numbers, state_with, state_of};
+#![tactic(auto, using(std::proofs::lemmas::Bool::Decides::nat_tests), unfolding(c2_wire::specs::Bits::bit, crate::specs::State::effect_code, crate::specs::State::effect_byte, crate::specs::State::point_fields, crate::specs::State::command_fields, crate::specs::State::output_fields, crate::specs::State::state_of, crate::specs::Code::Inside::point_moved))]
 
-use crate::fields::{flag, low, word};
+ghost use Rattle.std.specs.Prelude.{◌≡◌};
+ghost use Rattle.c2_target.specs.declared.Effect.TheVariants.{Nothing};
+ghost use Rattle.c2_target_state.specs.Code.Inside.{point_moved};
+ghost use Rattle.c2_target_state.specs.State.{effect_code, effect_byte, fields, point_fields, command_numbers, command_fields, output_fields, state_with, state_of};
+
+use crate::fields::{low, word};
 use crate::{CommandFields, OutputFields, PointFields, State};
 use c2_target::{Command, Effect, Output, Point, Target};
 
@@ -23,125 +26,159 @@ fn effect_byte(effect: Effect) -> u8
     ensures { result ≡ effect_byte effect }
 {
     match effect {
-        Effect::Nothing => 0,
-        Effect::SetAddress(address) => low(address),
-        Effect::Write(byte) => low(byte),
-        Effect::CountDown => 0,
-        Effect::Read => 0,
+        Effect::SetAddress(byte) | Effect::Write(byte) => low(byte),
+        _ => 0,
     }
 }
 
-fn fields(
-    point: u8,
-    heard: usize,
-    value: usize,
-    left: usize,
-    zeros: usize,
-    effect: Effect,
-) -> PointFields
-    ensures { result ≡ fields point heard value left zeros effect }
+// The numbers of a point at which bits of a field are heard.
+fn hearing(point: u8, heard: usize, value: usize) -> PointFields
+    ensures { result ≡ fields point heard value 0 0 Nothing }
 {
     PointFields {
-        point: point,
+        point,
         heard: low(heard),
         value: low(value),
-        left: low(left),
-        zeros: low(zeros),
+        ..PointFields::default()
+    }
+}
+
+// The numbers of a point that goes with what the frame does at its STOP.
+fn with_effect(point: u8, effect: Effect) -> PointFields
+    ensures { result ≡ fields point 0 0 0 0 effect }
+{
+    PointFields {
+        point,
         effect: effect_code(effect),
         byte: effect_byte(effect),
+        ..PointFields::default()
     }
 }
 
-fn point_fields(point: Point) -> PointFields
-    ensures { result ≡ point_fields point }
-{
-    match point {
-        Point::Start => fields(0, 0, 0, 0, 0, Effect::Nothing),
-        Point::Ins { heard, value } => fields(1, heard, value, 0, 0, Effect::Nothing),
-        Point::WriteLength { heard, value } => fields(2, heard, value, 0, 0, Effect::Nothing),
-        Point::ReadLength { heard, value } => fields(3, heard, value, 0, 0, Effect::Nothing),
-        Point::Address { heard, value } => fields(4, heard, value, 0, 0, Effect::Nothing),
-        Point::Data { heard, value } => fields(5, heard, value, 0, 0, Effect::Nothing),
-        Point::LongData { left } => fields(6, 0, 0, left, 0, Effect::Nothing),
-        Point::Wait { left, effect } => fields(7, 0, 0, left, 0, effect),
-        Point::Waiting {
-            zeros,
-            left,
-            effect,
-        } => fields(8, 0, 0, left, zeros, effect),
-        Point::Send {
-            left,
-            value,
-            effect,
-        } => fields(9, 0, value, left, 0, effect),
-        Point::Stop { effect } => fields(10, 0, 0, 0, 0, effect),
+impl From<Point> for PointFields {
+    ghost from_gives = { λ p f. f ≡ point_fields p };
+
+    fn from(point: Point) -> PointFields {
+        match point {
+            Point::Start => PointFields::default(),
+            Point::Ins { heard, value } => hearing(1, heard, value),
+            Point::WriteLength { heard, value } => hearing(2, heard, value),
+            Point::ReadLength { heard, value } => hearing(3, heard, value),
+            Point::Address { heard, value } => hearing(4, heard, value),
+            Point::Data { heard, value } => hearing(5, heard, value),
+            Point::LongData { left } => PointFields {
+                left: low(left),
+                ..with_effect(6, Effect::Nothing)
+            },
+            Point::Wait { left, effect } => PointFields {
+                left: low(left),
+                ..with_effect(7, effect)
+            },
+            Point::Waiting {
+                zeros,
+                left,
+                effect,
+            } => PointFields {
+                zeros: low(zeros),
+                left: low(left),
+                ..with_effect(8, effect)
+            },
+            Point::Send {
+                left,
+                value,
+                effect,
+            } => PointFields {
+                left: low(left),
+                value: low(value),
+                ..with_effect(9, effect)
+            },
+            Point::Stop { effect } => with_effect(10, effect),
+        }
     }
 }
 
-fn command_numbers(
-    command: u8,
-    write: bool,
-    page: usize,
-    high: usize,
-    start: usize,
-    rest: usize,
-) -> CommandFields
-    ensures { result ≡ command_numbers command write page high start rest }
+// The numbers of a command for a block.
+fn of_block(command: u8, write: bool) -> CommandFields
+    ensures { result ≡ command_numbers command write 0 0 0 0 }
 {
     CommandFields {
-        command: command,
-        write: flag(write),
-        page: low(page),
-        high: low(high),
-        start: word(start),
-        rest: word(rest),
+        command,
+        write: write.into(),
+        ..CommandFields::default()
     }
 }
 
-fn command_fields(command: Command) -> CommandFields
-    ensures { result ≡ command_fields command }
-{
-    match command {
-        Command::Ready => command_numbers(0, false, 0, 0, 0, 0),
-        Command::ErasePage => command_numbers(1, false, 0, 0, 0, 0),
-        Command::EraseConfirm { page } => command_numbers(2, false, page, 0, 0, 0),
-        Command::High { write } => command_numbers(3, write, 0, 0, 0, 0),
-        Command::Low { write, high } => command_numbers(4, write, 0, high, 0, 0),
-        Command::LengthCode { write, address } => command_numbers(5, write, 0, 0, address, 0),
-        Command::Byte { address, left } => command_numbers(6, false, 0, 0, address, left),
-        Command::PastEnd { left } => command_numbers(7, false, 0, 0, 0, left),
+impl From<Command> for CommandFields {
+    ghost from_gives = { λ c f. f ≡ command_fields c };
+
+    fn from(command: Command) -> CommandFields {
+        let none = CommandFields::default();
+        match command {
+            Command::Ready => none,
+            Command::ErasePage => CommandFields { command: 1, ..none },
+            Command::EraseConfirm { page } => CommandFields {
+                command: 2,
+                page: low(page),
+                ..none
+            },
+            Command::High { write } => of_block(3, write),
+            Command::Low { write, high } => CommandFields {
+                high: low(high),
+                ..of_block(4, write)
+            },
+            Command::LengthCode { write, address } => CommandFields {
+                start: word(address),
+                ..of_block(5, write)
+            },
+            Command::Byte { address, left } => CommandFields {
+                command: 6,
+                start: word(address),
+                rest: word(left),
+                ..none
+            },
+            Command::PastEnd { left } => CommandFields {
+                command: 7,
+                rest: word(left),
+                ..none
+            },
+        }
     }
 }
 
-fn output_numbers(output: u8, passed: bool, next: usize, count: usize) -> OutputFields
-    ensures { result ≡ output_numbers output passed next count }
-{
-    OutputFields {
-        output: output,
-        passed: flag(passed),
-        next: word(next),
-        count: word(count),
+impl From<Output> for OutputFields {
+    ghost from_gives = { λ o f. f ≡ output_fields o };
+
+    fn from(output: Output) -> OutputFields {
+        let none = OutputFields::default();
+        match output {
+            Output::Empty => none,
+            Output::Status { passed } => OutputFields {
+                output: 1,
+                passed: passed.into(),
+                ..none
+            },
+            Output::StatusBlock { address, count } => OutputFields {
+                output: 2,
+                next: word(address),
+                count: word(count),
+                ..none
+            },
+            Output::Block { address, count } => OutputFields {
+                output: 3,
+                next: word(address),
+                count: word(count),
+                ..none
+            },
+        }
     }
 }
 
-fn output_fields(output: Output) -> OutputFields
-    ensures { result ≡ output_fields output }
-{
-    match output {
-        Output::Empty => output_numbers(0, false, 0, 0),
-        Output::Status { passed } => output_numbers(1, passed, 0, 0),
-        Output::StatusBlock { address, count } => output_numbers(2, false, address, count),
-        Output::Block { address, count } => output_numbers(3, false, address, count),
-    }
-}
-
-// The state of a target whose point, command and output have these numbers.
+// The state of a target whose point, command and output have these numbers: C has all of them side by side.
 fn state_with(target: Target, p: PointFields, c: CommandFields, o: OutputFields) -> State
     ensures { result ≡ state_with target p c o }
 {
     let device = target.device;
     let met = device.met;
-    let link = device.link;
     State {
         place: target.place as u64,
         start: c.start,
@@ -155,54 +192,46 @@ fn state_with(target: Target, p: PointFields, c: CommandFields, o: OutputFields)
         zeros: p.zeros,
         effect: p.effect,
         byte: p.byte,
-        collision: flag(target.collision),
+        collision: target.collision.into(),
         address: low(device.address),
-        on: flag(device.on),
+        on: device.on.into(),
         keys: low(device.keys),
-        met1: flag(met.first),
-        met2: flag(met.second),
-        met3: flag(met.third),
-        met4: flag(met.fourth),
+        met1: met.first.into(),
+        met2: met.second.into(),
+        met3: met.third.into(),
+        met4: met.fourth.into(),
         command: c.command,
         write: c.write,
         page: c.page,
         high: c.high,
         output: o.output,
         passed: o.passed,
-        busy: low(link.busy),
-        late: low(link.late),
+        busy: low(device.link.busy),
+        late: low(device.link.late),
     }
 }
 
-// The state of a target.
-pub(crate) fn state_of(target: Target) -> State
-    ensures { result ≡ state_of target }
-{
-    let device = target.device;
-    let link = device.link;
-    let point = target.point;
-    let command = link.command;
-    let output = link.output;
-    state_with(
-        target,
-        point_fields(point),
-        command_fields(command),
-        output_fields(output),
-    )
+impl From<Target> for State {
+    ghost from_gives = { λ t s. s ≡ state_of t };
+
+    fn from(target: Target) -> State {
+        let link = target.device.link;
+        state_with(
+            target,
+            target.point.into(),
+            link.command.into(),
+            link.output.into(),
+        )
+    }
 }
 
 // The state of a target that has the device of this state's.
 pub(crate) fn point_moved(s: State, target: Target) -> State
     ensures { result ≡ point_moved s target }
 {
-    let point = target.point;
-    let p = point_fields(point);
+    let p = PointFields::from(target.point);
     State {
         place: target.place as u64,
-        start: s.start,
-        rest: s.rest,
-        next: s.next,
-        count: s.count,
         point: p.point,
         heard: p.heard,
         value: p.value,
@@ -210,21 +239,7 @@ pub(crate) fn point_moved(s: State, target: Target) -> State
         zeros: p.zeros,
         effect: p.effect,
         byte: p.byte,
-        collision: flag(target.collision),
-        address: s.address,
-        on: s.on,
-        keys: s.keys,
-        met1: s.met1,
-        met2: s.met2,
-        met3: s.met3,
-        met4: s.met4,
-        command: s.command,
-        write: s.write,
-        page: s.page,
-        high: s.high,
-        output: s.output,
-        passed: s.passed,
-        busy: s.busy,
-        late: s.late,
+        collision: target.collision.into(),
+        ..s
     }
 }

@@ -1,7 +1,8 @@
 // The numbers of a state, each in its field.
 ghost use Rattle.std.specs.Prelude.{◌≡◌, ◌%◌};
-ghost use Rattle.c2_wire.specs.Bits.{bit};
 
+// A cast loses nothing here, so what is over goes by the remainder. One function for both sizes is no plainer: it
+// needs a trait for two lines.
 pub(crate) fn low(x: usize) -> u8
     ensures { result ≡ x % 256 }
 {
@@ -12,25 +13,4 @@ pub(crate) fn word(x: usize) -> u16
     ensures { result ≡ x % 65536 }
 {
     (x % 65536) as u16
-}
-
-pub(crate) fn flag(one: bool) -> u8
-    ensures { result ≡ bit one }
-{
-    if one {
-        return 1;
-    }
-    0
-}
-
-pub(crate) fn wide(x: u8) -> usize
-    ensures { result ≡ x }
-{
-    x as usize
-}
-
-pub(crate) fn wide16(x: u16) -> usize
-    ensures { result ≡ x }
-{
-    x as usize
 }

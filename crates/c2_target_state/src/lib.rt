@@ -2,8 +2,6 @@
 // else is kept between steps.
 #![tactic(auto)]
 
-use c2_target::Target;
-
 mod decode;
 mod encode;
 mod fields;
@@ -12,7 +10,8 @@ mod model;
 
 pub use model::step;
 
-// The state of a target between two steps. Numbers that are not in use are 0.
+// The state of a target between two steps. Numbers that are not in use are 0. This is the C interface, so kinds and
+// truth values are numbers here, each in a field of its own.
 #[repr(C)]
 #[derive(Clone, Copy)]
 pub struct State {
@@ -66,7 +65,8 @@ pub struct State {
     pub late: u8,
 }
 
-// What a step gives: a number, 0 where the step is accepted, the reply, and the state afterwards.
+// What a step gives: a number, 0 where the step is accepted, the reply, and the state afterwards. C, whose interface
+// this is, has no Result.
 #[repr(C)]
 #[derive(Clone, Copy)]
 pub struct ModelReplied {
@@ -75,15 +75,8 @@ pub struct ModelReplied {
     pub target: State,
 }
 
-// What a state holds: a target, or nothing that is one.
-#[derive(Clone, Copy)]
-pub enum Seen {
-    Held(Target),
-    Nothing,
-}
-
 // The numbers of a point (`PointFields`), of a command (`CommandFields`) and of the output (`OutputFields`).
-#[derive(Clone, Copy)]
+#[derive(Clone, Copy, Default)]
 struct PointFields {
     point: u8,
     heard: u8,
@@ -94,7 +87,7 @@ struct PointFields {
     byte: u8,
 }
 
-#[derive(Clone, Copy)]
+#[derive(Clone, Copy, Default)]
 struct CommandFields {
     command: u8,
     write: u8,
@@ -104,7 +97,7 @@ struct CommandFields {
     rest: u16,
 }
 
-#[derive(Clone, Copy)]
+#[derive(Clone, Copy, Default)]
 struct OutputFields {
     output: u8,
     passed: u8,

@@ -1,26 +1,22 @@
 // The loop of a run: a session and a target, step by step.
-ghost use Rattle.std.specs.Prelude.{◌≡◌, ◌%◌};
+#![tactic(auto, using(std::proofs::lemmas::Bool::Decides::nat_tests), unfolding(c2_target::specs::Target::fresh))]
+
+ghost use Rattle.std.specs.Prelude.{◌≡◌, IfOk, OnErr};
+ghost use Rattle.numbers.specs.Numbers.{number_of};
 ghost use Rattle.c2_acts.specs.declared.Stage.TheVariants.{Lead};
 ghost use Rattle.c2_session.specs.declared.Point.TheVariants.{Running};
-ghost use Rattle.settings.specs.Registers.{no_pairs};
 ghost use Rattle.c2_target.specs.Target.{fresh};
-ghost use Rattle.c2_target_step.specs.Code.Closed.{first_refusal, closed_run};
+ghost use Rattle.c2_target_step.specs.Code.Closed.{stops_at, from_start, first_refusal, closed_run};
 
-use crate::Ran;
-use crate::same::same_target;
 use crate::steps::{cleared, refusal, stepped};
+use crate::{Lent, Ran};
 use c2_acts::Stage;
 use c2_outcome::is_running;
 use c2_session::{Session, set_off};
 use c2_target::Target;
 use c2_wire::RESET;
-use settings::{Pairs, Settings};
-
-fn low(x: u32) -> u8
-    ensures { result ≡ x % 256 }
-{
-    (x % 256) as u8
-}
+use numbers::Refusal;
+use settings::{NO_PAIRS, Settings};
 
 // A target before its first step.
 fn fresh() -> Target
@@ -31,17 +27,6 @@ fn fresh() -> Target
         place: 0,
         collision: false,
         device: cleared(),
-    }
-}
-
-// What the target wants: no pairs.
-fn no_pairs() -> Pairs
-    ensures { result ≡ no_pairs }
-{
-    Pairs {
-        count: 0,
-        registers: [0, 0, 0, 0],
-        values: [0, 0, 0, 0],
     }
 }
 
@@ -71,46 +56,37 @@ pub fn play(
     flash: &mut [u8],
     delays: &[u8],
     budget: usize,
-) -> Ran
-    ensures number_value { result.number ≡ first_refusal t flash.old }
-    ensures point_value { result.point ≡ (closed_run budget t start delays.now image.now flash.old).session.point }
-    ensures replies_value { result.replies ≡ (closed_run budget t start delays.now image.now flash.old).replies }
-    ensures collision_value { result.collision ≡ (closed_run budget t start delays.now image.now flash.old).target.collision }
+) -> Result<Ran, Refusal>
+    ensures number_value { number_of result ≡ first_refusal t flash.old }
+    ensures point_value { IfOk result (λ r. r.point ≡ (closed_run budget t start delays.now image.now flash.old).session.point) }
+    ensures replies_value { IfOk result (λ r. r.replies ≡ (closed_run budget t start delays.now image.now flash.old).replies) }
+    ensures collision_value { IfOk result (λ r. r.collision ≡ (closed_run budget t start delays.now image.now flash.old).target.collision) }
+    ensures refused { OnErr result (closed_run budget t start delays.now image.now flash.old ≡ stops_at 0 (from_start start) fresh flash.old) }
     ensures flash_after { flash.new ≡ (closed_run budget t start delays.now image.now flash.old).flash }
 {
-    let number = refusal(t, no_pairs(), fresh(), flash, RESET);
-    if number != 0 {
-        return Ran {
-            number: number,
-            point: first_point(),
-            replies: 0,
-            collision: false,
-        };
-    }
+    let u = Lent {
+        t,
+        wanted: NO_PAIRS,
+        delays,
+    };
+    refusal(t, u.wanted, fresh(), flash, RESET)?;
     let mut r = set_off(first_point());
     let mut target = fresh();
-    let mut n = 0;
-    while n < budget {
-        let point = r.point;
-        if !is_running(point) {
-            return Ran {
-                number: 0,
-                point: point,
+    for n in 0..budget {
+        if !is_running(r.point) {
+            return Ok(Ran {
+                point: r.point,
                 replies: n,
                 collision: target.collision,
-            };
+            });
         }
-        let replied = stepped(t, no_pairs(), target, flash, delays, r.step());
-        let after = replied.target;
-        target = same_target(after);
-        r = r.advance(start, low(replied.reply), image);
-        n += 1;
+        let turned = stepped(u, target, flash, r.step());
+        target = turned.target;
+        r = r.advance(start, u8::from(turned.reply), image);
     }
-    let end = r.point;
-    Ran {
-        number: 0,
-        point: end,
-        replies: n,
+    Ok(Ran {
+        point: r.point,
+        replies: budget,
         collision: target.collision,
-    }
+    })
 }

@@ -1,18 +1,22 @@
 // One step: strobes, the reset pulse, the wait of 20 ms, and the refusals.
+#![tactic(auto, using(std::proofs::lemmas::Bool::Decides::nat_tests), unfolding(c2_target::specs::Target::cleared, c2_target::specs::Target::after_reset, c2_target::specs::Target::after_pause, c2_target::specs::Target::is_step, c2_target::specs::Target::step_coded, c2_target::specs::Target::step_refusal, c2_target::specs::Target::answer, c2_target::specs::Target::flash_after, c2_wire::specs::Bits::bit))]
+
 ghost use Rattle.std.specs.Prelude.{◌≡◌, true, List, [], ℕ};
+ghost use Rattle.numbers.specs.Numbers.{number_of};
 ghost use Rattle.c2_target.specs.Delays.{setup};
 ghost use Rattle.c2_target.specs.Strobes.{target};
 ghost use Rattle.c2_target.specs.Known.{known};
-ghost use Rattle.c2_target.specs.Target.{cleared, after_reset, after_pause, stepped, is_step, step_coded, step_refusal, answer, flash_after};
-ghost use Rattle.c2_target_step.specs.Code.Parts.{replying, turn_replied, still};
+ghost use Rattle.c2_target.specs.Target.{cleared, after_reset, after_pause, stepped, is_step, step_coded, step_refusal, told, answer, flash_after};
+ghost use Rattle.c2_target_step.specs.Code.Parts.{lent, turn_replied, still};
 
+use crate::Lent;
 use crate::interface::idle;
 use crate::strobes::{strobe_writes, strobed};
-use c2_target::{Command, Device, Link, Met, Output, Replied, Target};
+use c2_target::{Command, Device, Link, Met, Output, Target, Turned};
 use c2_target_known::known;
 use c2_target_wanted::setup_refusal;
 use c2_wire::{OFF, PAUSE, RESET};
-use numbers::{NO_POINT, NO_STEP};
+use numbers::Refusal;
 use settings::{Pairs, Settings};
 
 // The target after step 4, which keeps flash, mark and delay place.
@@ -26,25 +30,11 @@ fn after_reset(y: Target) -> Target
 fn after_pause(y: Target) -> Target
     ensures { result ≡ after_pause y }
 {
-    let point = y.point;
-    let device = y.device;
-    let met = device.met;
-    let link = device.link;
-    if device.keys == 3 {
-        return Target {
-            point: point,
-            place: y.place,
-            collision: y.collision,
-            device: Device {
-                address: device.address,
-                on: true,
-                keys: device.keys,
-                met: met,
-                link: link,
-            },
-        };
+    let on = y.device.keys == 3 || y.device.on;
+    Target {
+        device: Device { on, ..y.device },
+        ..y
     }
-    y
 }
 
 // The device after a reset: address 0, interface off, no command, output, d or e, and no key write
@@ -74,73 +64,60 @@ pub(crate) fn cleared() -> Device
 fn is_step(x: u8) -> bool
     ensures { result ≡ is_step x }
 {
-    if x <= OFF {
-        return x != 1;
-    }
-    false
+    x <= OFF && x != 1
 }
 
-// The number by which a step is refused, or 0: settings and wanted pairs, then the state, then the step.
-pub(crate) fn refusal(t: Settings, wanted: Pairs, target: Target, flash: &[u8], x: u8) -> u32
-    ensures { (ds : List ℕ) → result ≡ step_refusal (setup t wanted ds) target flash.now x }
-{
-    let number = setup_refusal(t, wanted);
-    if number != 0 {
-        return number;
-    }
-    if known(t, target, flash) {
-        if is_step(x) {
-            return 0;
-        }
-        return NO_STEP;
-    }
-    NO_POINT
-}
-
-// What an accepted step 4, 5 or 6 gives: the reply is 1.
-fn accepted(target: Target) -> Replied
-    ensures { result ≡ replying 1 target }
-{
-    Replied {
-        number: 0,
-        reply: 1,
-        target: target,
-    }
-}
-
-// What step 4, 5 or 6 gives.
-fn still(target: Target, x: u8) -> Replied
-    ensures { result ≡ still target x }
-{
-    if x == RESET {
-        return accepted(after_reset(target));
-    }
-    if x == PAUSE {
-        return accepted(after_pause(target));
-    }
-    accepted(target)
-}
-
-// One step that is not refused, of a target in a state that exists.
-pub(crate) fn stepped(
+// Why a step is refused: settings and wanted pairs, then the state, then the step.
+pub(crate) fn refusal(
     t: Settings,
     wanted: Pairs,
     target: Target,
-    flash: &mut [u8],
-    delays: &[u8],
+    flash: &[u8],
     x: u8,
-) -> Replied
-    requires flash_value { known (setup t wanted []) target flash.old ≡ true }
+) -> Result<(), Refusal>
+    ensures { (ds : List ℕ) → number_of result ≡ step_refusal (setup t wanted ds) target flash.now x }
+{
+    setup_refusal(t, wanted)?;
+    if !known(t, target, flash) {
+        Err(Refusal::NoPoint)
+    } else if !is_step(x) {
+        Err(Refusal::NoStep)
+    } else {
+        Ok(())
+    }
+}
+
+// What step 4, 5 or 6 gives: the reply is 1.
+fn still(target: Target, x: u8) -> Turned
+    ensures { result ≡ still target x }
+{
+    let target = match x {
+        RESET => after_reset(target),
+        PAUSE => after_pause(target),
+        _ => target,
+    };
+    Turned {
+        reply: true,
+        target,
+    }
+}
+
+// One step that is not refused, of a target in a state that exists. Here and below that is asked for beside the
+// target: it is a fact of the settings and the flash too, which is lent apart.
+#[tactic(auto, using(std::proofs::lemmas::Bool::Decides::nat_tests, crate::proofs::Laws::Flash::strobed_flash), unfolding(c2_target::specs::Target::stepped, c2_target::specs::Target::step_coded, c2_target::specs::Target::is_step, c2_target::specs::Known::known))]
+pub(crate) fn stepped(u: Lent, target: Target, flash: &mut [u8], x: u8) -> Turned
+    requires flash_value { known (lent u) target flash.old ≡ true }
     requires x_value { is_step x ≡ true }
-    ensures value { result ≡ turn_replied (stepped (setup t wanted delays.now) target flash.old (step_coded x)) }
-    ensures flash_after { flash.new ≡ (stepped (setup t wanted delays.now) target flash.old (step_coded x)).flash }
+    ensures value { result ≡ turn_replied (stepped (lent u.entry) target flash.old (step_coded x)) }
+    ensures flash_after { flash.new ≡ (stepped (lent u.entry) target flash.old (step_coded x)).flash }
 {
     if x < RESET {
-        let replied = strobed(target, t, wanted, flash, delays, x);
-        strobe_writes(t, target, flash);
-        return replied;
+        let turned = strobed(target, u, flash, x);
+        strobe_writes(u.t, target, flash);
+        turned
+    } else {
+        still(target, x)
     }
-    still(target, x)
 }
 
 // One step of the target: what it gives back, and the flash afterwards. A refused step changes nothing and
@@ -152,17 +129,11 @@ pub fn step(
     flash: &mut [u8],
     delays: &[u8],
     x: u8,
-) -> Replied
-    ensures value { result ≡ answer (setup t wanted delays.now) target flash.old x }
+) -> Result<Turned, Refusal>
+    ensures value { told target result ≡ answer (setup t wanted delays.now) target flash.old x }
     ensures flash_after { flash.new ≡ flash_after (setup t wanted delays.now) target flash.old x }
 {
-    let number = refusal(t, wanted, target, flash, x);
-    if number != 0 {
-        return Replied {
-            number: number,
-            reply: 1,
-            target: target,
-        };
-    }
-    stepped(t, wanted, target, flash, delays, x)
+    refusal(t, wanted, target, flash, x)?;
+    let u = Lent { t, wanted, delays };
+    Ok(stepped(u, target, flash, x))
 }

@@ -1,28 +1,27 @@
 // What the modelled target is lent, settings and the pairs that its device wants: whether they are accepted,
 // which pairs are met, and whether the device is prepared.
-#![tactic(auto)]
+#![tactic(auto, using(std::proofs::lemmas::Bool::Decides::nat_tests), unfolding(c2_target::specs::Target::setup_refusal, c2_target::specs::Interface::met_written, c2_target::specs::Interface::prepared))]
 
-ghost use Rattle.std.specs.Prelude.{◌≡◌, true, cond, ◌&&◌, List, ℕ, eqb};
+ghost use Rattle.std.specs.Prelude.{◌≡◌, cond, ◌&&◌, List, ℕ, eqb};
+ghost use Rattle.numbers.specs.Numbers.{number_of};
 ghost use Rattle.c2_target.specs.Delays.{setup};
 ghost use Rattle.c2_target.specs.Interface.{met_written, prepared};
 ghost use Rattle.c2_target.specs.Target.{setup_refusal};
 
 use c2_target::Met;
-use numbers::BAD_PAIRS;
+use numbers::Refusal;
 use settings::{Pairs, Settings, are_pairs};
 
-// The number by which settings and wanted pairs are refused, or 0: the settings first.
-pub fn setup_refusal(t: Settings, wanted: Pairs) -> u32
-    ensures { (ds : List ℕ) → result ≡ setup_refusal (setup t wanted ds) }
+// Why settings and wanted pairs are refused: the settings first.
+pub fn setup_refusal(t: Settings, wanted: Pairs) -> Result<(), Refusal>
+    ensures { (ds : List ℕ) → number_of result ≡ setup_refusal (setup t wanted ds) }
 {
-    let number = settings::refusal(t);
-    if number != 0 {
-        return number;
-    }
+    settings::refusal(t)?;
     if are_pairs(t.fpdat, wanted) {
-        return 0;
+        Ok(())
+    } else {
+        Err(Refusal::BadPairs)
     }
-    BAD_PAIRS
 }
 
 // Whether a pair is met after a Data Write: if it is wanted and the address is its register, the byte must be
@@ -37,15 +36,14 @@ fn met_after(
 ) -> bool
     ensures { result ≡ cond (wanted && eqb address register) (eqb byte value) before }
 {
-    if wanted {
-        if address == (register as usize) {
-            return byte == (value as usize);
-        }
+    if wanted && address == usize::from(register) {
+        byte == usize::from(value)
+    } else {
+        before
     }
-    before
 }
 
-// Which pairs are met after a Data Write of a byte at an address.
+// Which pairs are met after a Data Write of a byte at an address. Four lines for four pairs, as `Met` names them.
 pub fn met_written(wanted: Pairs, address: usize, byte: usize, met: Met) -> Met
     ensures { result ≡ met_written wanted address byte met }
 {
@@ -74,26 +72,13 @@ pub fn met_written(wanted: Pairs, address: usize, byte: usize, met: Met) -> Met
     }
 }
 
-fn if_wanted(wanted: bool, met: bool) -> bool
-    ensures { result ≡ cond wanted met true }
-{
-    if wanted {
-        return met;
-    }
-    true
-}
-
 // Whether every pair that the device wants is met.
 pub fn prepared(wanted: Pairs, met: Met) -> bool
     ensures { result ≡ prepared wanted met }
 {
     let count = wanted.count;
-    if if_wanted(0 < count, met.first) {
-        if if_wanted(1 < count, met.second) {
-            if if_wanted(2 < count, met.third) {
-                return if_wanted(3 < count, met.fourth);
-            }
-        }
-    }
-    false
+    (count == 0 || met.first)
+        && (count <= 1 || met.second)
+        && (count <= 2 || met.third)
+        && (count <= 3 || met.fourth)
 }

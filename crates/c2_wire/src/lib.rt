@@ -10,7 +10,7 @@ pub use replies::follow;
 pub use script::{script_after, script_from, script_of, step};
 
 // Steps on the wire: C2D released, driven low or driven high in a strobe, the reset pulse, the wait of 20 ms,
-// and both drivers off.
+// and both drivers off. They are numbers and no enum: C is given a step as this byte, and a script has it as a code.
 pub const RELEASED: u8 = 0;
 
 pub const LOW: u8 = 2;

@@ -3,7 +3,7 @@
 //
 //     awk 'BEGIN { for (k = 0; k < 2048; k++) {
 //         printf "\\x0%d%s", 2 + int(k % 256 / 2 ^ int(k / 256)) % 2, k % 16 == 15 ? "\\\n" : "" } }'
-ghost use Rattle.std.specs.Prelude.{◌≡◌, [], ◌∷◌, ◌≤◌, length};
+ghost use Rattle.std.specs.Prelude.{◌≡◌, [], ◌∷◌, ◌≤◌};
 ghost use Rattle.c2_wire.specs.Code.Script.{code_word, driven_codes, table_codes};
 
 // The steps of one bit stand together, and not the eight of a byte: the compiler builds a constant array on
@@ -139,19 +139,20 @@ const DRIVEN: [u8; 2048] = *b"\
     \x03\x03\x03\x03\x03\x03\x03\x03\x03\x03\x03\x03\x03\x03\x03\x03";
 
 // Two codes as a quarter of a word.
+#[tactic(auto, unfolding(crate::specs::Code::Script::code_word))]
 fn two(c0: u8, c1: u8) -> u64
     ensures value { result ≡ code_word (c0 ∷ c1 ∷ []) }
     ensures upper_bound { result ≤ 4335 }
 {
-    c0 as u64 + c1 as u64 * 16
+    u64::from(c0) + u64::from(c1) * 16
 }
 
 // The eight codes that a table has for a byte, as one word.
-fn word(table: &[u8], byte: u8) -> u64
-    requires { length table.now ≡ 2048 }
+#[tactic(auto, using(crate::proofs::Laws::Table::pairs))]
+fn word(table: &[u8; 2048], byte: u8) -> u64
     ensures { result ≡ code_word (table_codes table.now byte) }
 {
-    let a = byte as usize;
+    let a = usize::from(byte);
     let low = two(table[a], table[a + 256]) + two(table[a + 512], table[a + 768]) * 256;
     let high = two(table[a + 1024], table[a + 1280]) + two(table[a + 1536], table[a + 1792]) * 256;
     low + high * 65536

@@ -6,26 +6,21 @@ ghost use Rattle.std.specs.Prelude.{◌≡◌, not, ℕ, ◌/◌, ◌^◌, eqb};
 ghost use Rattle.c2_wire.specs.Frames.{frame};
 ghost use Rattle.c2_wire.specs.Place.{place, step_at, followed};
 ghost use Rattle.c2_wire.specs.Code.Script.{code_word, frame_codes, kept};
-ghost use Rattle.c2_wire.specs.declared.Moved.TheVariants.{Within};
 ghost use Rattle.c2_wire_probe.specs.Probe.{frame_of, moved_numbers};
 
 use c2_wire::{Frame, Moved, Place};
 
 // The frame of an INS code, which is taken modulo 4.
+#[tactic(auto, unfolding(crate::specs::Probe::frame_of))]
 fn frame_of(ins: u8) -> Frame
     ensures { result ≡ frame_of ins }
 {
-    let code = ins % 4;
-    if code == 0 {
-        return Frame::DataRead;
+    match ins % 4 {
+        0 => Frame::DataRead,
+        1 => Frame::DataWrite,
+        2 => Frame::AddressRead,
+        _ => Frame::AddressWrite,
     }
-    if code == 1 {
-        return Frame::DataWrite;
-    }
-    if code == 2 {
-        return Frame::AddressRead;
-    }
-    Frame::AddressWrite
 }
 
 // `Moved` as numbers, for callers in other languages: 0 another place, 1 the byte sampled, 2 the limit of the
@@ -39,34 +34,36 @@ pub struct Followed {
     pub bits: u32,
 }
 
-fn within(place: Place) -> Followed
-    ensures { result ≡ moved_numbers (Within place) }
-{
-    Followed {
-        kind: 0,
-        strobe: place.strobe,
-        count: place.count,
-        bits: place.bits,
-    }
-}
+impl From<Moved> for Followed {
+    ghost from_gives = { λ m f. f ≡ moved_numbers m };
 
-fn numbers_of(moved: Moved) -> Followed
-    ensures { result ≡ moved_numbers moved }
-{
-    match moved {
-        Moved::Within(place) => within(place),
-        Moved::Stopped(bits) => Followed {
-            kind: 1,
-            strobe: 0,
-            count: 0,
-            bits: bits,
-        },
-        Moved::WaitLimit => Followed {
-            kind: 2,
-            strobe: 0,
-            count: 0,
-            bits: 0,
-        },
+    fn from(moved: Moved) -> Followed {
+        match moved {
+            Moved::Within(
+                Place {
+                    strobe,
+                    count,
+                    bits,
+                },
+            ) => Followed {
+                kind: 0,
+                strobe,
+                count,
+                bits,
+            },
+            Moved::Stopped(bits) => Followed {
+                kind: 1,
+                strobe: 0,
+                count: 0,
+                bits,
+            },
+            Moved::WaitLimit => Followed {
+                kind: 2,
+                strobe: 0,
+                count: 0,
+                bits: 0,
+            },
+        }
     }
 }
 
@@ -97,12 +94,9 @@ pub extern "C" fn wire_follow(
     ensures { (byte : ℕ) → result ≡ moved_numbers (followed limit (frame (frame_of ins) byte) (place strobe count bits) (not (eqb reply 0))) }
 {
     let place = Place {
-        strobe: strobe,
-        count: count,
-        bits: bits,
+        strobe,
+        count,
+        bits,
     };
-    if reply == 0 {
-        return numbers_of(c2_wire::follow(script_at(ins, 0, strobe), place, false, limit));
-    }
-    numbers_of(c2_wire::follow(script_at(ins, 0, strobe), place, true, limit))
+    c2_wire::follow(script_at(ins, 0, strobe), place, reply != 0, limit).into()
 }

@@ -1,33 +1,23 @@
 // The tests of a page size and of two dumps' lengths.
-ghost use Rattle.std.specs.Prelude.{◌≡◌, cond, ◌<◌};
-ghost use Rattle.numbers.specs.Numbers.{bad_dumps};
-ghost use Rattle.dump_ranges.specs.Answers.{are_dumps, dump_refusal};
+#![tactic(auto, using(std::proofs::lemmas::Bool::Decides::nat_tests), unfolding(settings::specs::Accepted::is_page_size, dump_ranges::specs::Answers::are_dumps, dump_ranges::specs::Answers::dump_refusal))]
 
-use numbers::{BAD_DUMPS, BAD_PAGE_SIZE};
+ghost use Rattle.std.specs.Prelude.{◌≡◌, length, IfOk};
+ghost use Rattle.numbers.specs.Numbers.{number_of};
+ghost use Rattle.dump_ranges.specs.Answers.{dump_refusal};
 
-// The test of two lengths, for a page size that was accepted.
-fn length_refusal(size: usize, a: usize, b: usize) -> u32
-    requires { 0 < size }
-    ensures { result ≡ cond (are_dumps size a b) 0 bad_dumps }
+use crate::dumps::Dumps;
+use numbers::Refusal;
+
+// The two dumps as they are compared, or why they are refused, tested in this order.
+pub(crate) fn accepted<'a>(size: u32, a: &'a [u8], b: &'a [u8]) -> Result<Dumps<'a>, Refusal>
+    ensures refusal { number_of result ≡ dump_refusal size (length a.now) (length b.now) }
+    ensures dumps { IfOk result (λ dumps. (dumps.a.now ≡ a.now) × (dumps.b.now ≡ b.now)) }
 {
-    if a != b {
-        return BAD_DUMPS;
+    if size != 512 && size != 1024 {
+        return Err(Refusal::BadPageSize);
     }
-    if a % size != 0 {
-        return BAD_DUMPS;
+    if a.len() != b.len() || a.len() % (size as usize) != 0 {
+        return Err(Refusal::BadDumps);
     }
-    0
-}
-
-// The number by which two dumps of these lengths are refused, or 0.
-pub(crate) fn dump_refusal(size: u32, a: usize, b: usize) -> u32
-    ensures { result ≡ dump_refusal size a b }
-{
-    if size == 512 {
-        return length_refusal(512, a, b);
-    }
-    if size == 1024 {
-        return length_refusal(1024, a, b);
-    }
-    BAD_PAGE_SIZE
+    Ok(Dumps { a, b })
 }

@@ -8,6 +8,7 @@ ghost use Rattle.dump_ranges.specs.Answers.{ranges_answer, ranges_list, first_an
 use dump_ranges::{DifferenceFound, RangesFound};
 
 mod accepted;
+mod dumps;
 mod first;
 mod list;
 mod stretch;
@@ -20,15 +21,14 @@ pub extern "C" fn c2_dump_ranges(size: u32, a: &[u8], b: &[u8], list: &mut [u64]
     ensures value { result ≡ ranges_answer size a.now b.now list.old }
     ensures list_after { list.new ≡ ranges_list size a.now b.now list.old }
 {
-    let number = accepted::dump_refusal(size, a.len(), b.len());
-    if number != 0 {
-        return RangesFound {
-            number: number,
+    match accepted::accepted(size, a, b) {
+        Ok(dumps) => dumps.list_ranges(list),
+        Err(e) => RangesFound {
+            number: e.into(),
             more: 0,
             held: 0,
-        };
+        },
     }
-    list::list_ranges(a, b, list)
 }
 
 // The page and the offset in it of the first difference, or that the dumps are equal. Tests 2, then 31.
@@ -36,14 +36,26 @@ pub extern "C" fn c2_dump_ranges(size: u32, a: &[u8], b: &[u8], list: &mut [u64]
 pub extern "C" fn c2_dump_first(size: u32, a: &[u8], b: &[u8]) -> DifferenceFound
     ensures { result ≡ first_answer size a.now b.now }
 {
-    let number = accepted::dump_refusal(size, a.len(), b.len());
-    if number != 0 {
-        return DifferenceFound {
-            number: number,
+    match accepted::accepted(size, a, b) {
+        Ok(dumps) => match dumps.first_difference(size as usize) {
+            Some((page, offset)) => DifferenceFound {
+                number: 0,
+                differs: 1,
+                page: page as u64,
+                offset: offset as u32,
+            },
+            None => DifferenceFound {
+                number: 0,
+                differs: 0,
+                page: 0,
+                offset: 0,
+            },
+        },
+        Err(e) => DifferenceFound {
+            number: e.into(),
             differs: 0,
             page: 0,
             offset: 0,
-        };
+        },
     }
-    first::first_difference(size as usize, a, b)
 }

@@ -2,6 +2,8 @@
 // proofs/; the code that compares is that of dump. Here are the answers of its two calls.
 #![tactic(auto)]
 
+// Both are for C, which has no Result: a number, 0 where nothing is refused.
+
 // The ranges of bytes that differ: the number; whether there are more than the list buffer takes whole, 1 or
 // 0; how many it holds.
 #[repr(C)]

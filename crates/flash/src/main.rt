@@ -4,14 +4,15 @@
 
 ghost use Rattle.std.specs.Prelude.{◌≤◌, length, IfOk};
 
-use c2_report::report_of;
+use c2_report::{Report, report_of};
 use std::io;
 use std::io::Read;
 
 // No more of the input is looked at than the largest flash holds.
 const MOST: usize = 65536;
 
-// Fills the buffer from its start, as far as there is input, and gives how many bytes that are.
+// Fills the buffer from its start, as far as there is input, and gives how many bytes that are. The library has this
+// for a Vec alone, and there is no heap here.
 fn read_full(input: &mut impl Read, buffer: &mut [u8]) -> io::Result<usize>
     ensures { IfOk result (λ n. n ≤ length buffer.new) }
 {
@@ -29,9 +30,10 @@ fn read_full(input: &mut impl Read, buffer: &mut [u8]) -> io::Result<usize>
 fn main(rt: HostRuntime) -> io::Result<()> {
     let mut image = [0u8; MOST];
     let count = read_full(&mut rt.reader(), &mut image)?;
-    let report = report_of(&image[..count]);
-    let pages = report.pages;
-    let replies = report.replies;
-    let outcome = report.outcome;
+    let Report {
+        pages,
+        replies,
+        outcome,
+    } = report_of(&image[..count]);
     println!(rt; "pages {pages}\nreplies {replies}\noutcome {outcome}")
 }

@@ -1,10 +1,11 @@
 -- What is claimed of Intel HEX files beyond one call (document 02, a). Types alone: `Claims` in
 -- proofs/Laws/ proves each, and `Decided` the last.
-use Rattle.std.specs.Prelude.{◌≡◌, true, false, List, [], ◌↔◌, ◌⊎◌, ℕ, suc, ◌+◌, ◌-◌, ◌*◌, ◌/◌, ◌%◌, ◌≤◌, ◌<◌, length, get_or, take}
+use Rattle.std.specs.Prelude.{◌≡◌, true, false, List, [], ◌↔◌, ◌⊎◌, ℕ, suc, ◌+◌, ◌-◌, ◌*◌, ◌/◌, ◌%◌, ◌≤◌, ◌<◌, length, get_or, take, Ok, Err}
 use Rattle.numbers.specs.Numbers.{bad_line, bad_checksum, bad_hex_record, set_twice, no_end_record, no_data, buffer_too_small}
 use Rattle.settings.specs.declared.Settings.{Settings}
 use Rattle.settings.specs.Accepted.{settings_refusal}
-use Rattle.hex_format.specs.declared.Line.TheVariants.{Bad, Data, Last}
+use Rattle.numbers.specs.declared.Refusal.TheVariants.{BadHexRecord}
+use Rattle.hex_format.specs.declared.Record.TheVariants.{Data, Last}
 use Rattle.laws.specs.Bytes.{Bytes}
 use Rattle.hex_format.specs.Lines.{is_line, adds_up, kind, count, address, data_of, kinded, judged_line}
 use Rattle.hex_format.specs.Reading.{lines, Answer, hex_read}
@@ -25,7 +26,7 @@ WrittenReads =
 pub record SetsByte (flash : ℕ) (l : List ℕ) (k b : ℕ) : Type 0 where
   pub a : ℕ
   pub n : ℕ
-  pub line : judged_line flash l ≡ Data a n
+  pub line : judged_line flash l ≡ Ok (Data a n)
   pub from : a ≤ k
   pub below : k < a + n
   pub byte : get_or (data_of l) (k - a) 0xff ≡ b
@@ -63,7 +64,7 @@ AcceptedShows = (s : Settings) (room : ℕ) (file : List ℕ) → (hex_read s ro
 -- an earlier line is the end record
 pub record Ended (flash : ℕ) (before : List (List ℕ)) : Type 0 where
   pub i : ℕ
-  pub line : judged_line flash (get_or before i []) ≡ Last
+  pub line : judged_line flash (get_or before i []) ≡ Ok Last
 
 -- the line is a record of data that covers an address which an earlier line covers
 pub record Twice (flash : ℕ) (before : List (List ℕ)) (l : List ℕ) : Type 0 where
@@ -81,7 +82,7 @@ abbrev pub Fault : (flash : ℕ) (before : List (List ℕ)) (l : List ℕ) (numb
 Fault flash before l m =
     ((m ≡ bad_line) × (is_line l ≡ false))
     ⊎ ((m ≡ bad_checksum) × (is_line l ≡ true) × (adds_up l ≡ false))
-    ⊎ ((m ≡ bad_hex_record) × (is_line l ≡ true) × (kinded flash (kind l) (count l) (address l) ≡ Bad bad_hex_record))
+    ⊎ ((m ≡ bad_hex_record) × (is_line l ≡ true) × (kinded flash (kind l) (count l) (address l) ≡ Err BadHexRecord))
     ⊎ ((m ≡ set_twice) × Twice flash before l)
     ⊎ ((m ≡ no_end_record) × Ended flash before)
 

@@ -1,10 +1,11 @@
 -- A line of an Intel HEX file by itself (document 02, a): a colon, the record's bytes in hex digits, LF or CR
 -- LF. The record's bytes are length, address (two, the high one first), type, the data, and the checksum.
-use Rattle.std.specs.Prelude.{Bool, false, cond, ◌&&◌, ◌||◌, List, [], ◌∷◌, ℕ, ◌+◌, ◌*◌, ◌%◌, leb, eqb, get_or, take, drop}
-use Rattle.numbers.specs.Numbers.{bad_line, bad_checksum, bad_hex_record}
+use Rattle.std.specs.Prelude.{Bool, false, cond, ◌&&◌, ◌||◌, List, [], ◌∷◌, ℕ, ◌+◌, ◌*◌, ◌%◌, leb, eqb, get_or, take, drop, Result, Ok, Err}
+use Rattle.numbers.specs.declared.Refusal.{Refusal}
 use Rattle.hex_format.specs.Digits.{octet, octets, all_digits}
-use Rattle.hex_format.specs.declared.Line.{Line}
-use Rattle.hex_format.specs.declared.Line.TheVariants.{Bad, Data, Last}
+use Rattle.numbers.specs.declared.Refusal.TheVariants.{BadLine, BadChecksum, BadHexRecord}
+use Rattle.hex_format.specs.declared.Record.{Record}
+use Rattle.hex_format.specs.declared.Record.TheVariants.{Data, Last}
 
 -- the characters of a line
 abbrev pub colon : ℕ
@@ -52,16 +53,20 @@ kind l = octet (get_or l 7 0) (get_or l 8 0)
 unfoldable pub data_of : List ℕ → List ℕ
 data_of l = octets (take (2 * count l) (drop 9 l))
 
+-- what a line is by itself: a record, or why it is refused
+abbrev pub Line : Type 0
+Line = Result Record Refusal
+
 -- type 00 is data, none of it past the last flash byte; type 01 with length and address 0 is the end record
 unfoldable pub kinded : (flash kind count address : ℕ) → Line
 kinded flash kind count address =
     cond (eqb kind 0)
-    (cond (eqb count 0 || leb (address + count) flash) (Data address count) (Bad bad_hex_record))
-    (cond (eqb kind 1 && (eqb count 0 && eqb address 0)) Last (Bad bad_hex_record))
+    (cond (eqb count 0 || leb (address + count) flash) (Ok (Data address count)) (Err BadHexRecord))
+    (cond (eqb kind 1 && (eqb count 0 && eqb address 0)) (Ok Last) (Err BadHexRecord))
 
 -- what a line is by itself, for a flash of so many bytes; the lowest number comes first
 unfoldable pub judged_line : (flash : ℕ) → List ℕ → Line
 judged_line flash l =
     cond (is_line l)
-    (cond (adds_up l) (kinded flash (kind l) (count l) (address l)) (Bad bad_checksum))
-    (Bad bad_line)
+    (cond (adds_up l) (kinded flash (kind l) (count l) (address l)) (Err BadChecksum))
+    (Err BadLine)

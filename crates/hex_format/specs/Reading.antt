@@ -1,13 +1,12 @@
 -- Reading an Intel HEX file (document 02, a): its lines, what they set one after the other, and the image of
 -- the touched pages.
-use Rattle.std.specs.Prelude.{Bool, true, false, cond, ◌&&◌, List, [], ◌∷◌, ◌++◌, ℕ, suc, ◌+◌, ◌-◌, ◌*◌, ◌/◌, ltb, eqb, length, take, drop, replicate}
+use Rattle.std.specs.Prelude.{Bool, true, false, cond, ◌&&◌, List, [], ◌∷◌, ◌++◌, ℕ, suc, ◌+◌, ◌-◌, ◌*◌, ◌/◌, ltb, eqb, length, take, drop, replicate, Ok, Err}
 use Rattle.std.proofs.lemmas.List.Edits.{sets}
-use Rattle.numbers.specs.Numbers.{set_twice, no_end_record, no_data, buffer_too_small}
+use Rattle.numbers.specs.Numbers.{refusal_number, set_twice, no_end_record, no_data, buffer_too_small}
 use Rattle.settings.specs.Accepted.{settings_refusal}
 use Rattle.settings.specs.declared.Settings.{Settings}
-use Rattle.hex_format.specs.declared.Line.{Line}
-use Rattle.hex_format.specs.declared.Line.TheVariants.{Bad, Data, Last}
-use Rattle.hex_format.specs.Lines.{lf, judged_line, data_of}
+use Rattle.hex_format.specs.declared.Record.TheVariants.{Data, Last}
+use Rattle.hex_format.specs.Lines.{lf, Line, judged_line, data_of}
 
 -- A file's lines, each with its LF. What follows the last LF is a line without one.
 unfoldable pub joined_line : ℕ → List (List ℕ) → List (List ℕ)
@@ -43,9 +42,9 @@ placed ended cells a n bytes =
     (took set_twice ended cells)
 
 unfoldable pub taken_as : (ended : Bool) (cells line : List ℕ) → Line → LineTaken
-taken_as ended cells l (Bad n) = took n ended cells
-taken_as ended cells l (Data a n) = placed ended cells a n (data_of l)
-taken_as ended cells l Last = took (cond ended no_end_record 0) true cells
+taken_as ended cells l (Err e) = took (refusal_number e) ended cells
+taken_as ended cells l (Ok (Data a n)) = placed ended cells a n (data_of l)
+taken_as ended cells l (Ok Last) = took (cond ended no_end_record 0) true cells
 
 unfoldable pub line_taken : (ended : Bool) (cells line : List ℕ) → LineTaken
 line_taken ended cells l = taken_as ended cells l (judged_line (length cells) l)

@@ -3,10 +3,14 @@
 // that both share stand here.
 #![tactic(auto)]
 
-// What a line is by itself: refused by a number, data (address and count), or the end record.
-#[derive(Clone, Copy)]
-pub enum Line {
-    Bad(u32),
+use numbers::Refusal;
+
+// A record that is right by itself: data (address and count), or the end record.
+#[derive(Clone, Copy, Debug, PartialEq, Eq)]
+pub enum Record {
     Data(usize, usize),
     Last,
 }
+
+// What a line is by itself: a record, or why it is refused.
+pub type Line = Result<Record, Refusal>;

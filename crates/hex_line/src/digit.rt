@@ -1,35 +1,23 @@
 // Hex digits, and the bytes that they stand for.
-ghost use Rattle.std.specs.Prelude.{◌≡◌};
+ghost use Rattle.std.specs.Prelude.{◌≡◌, ◌<◌, MatchOption};
 ghost use Rattle.hex_format.specs.Digits.{digit, octet};
 
-// The value of a digit of either case; 16 for a character that is none.
-pub fn digit(a: u8) -> u8
-    ensures { result ≡ digit a }
+// The value of a digit of either case; none for a character that is no digit, where the definition has 16.
+#[tactic(auto, using(std::proofs::lemmas::Bool::Decides::nat_tests), unfolding(hex_format::specs::Digits::digit))]
+pub fn digit(a: u8) -> Option<u8>
+    ensures { MatchOption result (digit a ≡ 16) (λ d. (d ≡ digit a) × (d < 16)) }
 {
-    if a < 48 {
-        return 16;
+    match a {
+        b'0'..=b'9' => Some(a - b'0'),
+        b'A'..=b'F' => Some(a - b'A' + 10),
+        b'a'..=b'f' => Some(a - b'a' + 10),
+        _ => None,
     }
-    if a < 58 {
-        return a - 48;
-    }
-    if a < 65 {
-        return 16;
-    }
-    if a < 71 {
-        return a - 55;
-    }
-    if a < 97 {
-        return 16;
-    }
-    if a < 103 {
-        return a - 87;
-    }
-    16
 }
 
 // The byte of two digits, the high one first.
 pub fn octet(high: u8, low: u8) -> u8
     ensures { result ≡ octet high low }
 {
-    digit(high) % 16 * 16 + digit(low) % 16
+    digit(high).unwrap_or(0) * 16 + digit(low).unwrap_or(0)
 }

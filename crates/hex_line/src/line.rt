@@ -1,159 +1,118 @@
 // A line at the front of what is left of a file: what it is, and how long it is. The end of a line is not
 // looked for: a record's length byte says where it has to be.
-ghost use Rattle.std.specs.Prelude.{◌≡◌, ◌+◌, ◌*◌, ◌%◌, ◌<◌, length};
-ghost use Rattle.hex_format.specs.Digits.{octet, octets};
+ghost use Rattle.std.specs.Prelude.{◌≡◌, false, true, ◌+◌, ◌*◌, ◌%◌, ◌<◌, length, MatchOption};
+ghost use Rattle.hex_format.specs.Digits.{octet, octets, all_digits};
 ghost use Rattle.hex_format.specs.Lines.{sum, count, digits, kinded};
-ghost use Rattle.hex_line.specs.Code.Shape.{weighed, line_end, shaped, judgement, judgement_at};
+ghost use Rattle.hex_line.specs.Code.Shape.{line_end, shaped, judgement, judgement_at};
 
 use super::digit::{digit, octet};
-use hex_format::Line;
-use numbers::{BAD_CHECKSUM, BAD_HEX_RECORD, BAD_LINE};
+use hex_format::{Line, Record};
+use numbers::Refusal;
 
-// What a line is, and its length, 0 where it has no record's shape.
-#[derive(Clone, Copy)]
+// What a line is, and its length, 0 where it has no record's shape: `judge` promises both on a refusal too, so
+// the length stands beside the result.
+#[derive(Clone, Copy, Debug, PartialEq, Eq)]
 pub struct Judged {
     pub line: Line,
     pub bytes: usize,
 }
 
-// The length of a line that has a record's shape, else 0; the low byte of its record's sum.
+// The length of a line that has a record's shape; the low byte of its record's sum.
 #[derive(Clone, Copy)]
 struct Shape {
     bytes: usize,
     sum: u8,
 }
 
-// The low byte of the sum of the digits' bytes; 256 where a character is no digit.
-fn weigh(s: &[u8]) -> u16
+// The low byte of the sum of the digits' bytes; none where a character is no digit.
+fn weigh(s: &[u8]) -> Option<u8>
     requires { length s.now % 2 ≡ 0 }
-    ensures { result ≡ weighed s.now }
+    ensures { MatchOption result (all_digits s.now ≡ false) (λ t. (all_digits s.now ≡ true) × (t ≡ sum (octets s.now) % 256)) }
 {
     let mut sum: u8 = 0;
-    let mut i: usize = 0;
-    while 2 <= s.len() - i {
-        let high = digit(s[i]);
-        let low = digit(s[i + 1]);
-        if 16 <= high {
-            return 256;
-        }
-        if 16 <= low {
-            return 256;
-        }
-        sum = std::num::wrapping_add_u8(sum, high * 16 + low);
-        i += 2;
+    for pair in s.chunks_exact(2) {
+        let high = digit(pair[0])?;
+        let low = digit(pair[1])?;
+        sum = sum.wrapping_add(high * 16 + low);
     }
-    sum as u16
+    Some(sum)
 }
 
-// The length of the line end at the front: LF or CR LF; 0 where there is none.
-fn end_bytes(s: &[u8]) -> usize
-    ensures { result ≡ line_end s.now }
+// The length of the line end at the front: LF or CR LF.
+#[tactic(auto, using(crate::proofs::Laws::Shape::line_ends))]
+pub fn end_bytes(s: &[u8]) -> Option<usize>
+    ensures { MatchOption result (line_end s.now ≡ 0) (λ n. (n ≡ line_end s.now) × (0 < n)) }
 {
-    if s.len() == 0 {
-        return 0;
+    match s {
+        [b'\n', ..] => Some(1),
+        [b'\r', b'\n', ..] => Some(2),
+        _ => None,
     }
-    if s[0] == 10 {
-        return 1;
-    }
-    if s.len() == 1 {
-        return 0;
-    }
-    if s[0] == 13 {
-        if s[1] == 10 {
-            return 2;
-        }
-        return 0;
-    }
-    0
 }
 
-// The number of data bytes.
-fn count(s: &[u8]) -> usize
-    requires { 2 < length s.now }
+// The number of data bytes, for any text: a digit that is missing is none.
+#[tactic(auto, unfolding(hex_format::specs::Lines::count))]
+pub fn count(s: &[u8]) -> usize
     ensures { (result ≡ count s.now) × (result < 256) }
 {
-    octet(s[1], s[2]) as usize
+    let high = s.get(1).copied().unwrap_or(0);
+    let low = s.get(2).copied().unwrap_or(0);
+    usize::from(octet(high, low))
 }
 
 // The number of four digits.
-fn word(a: u8, b: u8, c: u8, d: u8) -> usize
+pub fn word(a: u8, b: u8, c: u8, d: u8) -> usize
     ensures { result ≡ 256 * octet a b + octet c d }
 {
-    256 * (octet(a, b) as usize) + octet(c, d) as usize
+    256 * usize::from(octet(a, b)) + usize::from(octet(c, d))
 }
 
-// The shape of a line.
-fn measure(s: &[u8]) -> Shape
-    ensures { (result.bytes ≡ shaped s.now) × (0 < result.bytes → result.sum ≡ sum (octets (digits s.now)) % 256) }
+// The shape of a line that has a record's.
+fn measure(s: &[u8]) -> Option<Shape>
+    ensures { MatchOption result (shaped s.now ≡ 0)
+        (λ m. (m.bytes ≡ shaped s.now) × (0 < m.bytes) × (m.sum ≡ sum (octets (digits s.now)) % 256)
+        × (2 * count s.now + 11 < length s.now)) }
 {
-    let none = Shape { bytes: 0, sum: 0 };
     if s.len() < 3 {
-        return none;
+        return None;
     }
     let end = 2 * count(s) + 11;
-    if s.len() <= end {
-        return none;
+    if s.len() <= end || s[0] != b':' {
+        return None;
     }
-    if s[0] != 58 {
-        return none;
-    }
-    let sum = weigh(&s[1..end]);
-    if 256 <= sum {
-        return none;
-    }
-    let e = end_bytes(&s[end..]);
-    if e == 0 {
-        return none;
-    }
-    Shape {
-        bytes: end + e,
-        sum: sum as u8,
-    }
+    let sum = weigh(&s[1..end])?;
+    let bytes = end + end_bytes(&s[end..])?;
+    Some(Shape { bytes, sum })
 }
 
 // What a record is by type, length and address.
+#[tactic(auto, using(std::proofs::lemmas::Bool::Decides::nat_tests), unfolding(hex_format::specs::Lines::kinded))]
 fn judge_kind(flash: usize, kind: u8, count: usize, address: usize) -> Line
     ensures { result ≡ kinded flash kind count address }
 {
-    if kind == 0 {
-        if count == 0 {
-            return Line::Data(address, count);
+    match kind {
+        0 if count == 0 || (count <= flash && address <= flash - count) => {
+            Ok(Record::Data(address, count))
         }
-        if count <= flash {
-            if address <= flash - count {
-                return Line::Data(address, count);
-            }
-            return Line::Bad(BAD_HEX_RECORD);
-        }
-        return Line::Bad(BAD_HEX_RECORD);
+        1 if count == 0 && address == 0 => Ok(Record::Last),
+        _ => Err(Refusal::BadHexRecord),
     }
-    if kind == 1 {
-        if count == 0 {
-            if address == 0 {
-                return Line::Last;
-            }
-            return Line::Bad(BAD_HEX_RECORD);
-        }
-        return Line::Bad(BAD_HEX_RECORD);
-    }
-    Line::Bad(BAD_HEX_RECORD)
 }
 
 // The first line of what is left of a file, by itself, for a flash of so many bytes.
 pub fn judge(s: &[u8], flash: usize) -> Judged
     ensures { judgement result.line result.bytes ≡ judgement_at flash s.now }
 {
-    let m = measure(s);
-    if m.bytes == 0 {
+    let Some(Shape { bytes, sum }) = measure(s) else {
         return Judged {
-            line: Line::Bad(BAD_LINE),
+            line: Err(Refusal::BadLine),
             bytes: 0,
         };
-    }
-    if m.sum != 0 {
+    };
+    if sum != 0 {
         return Judged {
-            line: Line::Bad(BAD_CHECKSUM),
-            bytes: m.bytes,
+            line: Err(Refusal::BadChecksum),
+            bytes,
         };
     }
     let line = judge_kind(
@@ -162,8 +121,5 @@ pub fn judge(s: &[u8], flash: usize) -> Judged
         count(s),
         word(s[3], s[4], s[5], s[6]),
     );
-    Judged {
-        line: line,
-        bytes: m.bytes,
-    }
+    Judged { line, bytes }
 }

@@ -2,4 +2,5 @@
 -- definitions.
 pub mod Map
 pub mod Walk
+pub mod Read
 pub mod Fill

@@ -6,8 +6,8 @@ ghost use Rattle.hex_format.specs.Lines.{is_line, count, address};
 ghost use Rattle.hex_line.specs.Code.Shape.{first_line};
 ghost use Rattle.hex_read.specs.Code.Fill.{Fillable, Window, filled};
 
-use super::buffer::set_all;
 use hex_line::digit::octet;
+use hex_line::line::{count, end_bytes, word};
 
 // A record at the front of what is left of the file: its address, its number of data bytes, and the length of
 // its line.
@@ -18,15 +18,14 @@ struct Front {
     bytes: usize,
 }
 
-// The bytes of the digits.
+// The bytes of the digits. Tried by zip with chunks_exact(2): at the end of that loop no name that an invariant may
+// use says what was written into the bytes that iter_mut lent.
 fn place(part: &mut [u8], s: &[u8])
     requires { length s.now ≡ 2 * length part.old }
     ensures { part.new ≡ octets s.now }
 {
-    let mut i: usize = 0;
-    while i < part.len() {
-        part[i] = octet(s[2 * i], s[2 * i + 1]);
-        i += 1;
+    for (i, b) in part.iter_mut().enumerate() {
+        *b = octet(s[2 * i], s[2 * i + 1]);
     }
 }
 
@@ -36,20 +35,14 @@ fn head(s: &[u8]) -> Front
     ensures { (result.address ≡ address s.now) × (result.count ≡ count s.now)
         × (result.bytes ≡ length (first_line s.now)) }
 {
-    let count = octet(s[1], s[2]) as usize;
-    let address = 256 * (octet(s[3], s[4]) as usize) + octet(s[5], s[6]) as usize;
+    let count = count(s);
+    let address = word(s[3], s[4], s[5], s[6]);
     let end = 2 * count + 11;
-    if s[end] == 10 {
-        return Front {
-            address: address,
-            count: count,
-            bytes: end + 1,
-        };
-    }
+    let bytes = end + end_bytes(&s[end..]).unwrap_or(0);
     Front {
-        address: address,
-        count: count,
-        bytes: end + 2,
+        address,
+        count,
+        bytes,
     }
 }
 
@@ -69,13 +62,14 @@ fn put(image: &mut [u8], start: usize, s: &[u8], address: usize, count: usize)
     place(&mut image[i..e], &s[9..d]);
 }
 
-// The bytes of an accepted file, from an address on, all that it sets.
+// The bytes of an accepted file, from an address on, all that it sets. Lines differ in length, so the loop goes
+// from line to line by a place: no range has these places.
 pub(crate) fn fill(image: &mut [u8], start: usize, file: &[u8])
     requires { Fillable file.now start (length image.old) }
     ensures { (flash : ℕ) → Window file.now start (length image.old) flash
         → image.new ≡ filled flash start (length image.old) file.now }
 {
-    set_all(image, 255);
+    image.fill(0xff);
     let mut at: usize = 0;
     while at < file.len() {
         let h = head(&file[at..]);

@@ -2,7 +2,6 @@
 // of the flash; then the lent image is filled in a second pass, so that a refusal leaves it untouched.
 #![tactic(auto)]
 
-mod buffer;
 mod fill;
 mod map;
 pub mod read;

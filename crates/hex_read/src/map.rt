@@ -1,6 +1,9 @@
 // The map of what is set: a bit for each byte of the flash.
-ghost use Rattle.std.specs.Prelude.{◌≡◌, true, false, ◌+◌, ◌*◌, ◌/◌, ◌%◌, ◌^◌, ◌≤◌, ◌<◌, length};
+ghost use Rattle.std.specs.Prelude.{◌≡◌, ◌+◌, ◌*◌, ◌/◌, ◌%◌, ◌^◌, ◌≤◌, ◌<◌, length, MatchResult};
+ghost use Rattle.numbers.specs.declared.Refusal.TheVariants.{SetTwice};
 ghost use Rattle.hex_read.specs.Code.Map.{map_bit, Run, Clash};
+
+use numbers::Refusal;
 
 // A bit of a byte.
 fn bit(b: u8, k: usize) -> u8
@@ -18,21 +21,22 @@ fn with_bit(b: u8, k: usize) -> u8
     b + (1 << k)
 }
 
-// Marks a run of addresses; false where one of them was marked before.
-pub(crate) fn mark(map: &mut [u8], a: usize, n: usize) -> bool
-    requires { (a + n ≤ 8 * length map.old) × (length map.old ≤ 8192) }
-    ensures { (result ≡ true → Run map.old map.new a n) × (result ≡ false → Clash map.old a n) }
+// The map's length: there is no heap, so it has a bit for each of the 65,536 bytes of the largest flash.
+pub(crate) const MAP_BYTES: usize = 8192;
+
+// Marks a run of addresses; refused where one of them was marked before.
+pub(crate) fn mark(map: &mut [u8; MAP_BYTES], a: usize, n: usize) -> Result<(), Refusal>
+    requires { a + n ≤ 65536 }
+    ensures { MatchResult result (λ _. Run map.old map.new a n) (λ e. (e ≡ SetTwice) × Clash map.old a n) }
 {
-    let mut i: usize = 0;
-    while i < n {
+    for i in 0..n {
         let k = (a + i) / 8;
         let p = (a + i) % 8;
         let b = map[k];
         if bit(b, p) != 0 {
-            return false;
+            return Err(Refusal::SetTwice);
         }
         map[k] = with_bit(b, p);
-        i += 1;
     }
-    true
+    Ok(())
 }

@@ -1,148 +1,103 @@
 // Judging the lines one after the other.
-ghost use Rattle.std.specs.Prelude.{◌≡◌, false, cond, ◌+◌, ◌*◌, ◌≤◌, leb, length, replicate};
+ghost use Rattle.std.specs.Prelude.{◌≡◌, false, ◌+◌, ◌*◌, ◌≤◌, min, max, length, replicate};
 ghost use Rattle.hex_format.specs.Reading.{unset, lines, lines_taken};
-ghost use Rattle.hex_read.specs.Code.Walk.{Within, TakesData, TakesLine, Walks};
+ghost use Rattle.hex_read.specs.Code.Read.{no_line};
+ghost use Rattle.hex_read.specs.Code.Walk.{Within, TakesLine, Walked};
 
-use super::map::mark;
-use hex_format::Line;
-use numbers::{NO_END_RECORD, SET_TWICE};
+use super::map::{MAP_BYTES, mark};
+use hex_format::{Line, Record};
+use numbers::Refusal;
 
-// After a line: its number or 0, whether the end record has been, the first address set and the address past
-// the last one.
+// After some lines: whether the end record has been, the first address set and the address past the last one. With
+// nothing set these are the flash's end and 0, so that `min` and `max` take the first run as any other.
 #[derive(Clone, Copy)]
-struct After {
-    number: u32,
-    ended: bool,
-    low: usize,
-    high: usize,
-}
-
-// After all lines: the number, the faulty line or 0, the first address set and the address past the last one.
-#[derive(Clone, Copy)]
-pub(crate) struct Outcome {
-    pub number: u32,
-    pub line: u64,
+pub(crate) struct Taken {
+    pub ended: bool,
     pub low: usize,
     pub high: usize,
 }
 
-// The lower of two addresses.
-fn lower(a: usize, b: usize) -> usize
-    ensures { result ≡ cond (leb a b) a b }
-{
-    if a <= b { a } else { b }
-}
-
-// The higher of two addresses.
-fn higher(a: usize, b: usize) -> usize
-    ensures { result ≡ cond (leb a b) b a }
-{
-    if a <= b { b } else { a }
-}
-
-// The number of a line that is right but for its place.
-fn late(ended: bool) -> u32
-    ensures { result ≡ cond ended 24 0 }
-{
-    if ended { NO_END_RECORD } else { 0 }
-}
-
-// The number of a file that has been read to its end.
-fn unended(ended: bool) -> u32
-    ensures { result ≡ cond ended 0 24 }
-{
-    if ended { 0 } else { NO_END_RECORD }
-}
-
-// A record with data, at least one byte.
-fn take_data(map: &mut [u8], a: usize, n: usize, ended: bool, low: usize, high: usize) -> After
-    requires { (a + n ≤ 8 * length map.old) × (length map.old ≤ 8192) }
-    ensures { TakesData map.old map.new a n ended low high result.number result.ended result.low result.high }
-{
-    if mark(map, a, n) {
-        return After {
-            number: late(ended),
-            ended: ended,
-            low: lower(low, a),
-            high: higher(high, a + n),
-        };
-    }
-    After {
-        number: SET_TWICE,
-        ended: ended,
-        low: low,
-        high: high,
-    }
-}
-
-// A line that has been judged.
-fn take_line(map: &mut [u8], line: Line, ended: bool, low: usize, high: usize) -> After
-    requires { Within line (8 * length map.old) × (length map.old ≤ 8192) }
-    ensures { TakesLine map.old map.new line ended low high result.number result.ended result.low result.high }
-{
-    match line {
-        Line::Bad(number) => {
-            return After {
-                number: number,
-                ended: ended,
-                low: low,
-                high: high,
-            };
-        }
-        Line::Data(a, n) => {
-            if n == 0 {
-                return After {
-                    number: late(ended),
-                    ended: ended,
-                    low: low,
-                    high: high,
-                };
-            }
-            return take_data(map, a, n, ended, low, high);
-        }
-        Line::Last => {
-            return After {
-                number: late(ended),
-                ended: true,
-                low: low,
-                high: high,
-            };
+impl Taken {
+    // With a run of addresses more.
+    fn with_run(self, a: usize, n: usize) -> Taken
+        requires { a + n ≤ 65536 }
+        ensures { result ≡ record { ended = self.ended; low = min self.low a; high = max self.high (a + n) } }
+    {
+        Taken {
+            low: self.low.min(a),
+            high: self.high.max(a + n),
+            ..self
         }
     }
 }
 
-// All lines, with a map that is clear.
-pub(crate) fn walk(map: &mut [u8], flash: usize, file: &[u8]) -> Outcome
-    requires { (flash ≤ 8 * length map.old) × (length map.old ≤ 8192) × (map.old ≡ replicate (length map.old) 0) }
-    ensures { Walks result.number result.line result.low result.high (lines_taken 0 false (replicate flash unset) (lines file.now)) }
+// Why a file is refused, and its faulty line, counted from 1; none where it isn't a line's fault.
+#[derive(Clone, Copy)]
+pub(crate) struct Fault {
+    pub refusal: Refusal,
+    pub line: Option<u64>,
+}
+
+impl From<Refusal> for Fault {
+    ghost from_gives = { λ e f. f ≡ no_line e };
+
+    fn from(refusal: Refusal) -> Fault {
+        Fault {
+            refusal,
+            line: None,
+        }
+    }
+}
+
+// A line that has been judged. Of two faults of it the lower number comes back, so its place is tested last.
+fn take_line(map: &mut [u8; MAP_BYTES], line: Line, before: Taken) -> Result<Taken, Refusal>
+    requires { Within line 65536 }
+    ensures { TakesLine map.old map.new line before result }
+{
+    let after = match line? {
+        Record::Data(a, n) if n != 0 => {
+            mark(map, a, n)?;
+            before.with_run(a, n)
+        }
+        Record::Data(..) => before,
+        Record::Last => Taken {
+            ended: true,
+            ..before
+        },
+    };
+    if before.ended {
+        return Err(Refusal::NoEndRecord);
+    }
+    Ok(after)
+}
+
+// All lines, with a map that is clear. The loop goes from line to line by a place: no range has these places.
+pub(crate) fn walk(map: &mut [u8; MAP_BYTES], flash: usize, file: &[u8]) -> Result<Taken, Fault>
+    requires { (flash ≤ 65536) × (map.old ≡ replicate 8192 0) }
+    ensures { Walked result (lines_taken 0 false (replicate flash unset) (lines file.now)) }
 {
     let mut at: usize = 0;
     let mut line: u64 = 0;
-    let mut ended = false;
-    let mut low = flash;
-    let mut high: usize = 0;
+    let mut taken = Taken {
+        ended: false,
+        low: flash,
+        high: 0,
+    };
     while at < file.len() {
         let judged = hex_line::line::judge(&file[at..], flash);
-        let found = judged.line;
-        let t = take_line(map, found, ended, low, high);
         line += 1;
-        if t.number != 0 {
-            return Outcome {
-                number: t.number,
-                line: line,
-                low: 0,
-                high: 0,
-            };
+        match take_line(map, judged.line, taken) {
+            Ok(next) => taken = next,
+            Err(refusal) => {
+                let line = Some(line);
+                return Err(Fault { refusal, line });
+            }
         }
-        ended = t.ended;
-        low = t.low;
-        high = t.high;
         at += judged.bytes;
     }
-    Outcome {
-        number: unended(ended),
-        line: 0,
-        low: low,
-        high: high,
+    if taken.ended {
+        Ok(taken)
+    } else {
+        Err(Refusal::NoEndRecord.into())
     }
 }

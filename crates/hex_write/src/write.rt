@@ -1,14 +1,16 @@
 // The file of an image.
-ghost use Rattle.std.specs.Prelude.{◌≡◌, ◌+◌, ◌*◌, ◌≤◌, ◌++◌, length, drop, if◌then◌else◌, nat_le};
-ghost use Rattle.numbers.specs.Numbers.{buffer_too_small};
+ghost use Rattle.std.specs.Prelude.{◌≡◌, ◌+◌, ◌*◌, ◌/◌, ◌≤◌, ◌++◌, length, drop, OnOk};
+ghost use Rattle.numbers.specs.Numbers.{number_of};
 ghost use Rattle.hex_format.specs.Writing.{data_lines, file_bytes, write_refusal, writing_done, file_in_buffer};
 ghost use Rattle.hex_write.specs.Code.Firsts.{firsts};
+ghost use Rattle.hex_write.specs.Code.Write.{writing_of};
 
-use super::line::{put_end, put_line};
-use numbers::BUFFER_TOO_SMALL;
+use super::line::put_line;
+use numbers::Refusal;
 use settings::Settings;
 
 // The answer: number, and length of the file.
+// For C, which has no Result: a number, 0 where nothing is refused.
 #[repr(C)]
 #[derive(Clone, Copy)]
 pub struct Written {
@@ -16,25 +18,20 @@ pub struct Written {
     pub bytes: u64,
 }
 
-// The lines of an image.
+// The lines of an image. Tried by arrays of as_chunks_mut::<44>() and as_chunks::<16>(): the first promises nothing of
+// what the slice holds afterwards; nor has an invariant a name for what is written by a zip of chunks_exact_mut(44).
 fn put_lines(out: &mut [u8], a: usize, image: &[u8], n: usize)
     requires { (length image.now ≡ 16 * n) × (length out.old ≡ 44 * n + 12) × (a + 16 * n ≤ 65536) }
     ensures { out.new ≡ firsts n a image.now ++ drop (44 * n) out.old }
 {
-    let mut r: usize = 0;
-    while r < n {
+    for r in 0..n {
         let b = a + 16 * r;
-        let i = 16 * r;
-        let j = i + 16;
-        let k = 44 * r;
-        let m = k + 44;
         put_line(
-            &mut out[k..m],
+            &mut out[44 * r..44 * r + 44],
             (b / 256) as u8,
             (b % 256) as u8,
-            &image[i..j],
+            &image[16 * r..16 * r + 16],
         );
-        r += 1;
     }
 }
 
@@ -44,49 +41,46 @@ fn put_file(out: &mut [u8], a: usize, image: &[u8], n: usize)
     ensures { out.new ≡ data_lines n a image.now }
 {
     put_lines(out, a, image, n);
-    let e = 44 * n;
-    put_end(&mut out[e..]);
+    out[44 * n..].copy_from_slice(b":00000001FF\n");
 }
 
-// The test of the room.
-fn room_refusal(bytes: usize, room: usize) -> u32
-    requires { bytes ≤ 65536 }
-    ensures { result ≡ (if nat_le (file_bytes bytes) room then 0 else buffer_too_small) }
+// Whether writing is refused: what an opening asks, then the room. What isn't is whole records of 16 bytes, at
+// addresses of two bytes.
+fn refusal(s: Settings, first: u32, bytes: usize, room: usize) -> Result<(), Refusal>
+    ensures number { number_of result ≡ write_refusal s first bytes room }
+    ensures fits { OnOk result ((bytes ≡ 16 * (bytes / 16)) × (first * s.size + bytes ≤ 65536) × (file_bytes bytes ≤ room)) }
 {
-    if 44 * (bytes / 16) + 12 <= room {
-        return 0;
+    settings::opening_refusal(s, first, bytes)?;
+    if room < 44 * (bytes / 16) + 12 {
+        return Err(Refusal::BufferTooSmall);
     }
-    BUFFER_TOO_SMALL
+    Ok(())
 }
 
-// The number by which writing is refused, or 0.
-fn refusal(s: Settings, first: u32, bytes: usize, room: usize) -> u32
-    ensures { result ≡ write_refusal s first bytes room }
+// The file of an image into the lent buffer, and its length.
+fn write_tested(s: Settings, first: u32, image: &[u8], file: &mut [u8]) -> Result<usize, Refusal>
+    ensures { writing_of result file.new ≡ file_in_buffer s first image.now file.old }
 {
-    let number = settings::opening_refusal(s, first, bytes);
-    if number == 0 {
-        return room_refusal(bytes, room);
-    }
-    number
+    refusal(s, first, image.len(), file.len())?;
+    let records = image.len() / 16;
+    let bytes = 44 * records + 12;
+    let address = (first as usize) * (s.size as usize);
+    put_file(&mut file[..bytes], address, image, records);
+    Ok(bytes)
 }
 
 // The file of an image from its first page on into the lent buffer; a refusal leaves that untouched.
 pub fn write(s: Settings, first: u32, image: &[u8], file: &mut [u8]) -> Written
     ensures { writing_done result.number result.bytes file.new ≡ file_in_buffer s first image.now file.old }
 {
-    let number = refusal(s, first, image.len(), file.len());
-    if number != 0 {
-        return Written {
-            number: number,
+    match write_tested(s, first, image, file) {
+        Ok(bytes) => Written {
+            number: 0,
+            bytes: bytes as u64,
+        },
+        Err(e) => Written {
+            number: e.into(),
             bytes: 0,
-        };
-    }
-    let records = image.len() / 16;
-    let bytes = 44 * records + 12;
-    let address = (first as usize) * (s.size as usize);
-    put_file(&mut file[..bytes], address, image, records);
-    Written {
-        number: 0,
-        bytes: bytes as u64,
+        },
     }
 }

@@ -1,5 +1,7 @@
 -- The numbers that come back (documents 01 and 02), each given exactly if its comment holds.
-use Rattle.std.specs.Prelude.{ℕ}
+use Rattle.std.specs.Prelude.{ℕ, Result, Ok, Err}
+use Rattle.numbers.specs.declared.Refusal.{Refusal}
+use Rattle.numbers.specs.declared.Refusal.TheVariants.{BadFpdat, BadPageSize, BadPageCount, BadWaitLimit, BadPairs, BadImage, PastLastPage, BadRecord, OtherImage, NoRoom, NoStep, NoPoint, BadLine, BadChecksum, BadHexRecord, SetTwice, NoEndRecord, NoData, BufferTooSmall, BadDumps, BadMessage, BadMask, BadImageLength}
 
 -- the session is running
 abbrev pub running : ℕ
@@ -112,3 +114,34 @@ buffer_too_small = 26
 -- two dumps of different length, or of a length that is not a whole number of pages (document 02, k)
 abbrev pub bad_dumps : ℕ
 bad_dumps = 31
+
+-- the number by which a refusal comes back; radio_command has names for 28 to 30
+abbrev pub refusal_number : Refusal → ℕ
+refusal_number BadFpdat = bad_fpdat
+refusal_number BadPageSize = bad_page_size
+refusal_number BadPageCount = bad_page_count
+refusal_number BadImage = bad_image
+refusal_number PastLastPage = past_last_page
+refusal_number BadRecord = bad_record
+refusal_number OtherImage = other_image
+refusal_number NoRoom = no_room
+refusal_number NoStep = no_step
+refusal_number NoPoint = no_point
+refusal_number BadWaitLimit = bad_wait_limit
+refusal_number BadPairs = bad_pairs
+refusal_number BadLine = bad_line
+refusal_number BadChecksum = bad_checksum
+refusal_number BadHexRecord = bad_hex_record
+refusal_number SetTwice = set_twice
+refusal_number NoEndRecord = no_end_record
+refusal_number NoData = no_data
+refusal_number BufferTooSmall = buffer_too_small
+refusal_number BadMessage = 28
+refusal_number BadMask = 29
+refusal_number BadImageLength = 30
+refusal_number BadDumps = bad_dumps
+
+-- the number that a test answers: 0 where what it tests is accepted
+abbrev pub number_of : {A : Type 0} → Result A Refusal → ℕ
+number_of (Ok _) = 0
+number_of (Err e) = refusal_number e

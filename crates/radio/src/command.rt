@@ -5,28 +5,28 @@ ghost use Rattle.radio_command.specs.Building.{building_number, buffer_built};
 ghost use Rattle.radio.specs.Parts.{command_parts};
 
 use crate::CommandParts;
-use radio_command::{BAD_MESSAGE, CommandRead};
+use numbers::Refusal;
 
 // Reads one command.
 #[unsafe(no_mangle)]
 pub extern "C" fn radio_read(bytes: &[u8]) -> CommandParts
     ensures { result ≡ command_parts (read_command bytes.now) }
 {
-    let CommandRead::Is(c) = radio_command::read_command(bytes) else {
-        return CommandParts {
-            number: BAD_MESSAGE,
+    match radio_command::read_command(bytes) {
+        Some(c) => CommandParts {
+            number: 0,
+            command: u8::from(c.name),
+            p0: c.p0,
+            p1: c.p1,
+            p2: c.p2,
+        },
+        None => CommandParts {
+            number: u32::from(Refusal::BadMessage),
             command: 0,
             p0: 0,
             p1: 0,
             p2: 0,
-        };
-    };
-    CommandParts {
-        number: 0,
-        command: bytes[3],
-        p0: c.p0,
-        p1: c.p1,
-        p2: c.p2,
+        },
     }
 }
 
@@ -36,5 +36,8 @@ pub extern "C" fn radio_build(command: u8, p0: u8, p1: u8, p2: u8, out: &mut [u8
     ensures value { result ≡ building_number command out.old }
     ensures out_after { out.new ≡ buffer_built command p0 p1 p2 out.old }
 {
-    radio_command::build_into(command, p0, p1, p2, out)
+    match radio_command::build_into(command, p0, p1, p2, out) {
+        Ok(()) => 0,
+        Err(e) => u32::from(e),
+    }
 }

@@ -1,25 +1,15 @@
 // A job opened.
 ghost use Rattle.std.specs.Prelude.{◌≡◌};
 ghost use Rattle.exchange.specs.Calls.{call_done};
-ghost use Rattle.radio_calls.specs.Calls.{job_opens, opens_number};
+ghost use Rattle.radio_calls.specs.Calls.{job_opens};
 ghost use Rattle.radio_calls.specs.Family.{Radio};
 
 use crate::ROOM;
 use crate::keep::keep_point;
-use numbers::{BAD_RECORD, BUFFER_TOO_SMALL};
+use numbers::Refusal;
 use radio_calls::RadioOpened;
 use radio_job::JobPoint;
 use radio_record::{MASK, NUMBERS, RADIO_RECORD_BYTES};
-
-fn refused(number: u32) -> RadioOpened
-    ensures { result ≡ opens_number number }
-{
-    RadioOpened {
-        number: number,
-        send: 0,
-        expect: 0,
-    }
-}
 
 // Opens a job. Tests 29, 30, 6 and 26, in this order; a refused opening changes no byte.
 pub fn open_job(
@@ -39,15 +29,14 @@ pub fn open_job(
         ≡ (call_done Radio (job_opens held.old image.now mask.now ours.now
         out.old)).out }
 {
-    let number = radio_image::input_refusal(mask, ours.len(), image.len());
-    if number != 0 {
-        return refused(number);
+    if let Err(e) = radio_image::input_refusal(mask, ours.len(), image.len()) {
+        return RadioOpened::from(e);
     }
-    if held.len() != RADIO_RECORD_BYTES {
-        return refused(BAD_RECORD);
-    }
+    let Some(held) = held.as_mut_array::<RADIO_RECORD_BYTES>() else {
+        return RadioOpened::from(Refusal::BadRecord);
+    };
     if out.len() < ROOM {
-        return refused(BUFFER_TOO_SMALL);
+        return RadioOpened::from(Refusal::BufferTooSmall);
     }
     held[..MASK].copy_from_slice(ours);
     held[MASK..NUMBERS].copy_from_slice(mask);

@@ -1,14 +1,10 @@
 -- The commands of the radio module, eight bytes each (source document 002, "Commands" and "Checksum").
-use Rattle.std.specs.Prelude.{ℕ, ◌+◌, ◌%◌, cond, List, [], ◌∷◌, length, ◌==◌, slice_index}
+use Rattle.std.specs.Prelude.{ℕ, ◌+◌, ◌%◌, cond, List, [], ◌∷◌, length, ◌==◌, slice_index, Option, Some, None}
 use Rattle.radio_command.specs.declared.CommandName.{CommandName}
 use Rattle.radio_command.specs.declared.CommandName.TheVariants.{RdSwVersion, InfSwVersion, RdFlashByte, WrFlashByte}
 use Rattle.radio_command.specs.declared.CommandName.TheVariants.{RdFlashPage, WrFlashPage, RdPrgArea, WrPrgArea}
 use Rattle.radio_command.specs.declared.CommandName.TheVariants.{InfOk, InfError, WrBlankChk, WrBist, WrPrgXram}
 use Rattle.radio_command.specs.declared.RadioCommand.{RadioCommand}
-use Rattle.radio_command.specs.declared.NameFound.{NameFound}
-use Rattle.radio_command.specs.declared.NameFound.TheVariants.{Of, Nothing}
-use Rattle.radio_command.specs.declared.CommandRead.{CommandRead}
-use Rattle.radio_command.specs.declared.CommandRead.TheVariants.{Is, Refused}
 
 -- Table 1: the command byte of each command
 abbrev pub command_byte : CommandName → ℕ
@@ -33,11 +29,11 @@ command_list =
     ∷ InfOk ∷ InfError ∷ WrBlankChk ∷ WrBist ∷ WrPrgXram ∷ []
 
 -- the command of a list that has this command byte, if there is one
-abbrev pub named_in : List CommandName → ℕ → NameFound
-named_in [] b = Nothing
-named_in (n ∷ ns) b = cond (b == command_byte n) (Of n) (named_in ns b)
+abbrev pub named_in : List CommandName → ℕ → Option CommandName
+named_in [] b = None
+named_in (n ∷ ns) b = cond (b == command_byte n) (Some n) (named_in ns b)
 
-unfoldable pub name_of : ℕ → NameFound
+unfoldable pub name_of : ℕ → Option CommandName
 name_of b = named_in command_list b
 
 -- the sum over bytes 2 to 6, modulo 256
@@ -51,26 +47,26 @@ built c =
     0xA5 ∷ 0x5A ∷ 0xA5 ∷ b ∷ c.p0 ∷ c.p1 ∷ c.p2 ∷ command_sum 0xA5 b c.p0 c.p1 c.p2 ∷ []
 
 -- a command of this name, if head and sum are right
-unfoldable pub read_named : CommandName → (b0 b1 b2 b4 b5 b6 b7 : ℕ) → CommandRead
+unfoldable pub read_named : CommandName → (b0 b1 b2 b4 b5 b6 b7 : ℕ) → Option RadioCommand
 read_named n b0 b1 b2 b4 b5 b6 b7 =
     cond (b0 == 0xA5)
     (cond (b1 == 0x5A)
     (cond (b2 == 0xA5)
-    (cond (b7 == command_sum b2 (command_byte n) b4 b5 b6) (Is (record { name = n; p0 = b4; p1 = b5; p2 = b6 })) Refused)
-    Refused)
-    Refused)
-    Refused
+    (cond (b7 == command_sum b2 (command_byte n) b4 b5 b6) (Some (record { name = n; p0 = b4; p1 = b5; p2 = b6 })) None)
+    None)
+    None)
+    None
 
 -- a byte of a message, counted from 0
 abbrev pub message_byte : List ℕ → ℕ → ℕ
 message_byte m i = slice_index m i
 
 -- a command of the name that was found
-abbrev pub read_found : NameFound → List ℕ → CommandRead
-read_found (Of n) m =
+abbrev pub read_found : Option CommandName → List ℕ → Option RadioCommand
+read_found (Some n) m =
     let b = message_byte m in read_named n (b 0) (b 1) (b 2) (b 4) (b 5) (b 6) (b 7)
-read_found Nothing m = Refused
+read_found None m = None
 
 -- the command that bytes are: refused where length, command byte, head or sum is wrong
-unfoldable pub read_command : List ℕ → CommandRead
-read_command m = cond (length m == 8) (read_found (name_of (message_byte m 3)) m) Refused
+unfoldable pub read_command : List ℕ → Option RadioCommand
+read_command m = cond (length m == 8) (read_found (name_of (message_byte m 3)) m) None

@@ -1,25 +1,24 @@
 // What each command does: its answer, the change of the flash, and the point after it.
-ghost use Rattle.std.specs.Prelude.{◌≡◌, ◌&&◌, get_or};
-ghost use Rattle.radio_flash.specs.Flash.{in_program_area, is_protected};
-ghost use Rattle.radio_target.specs.Deeds.{answers_error, answers_ok, performs, too_many, then_data, deed, rd_sw_version};
+ghost use Rattle.std.specs.Prelude.{◌≡◌, ◌&&◌, slice_index};
+ghost use Rattle.radio_flash.specs.Flash.{flash_address, in_program_area, is_protected};
+ghost use Rattle.radio_target.specs.Deeds.{answers_error, answers_ok, performs, too_many, then_data, deed};
 ghost use Rattle.radio_target.specs.Deeds.{rd_flash_byte, wr_flash_byte, rd_flash_page, wr_flash_page};
 ghost use Rattle.radio_target.specs.Deeds.{rd_prg_area, wr_prg_area, wr_blank_chk, wr_prg_xram};
+ghost use Rattle.radio_deeds.specs.Code.Answered.{answers, error_code, answered};
 
-use crate::{
-    ERR_BLANK_CHECK, ERR_BYTE_NOT_ERASED, ERR_CODEPROTECTION, ERR_OUT_OF_MEMORY, ERR_READONLY,
-    ERR_UNKNOW_CMD, INFORMATION, PROGRAM_PAGES, PROTECTION, XRAM_PAGES,
-};
+use crate::{INFORMATION, ModuleError, PROGRAM_PAGES, PROTECTION, XRAM_PAGES};
 use radio_command::{CommandName, RadioCommand};
 use radio_flash::{FlashChange, PAGE_BYTES, is_blank};
 use radio_target::{Deed, ModulePoint};
 
-pub(crate) fn answers_error(error: u8) -> Deed
-    ensures { result ≡ answers_error error }
+// An answer, and no more.
+fn answers(name: CommandName, p0: u8) -> Deed
+    ensures { result ≡ answers name p0 }
 {
     Deed {
         answer: RadioCommand {
-            name: CommandName::InfError,
-            p0: error,
+            name,
+            p0,
             p1: 0,
             p2: 0,
         },
@@ -28,67 +27,58 @@ pub(crate) fn answers_error(error: u8) -> Deed
     }
 }
 
+pub(crate) fn answers_error(e: ModuleError) -> Deed
+    ensures { result ≡ answers_error (error_code e) }
+{
+    answers(CommandName::InfError, e as u8)
+}
+
 fn answers_ok(code: u8) -> Deed
     ensures { result ≡ answers_ok code }
 {
-    Deed {
-        answer: RadioCommand {
-            name: CommandName::InfOk,
-            p0: code,
-            p1: 0,
-            p2: 0,
-        },
-        change: FlashChange::Nothing,
-        point: ModulePoint::Waits,
-    }
+    answers(CommandName::InfOk, code)
 }
 
 fn performs(change: FlashChange, point: ModulePoint) -> Deed
     ensures { result ≡ performs change point }
 {
     Deed {
-        answer: RadioCommand {
-            name: CommandName::InfOk,
-            p0: 0,
-            p1: 0,
-            p2: 0,
-        },
-        change: change,
-        point: point,
+        change,
+        point,
+        ..answers_ok(0)
     }
 }
 
 fn too_many(n: u8, most: u8) -> bool
     ensures { result ≡ too_many n most }
 {
-    if n == 0 {
-        return true;
-    }
-    most < n
+    n == 0 || most < n
 }
 
 fn then_data(e: u8, page: u32, left: u32) -> ModulePoint
     ensures { result ≡ then_data e page left }
 {
-    if e == 1 {
-        return ModulePoint::Waits;
-    }
-    ModulePoint::Takes {
-        page: page,
-        left: left,
+    match e {
+        1 => ModulePoint::Waits,
+        _ => ModulePoint::Takes { page, left },
     }
 }
 
 // A byte of a slice, 0 past its end.
 pub(crate) fn byte_at(s: &[u8], i: usize) -> u8
-    ensures { result ≡ get_or s.now i 0 }
+    ensures { result ≡ slice_index s.now i }
 {
-    if i < s.len() {
-        return s[i];
-    }
-    0
+    s.get(i).copied().unwrap_or(0)
 }
 
+// The address of a byte in its page.
+fn address(hi: u8, lo: u8) -> usize
+    ensures { result ≡ flash_address hi lo }
+{
+    PAGE_BYTES * usize::from(hi) + usize::from(lo)
+}
+
+#[tactic(auto, unfolding(radio_flash::specs::Flash::is_protected))]
 fn is_protected(flash: &[u8]) -> bool
     ensures { result ≡ is_protected flash.now }
 {
@@ -99,164 +89,139 @@ fn is_protected(flash: &[u8]) -> bool
 fn hidden(page: u8, flash: &[u8]) -> bool
     ensures { result ≡ (in_program_area page && is_protected flash.now) }
 {
-    if page < PROGRAM_PAGES {
-        return is_protected(flash);
-    }
-    false
+    page < PROGRAM_PAGES && is_protected(flash)
 }
 
-fn rd_flash_byte(hi: u8, lo: u8, flash: &[u8]) -> Deed
-    ensures { result ≡ rd_flash_byte hi lo flash.now }
+#[tactic(auto, unfolding(radio_target::specs::Deeds::rd_flash_byte))]
+fn rd_flash_byte(hi: u8, lo: u8, flash: &[u8]) -> Result<Deed, ModuleError>
+    ensures { answered result ≡ rd_flash_byte hi lo flash.now }
 {
     if hidden(hi, flash) {
-        return answers_error(ERR_READONLY);
+        return Err(ModuleError::Readonly);
     }
     if INFORMATION < hi {
-        return answers_error(ERR_OUT_OF_MEMORY);
+        return Err(ModuleError::OutOfMemory);
     }
-    let at = PAGE_BYTES * (hi as usize) + (lo as usize);
-    answers_ok(byte_at(flash, at))
+    Ok(answers_ok(byte_at(flash, address(hi, lo))))
 }
 
-fn wr_flash_byte(hi: u8, lo: u8, to: u8, flash: &[u8]) -> Deed
-    ensures { result ≡ wr_flash_byte hi lo to flash.now }
+#[tactic(auto, unfolding(radio_target::specs::Deeds::wr_flash_byte))]
+fn wr_flash_byte(hi: u8, lo: u8, to: u8, flash: &[u8]) -> Result<Deed, ModuleError>
+    ensures { answered result ≡ wr_flash_byte hi lo to flash.now }
 {
     if hi == INFORMATION {
-        return answers_error(ERR_READONLY);
+        return Err(ModuleError::Readonly);
     }
     if INFORMATION < hi {
-        return answers_error(ERR_OUT_OF_MEMORY);
+        return Err(ModuleError::OutOfMemory);
     }
     if hidden(hi, flash) {
-        return answers_error(ERR_CODEPROTECTION);
+        return Err(ModuleError::Codeprotection);
     }
-    let at = PAGE_BYTES * (hi as usize) + (lo as usize);
-    if byte_at(flash, at) == 0xFF {
-        return performs(FlashChange::Byte { at: at, to: to }, ModulePoint::Waits);
+    let at = address(hi, lo);
+    if byte_at(flash, at) != 0xFF {
+        return Err(ModuleError::ByteNotErased);
     }
-    answers_error(ERR_BYTE_NOT_ERASED)
+    Ok(performs(FlashChange::Byte { at, to }, ModulePoint::Waits))
 }
 
-fn rd_flash_page(page: u8, flash: &[u8]) -> Deed
-    ensures { result ≡ rd_flash_page page flash.now }
+#[tactic(auto, unfolding(radio_target::specs::Deeds::rd_flash_page))]
+fn rd_flash_page(page: u8, flash: &[u8]) -> Result<Deed, ModuleError>
+    ensures { answered result ≡ rd_flash_page page flash.now }
 {
     if hidden(page, flash) {
-        return answers_error(ERR_READONLY);
+        return Err(ModuleError::Readonly);
     }
     if INFORMATION < page {
-        return answers_error(ERR_OUT_OF_MEMORY);
+        return Err(ModuleError::OutOfMemory);
     }
-    performs(
-        FlashChange::Nothing,
-        ModulePoint::Sends {
-            page: page as u32,
-            left: 1,
-        },
-    )
+    let page = u32::from(page);
+    Ok(performs(FlashChange::Nothing, ModulePoint::Sends { page, left: 1 }))
 }
 
-fn wr_flash_page(page: u8, e: u8, flash: &[u8]) -> Deed
-    ensures { result ≡ wr_flash_page page e flash.now }
+#[tactic(auto, unfolding(radio_target::specs::Deeds::wr_flash_page))]
+fn wr_flash_page(page: u8, e: u8, flash: &[u8]) -> Result<Deed, ModuleError>
+    ensures { answered result ≡ wr_flash_page page e flash.now }
 {
-    if is_protected(flash) {
-        return answers_error(ERR_READONLY);
-    }
-    if page == INFORMATION {
-        return answers_error(ERR_READONLY);
+    if is_protected(flash) || page == INFORMATION {
+        return Err(ModuleError::Readonly);
     }
     if INFORMATION < page {
-        return answers_error(ERR_OUT_OF_MEMORY);
+        return Err(ModuleError::OutOfMemory);
     }
-    performs(
-        FlashChange::Page {
-            page: page as usize,
-        },
-        then_data(e, page as u32, 1),
-    )
+    let after = then_data(e, u32::from(page), 1);
+    let page = usize::from(page);
+    Ok(performs(FlashChange::Page { page }, after))
 }
 
-fn rd_prg_area(n: u8, flash: &[u8]) -> Deed
-    ensures { result ≡ rd_prg_area n flash.now }
+#[tactic(auto, unfolding(radio_target::specs::Deeds::rd_prg_area))]
+fn rd_prg_area(n: u8, flash: &[u8]) -> Result<Deed, ModuleError>
+    ensures { answered result ≡ rd_prg_area n flash.now }
 {
     if is_protected(flash) {
-        return answers_error(ERR_CODEPROTECTION);
+        return Err(ModuleError::Codeprotection);
     }
     if too_many(n, PROGRAM_PAGES) {
-        return answers_error(ERR_OUT_OF_MEMORY);
+        return Err(ModuleError::OutOfMemory);
     }
-    performs(
-        FlashChange::Nothing,
-        ModulePoint::Sends {
-            page: 0,
-            left: n as u32,
-        },
-    )
+    let left = u32::from(n);
+    Ok(performs(FlashChange::Nothing, ModulePoint::Sends { page: 0, left }))
 }
 
-fn wr_prg_area(n: u8, e: u8, flash: &[u8]) -> Deed
-    ensures { result ≡ wr_prg_area n e flash.now }
+#[tactic(auto, unfolding(radio_target::specs::Deeds::wr_prg_area))]
+fn wr_prg_area(n: u8, e: u8, flash: &[u8]) -> Result<Deed, ModuleError>
+    ensures { answered result ≡ wr_prg_area n e flash.now }
 {
     if is_protected(flash) {
-        return answers_error(ERR_READONLY);
+        return Err(ModuleError::Readonly);
     }
     if too_many(n, PROGRAM_PAGES) {
-        return answers_error(ERR_OUT_OF_MEMORY);
+        return Err(ModuleError::OutOfMemory);
     }
-    performs(FlashChange::Area, then_data(e, 0, n as u32))
+    Ok(performs(FlashChange::Area, then_data(e, 0, u32::from(n))))
 }
 
-fn wr_prg_xram(n: u8, flash: &[u8]) -> Deed
-    ensures { result ≡ wr_prg_xram n flash.now }
+#[tactic(auto, unfolding(radio_target::specs::Deeds::wr_prg_xram))]
+fn wr_prg_xram(n: u8, flash: &[u8]) -> Result<Deed, ModuleError>
+    ensures { answered result ≡ wr_prg_xram n flash.now }
 {
     if is_protected(flash) {
-        return answers_error(ERR_READONLY);
+        return Err(ModuleError::Readonly);
     }
     if too_many(n, XRAM_PAGES) {
-        return answers_error(ERR_OUT_OF_MEMORY);
+        return Err(ModuleError::OutOfMemory);
     }
-    performs(FlashChange::Nothing, ModulePoint::Loads { left: n as u32 })
+    let left = u32::from(n);
+    Ok(performs(FlashChange::Nothing, ModulePoint::Loads { left }))
 }
 
-fn wr_blank_chk(flash: &[u8]) -> Deed
-    ensures { result ≡ wr_blank_chk flash.now }
+#[tactic(auto, unfolding(radio_target::specs::Deeds::wr_blank_chk))]
+fn wr_blank_chk(flash: &[u8]) -> Result<Deed, ModuleError>
+    ensures { answered result ≡ wr_blank_chk flash.now }
 {
-    if is_blank(flash) {
-        return answers_ok(0);
+    if !is_blank(flash) {
+        return Err(ModuleError::BlankCheck);
     }
-    answers_error(ERR_BLANK_CHECK)
+    Ok(answers_ok(0))
 }
 
-fn rd_sw_version() -> Deed
-    ensures { result ≡ rd_sw_version }
+pub(crate) fn deed(c: RadioCommand, flash: &[u8]) -> Result<Deed, ModuleError>
+    ensures { answered result ≡ deed c.name c.p0 c.p1 c.p2 flash.now }
 {
-    Deed {
-        answer: RadioCommand {
-            name: CommandName::InfSwVersion,
-            p0: 0,
-            p1: 0,
-            p2: 0,
-        },
-        change: FlashChange::Nothing,
-        point: ModulePoint::Waits,
-    }
-}
-
-pub(crate) fn deed(name: CommandName, p0: u8, p1: u8, p2: u8, flash: &[u8]) -> Deed
-    ensures { result ≡ deed name p0 p1 p2 flash.now }
-{
+    let RadioCommand { name, p0, p1, p2 } = c;
     match name {
-        CommandName::RdSwVersion => rd_sw_version(),
-        CommandName::InfSwVersion => answers_error(ERR_UNKNOW_CMD),
+        CommandName::RdSwVersion => Ok(answers(CommandName::InfSwVersion, 0)),
         CommandName::RdFlashByte => rd_flash_byte(p0, p1, flash),
         CommandName::WrFlashByte => wr_flash_byte(p0, p1, p2, flash),
         CommandName::RdFlashPage => rd_flash_page(p0, flash),
         CommandName::WrFlashPage => wr_flash_page(p0, p1, flash),
         CommandName::RdPrgArea => rd_prg_area(p0, flash),
         CommandName::WrPrgArea => wr_prg_area(p0, p1, flash),
-        CommandName::InfOk => answers_error(ERR_UNKNOW_CMD),
-        CommandName::InfError => answers_error(ERR_UNKNOW_CMD),
         CommandName::WrBlankChk => wr_blank_chk(flash),
-        CommandName::WrBist => answers_ok(1),
+        CommandName::WrBist => Ok(answers_ok(1)),
         CommandName::WrPrgXram => wr_prg_xram(p0, flash),
+        CommandName::InfSwVersion | CommandName::InfOk | CommandName::InfError => {
+            Err(ModuleError::UnknowCmd)
+        }
     }
 }

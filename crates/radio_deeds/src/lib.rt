@@ -6,7 +6,20 @@ mod deeds;
 
 pub use commands::commanded;
 
-// The pages of the program area, the information page, and the most pages for XRAM.
+// Why a command isn't done, by the code that INF_ERROR carries.
+#[derive(Clone, Copy)]
+enum ModuleError {
+    OutOfMemory = 0,
+    Readonly = 1,
+    Codeprotection = 2,
+    ByteNotErased = 3,
+    Checksum = 4,
+    BlankCheck = 5,
+    UnknowCmd = 8,
+}
+
+// The pages of the program area, the information page, and the most pages for XRAM. `as`, for a constant calls no
+// `try_from`.
 const PROGRAM_PAGES: u8 = radio_flash::CONFIGURATION as u8;
 
 const INFORMATION: u8 = 128;
@@ -15,18 +28,3 @@ const XRAM_PAGES: u8 = 4;
 
 // The address of configuration byte 1, the code protection.
 const PROTECTION: usize = 0x7F01;
-
-// The error codes of INF_ERROR.
-const ERR_OUT_OF_MEMORY: u8 = 0;
-
-const ERR_READONLY: u8 = 1;
-
-const ERR_CODEPROTECTION: u8 = 2;
-
-const ERR_BYTE_NOT_ERASED: u8 = 3;
-
-const ERR_CHECKSUM: u8 = 4;
-
-const ERR_BLANK_CHECK: u8 = 5;
-
-const ERR_UNKNOW_CMD: u8 = 8;

@@ -1,7 +1,7 @@
 -- The radio module's flash: 129 pages of 256 bytes (source document 002, "FLASH memory organization" to "Code
 -- Protection"). In programming mode the high byte of an address is the page. Pages 0 to 126 are the program
 -- area, 127 the configuration, 128 the information.
-use Rattle.std.specs.Prelude.{Bool, true, false, cond, List, [], ◌∷◌, ◌++◌, ℕ, ◌+◌, ◌*◌, eqb, ltb, take, drop, replicate, get_or, set}
+use Rattle.std.specs.Prelude.{Bool, true, cond, ◌&&◌, List, [], ◌∷◌, ◌++◌, ℕ, ◌+◌, ◌*◌, ◌==◌, nat_lt, take, drop, replicate, slice_index, slice_set}
 use Rattle.radio_flash.specs.declared.FlashChange.{FlashChange}
 use Rattle.radio_flash.specs.declared.FlashChange.TheVariants.{Nothing, Byte, Page, Area}
 
@@ -15,7 +15,7 @@ abbrev pub information : ℕ
 information = 128
 
 abbrev pub in_program_area : (page : ℕ) → Bool
-in_program_area p = ltb p configuration
+in_program_area p = nat_lt p configuration
 
 abbrev pub flash_address : (hi lo : ℕ) → ℕ
 flash_address hi lo = 256 * hi + lo
@@ -30,12 +30,12 @@ flash_page p f = take 256 (drop (256 * p) f)
 
 -- Code protection is set exactly when configuration byte 1 is 0x00.
 unfoldable pub is_protected : (flash : List ℕ) → Bool
-is_protected f = eqb (get_or f 0x7F01 0) 0x00
+is_protected f = slice_index f 0x7F01 == 0x00
 
 -- every byte is in the erased state
 unfoldable pub is_erased : List ℕ → Bool
 is_erased [] = true
-is_erased (b ∷ bs) = cond (eqb b 0xFF) (is_erased bs) false
+is_erased (b ∷ bs) = b == 0xFF && is_erased bs
 
 -- program area and configuration, pages 0 to 127, are blank
 abbrev pub is_blank : (flash : List ℕ) → Bool
@@ -43,7 +43,7 @@ is_blank f = is_erased (take 32768 f)
 
 -- The place in a page from which a page write sets it: the first four bytes of the configuration stay.
 abbrev pub first_settable : (page : ℕ) → ℕ
-first_settable p = cond (eqb p configuration) 4 0
+first_settable p = cond (p == configuration) 4 0
 
 -- a flash with a page set to these bytes
 unfoldable pub page_set : (page : ℕ) → (bytes flash : List ℕ) → List ℕ
@@ -51,7 +51,7 @@ page_set p bs f = take (256 * p + first_settable p) f ++ (drop (first_settable p
 
 -- a flash with a byte set
 unfoldable pub byte_set : (at to : ℕ) → (flash : List ℕ) → List ℕ
-byte_set a b f = set f a b
+byte_set a b f = slice_set f a b
 
 -- mass erase: program area and configuration whole, the first four bytes of the configuration too
 unfoldable pub mass_erased : (flash : List ℕ) → List ℕ

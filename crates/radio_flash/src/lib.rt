@@ -10,7 +10,7 @@ pub use changes::change;
 pub use pages::put_page;
 
 // What becomes of the flash: nothing; a byte is programmed; a page is erased; program area and configuration
-// are erased.
+// are erased. No `Option` around the last three: `change` would only match a layer more.
 #[derive(Clone, Copy)]
 pub enum FlashChange {
     Nothing,
@@ -19,7 +19,7 @@ pub enum FlashChange {
     Area,
 }
 
-// The bytes of a page, and of the flash.
+// The bytes of a page, and of the flash. The job's crates don't rest on the module's, so radio_image has a page's too.
 pub const PAGE_BYTES: usize = 256;
 
 pub const FLASH_BYTES: usize = 33024;

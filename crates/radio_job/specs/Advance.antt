@@ -1,25 +1,25 @@
 -- A job after a reply, point by point: what its record keeps. `advances` of proofs/Laws/Advance is the law
 -- that it leaves to say what the reply leaves of the exchange.
-use Rattle.std.specs.Prelude.{cond, List, ℕ, ◌+◌, eqb, ltb, length}
-use Rattle.radio_job.specs.declared.Ending.{Ending}
+use Rattle.std.specs.Prelude.{cond, List, ℕ, ◌+◌, eqb, ltb, length, Ok, Err}
 use Rattle.radio_job.specs.declared.JobPoint.{JobPoint}
 use Rattle.radio_job.specs.declared.JobPoint.TheVariants.{AsksConfiguration, TakesConfiguration, ErasesArea, FeedsPage}
 use Rattle.radio_job.specs.declared.JobPoint.TheVariants.{ErasesConfiguration, SetsConfiguration, SetsByte0, AsksPage, TakesPage}
 use Rattle.radio_job.specs.declared.JobPoint.TheVariants.{SetsByte1, Finished}
 use Rattle.radio_job.specs.Image.{pages_for, image_page, merged}
-use Rattle.radio_job.specs.Job.{still_runs, ends_done, ends_bad, answer_ending, page_ending}
+use Rattle.radio_job.specs.Job.{Standing, goes_on, ends_done, ends_bad, answer_ending, page_ending}
 use Rattle.radio_job.specs.State.{JobState}
 
 -- a reply of this length goes on
-unfoldable pub length_ending : (expect : ℕ) → (reply : List ℕ) → Ending
-length_ending n r = cond (eqb (length r) n) still_runs ends_bad
+unfoldable pub length_ending : (expect : ℕ) → (reply : List ℕ) → Standing
+length_ending n r = cond (eqb (length r) n) goes_on (Err ends_bad)
 
 -- an end in place of going on
-abbrev pub last_ending : Ending → Ending
-last_ending v = cond (eqb v.number 0) ends_done v
+abbrev pub last_ending : Standing → Standing
+last_ending (Ok _) = Err ends_done
+last_ending (Err e) = Err e
 
--- how a job stands after a reply: it goes on, with number 0, or ends
-abbrev pub reply_ending : JobPoint → (image reply : List ℕ) → Ending
+-- how a job stands after a reply
+abbrev pub reply_ending : JobPoint → (image reply : List ℕ) → Standing
 reply_ending AsksConfiguration im r = answer_ending r
 reply_ending TakesConfiguration im r = length_ending 256 r
 reply_ending ErasesArea im r = answer_ending r
@@ -28,9 +28,9 @@ reply_ending ErasesConfiguration im r = answer_ending r
 reply_ending SetsConfiguration im r = answer_ending r
 reply_ending SetsByte0 im r = answer_ending r
 reply_ending (AsksPage p) im r = answer_ending r
-reply_ending (TakesPage p) im r = cond (eqb (length r) 256) (page_ending p (image_page im p) r) ends_bad
+reply_ending (TakesPage p) im r = cond (eqb (length r) 256) (page_ending p (image_page im p) r) (Err ends_bad)
 reply_ending SetsByte1 im r = last_ending (answer_ending r)
-reply_ending (Finished e) im r = e
+reply_ending (Finished e) im r = Err e
 
 -- the point after a reply by which a job goes on
 abbrev pub next_point : JobPoint → (bytes : ℕ) → JobPoint
@@ -48,29 +48,13 @@ next_point (Finished e) n = Finished e
 
 -- the page that is kept after such a reply: the old configuration is merged as it comes
 abbrev pub page_kept : JobPoint → (mask page reply : List ℕ) → List ℕ
-page_kept AsksConfiguration m c r = c
 page_kept TakesConfiguration m c r = merged m c r
-page_kept ErasesArea m c r = c
-page_kept (FeedsPage p) m c r = c
-page_kept ErasesConfiguration m c r = c
-page_kept SetsConfiguration m c r = c
-page_kept SetsByte0 m c r = c
-page_kept (AsksPage p) m c r = c
-page_kept (TakesPage p) m c r = c
-page_kept SetsByte1 m c r = c
-page_kept (Finished e) m c r = c
+page_kept _ m c r = c
 
 -- the state after a reply
-abbrev pub job_advanced_by : Ending → JobState → (reply : List ℕ) → JobState
-job_advanced_by v s r =
-    cond (eqb v.number 0)
-    (record {
-      page = page_kept s.point s.mask s.page r;
-      mask = s.mask;
-      bytes = s.bytes;
-      point = next_point s.point s.bytes;
-    })
-    (record { page = s.page; mask = s.mask; bytes = s.bytes; point = Finished v })
+abbrev pub job_advanced_by : Standing → JobState → (reply : List ℕ) → JobState
+job_advanced_by (Ok _) s r = record s { page = page_kept s.point s.mask s.page r; point = next_point s.point s.bytes }
+job_advanced_by (Err e) s r = record s { point = Finished e }
 
 unfoldable pub job_advanced : (image : List ℕ) → JobState → (reply : List ℕ) → JobState
 job_advanced im s r = job_advanced_by (reply_ending s.point im r) s r

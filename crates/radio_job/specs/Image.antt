@@ -1,6 +1,7 @@
 -- What a job is opened with: an image, and data for the configuration under a mask (document 02, i). Which of
 -- them are refused, the image's pages, and the merged configuration.
-use Rattle.std.specs.Prelude.{Bool, true, cond, ◌&&◌, ◌||◌, List, [], ◌∷◌, ◌++◌, ℕ, zero, suc, ◌+◌, ◌*◌, ◌-◌, ◌/◌, eqb, leb, length, take, drop, replicate, get_or}
+use Rattle.std.specs.Prelude.{Bool, cond, ◌==◌, ◌&&◌, ◌||◌, List, [], ◌∷◌, ◌++◌, ℕ, zero, suc, ◌+◌, ◌*◌, ◌-◌, ◌/◌, eqb, leb, length, take, drop, replicate, get_or}
+use Rattle.std.specs.List.{list_all}
 use Rattle.radio_command.specs.Numbers.{bad_mask, bad_image_length}
 
 -- the image, the mask, and our data
@@ -11,8 +12,7 @@ pub record JobInput : Type 0 where
 
 -- whether each byte of a mask is 0x00 or 0xFF
 unfoldable pub is_mask : List ℕ → Bool
-is_mask [] = true
-is_mask (b ∷ bs) = (eqb b 0x00 || eqb b 0xFF) && is_mask bs
+is_mask m = list_all (λ b. b == 0x00 || b == 0xFF) m
 
 -- a mask is 256 such bytes, of which 2 and 3 name nothing
 unfoldable pub mask_fits : (mask : List ℕ) → Bool

@@ -1,14 +1,12 @@
 -- The order of a job as an exchange (document 02, i): a message asks, with the number of bytes to expect, and
 -- one reply comes back.
-use Rattle.std.specs.Prelude.{Bool, true, false, cond, ◌&&◌, List, [], ◌∷◌, ℕ, suc, ◌+◌, ◌*◌, ◌%◌, eqb, length}
+use Rattle.std.specs.Prelude.{Bool, true, false, cond, ◌&&◌, ◌==◌, List, [], ◌∷◌, ℕ, suc, ◌+◌, ◌*◌, ◌%◌, eqb, length, zip, Option, Some, None, Result, Ok, Err}
+use Rattle.std.specs.List.{prefix_len}
 use Rattle.exchange.specs.Exchange.{Exchange, ended, ask, Heard, heard, stops}
 use Rattle.numbers.specs.Numbers.{done}
 use Rattle.radio_command.specs.declared.CommandName.{CommandName}
-use Rattle.radio_command.specs.declared.CommandName.TheVariants.{RdSwVersion, InfSwVersion, RdFlashByte, WrFlashByte, RdFlashPage}
-use Rattle.radio_command.specs.declared.CommandName.TheVariants.{WrFlashPage, RdPrgArea, WrPrgArea, InfOk, InfError, WrBlankChk, WrBist}
-use Rattle.radio_command.specs.declared.CommandName.TheVariants.{WrPrgXram}
-use Rattle.radio_command.specs.declared.CommandRead.{CommandRead}
-use Rattle.radio_command.specs.declared.CommandRead.TheVariants.{Is, Refused}
+use Rattle.radio_command.specs.declared.CommandName.TheVariants.{WrFlashByte, RdFlashPage, WrFlashPage, WrPrgArea, InfOk, InfError}
+use Rattle.radio_command.specs.declared.RadioCommand.{RadioCommand}
 use Rattle.radio_command.specs.Numbers.{bad_message, error_answer, page_differs}
 use Rattle.radio_command.specs.Command.{message_byte, built, read_command}
 use Rattle.radio_job.specs.declared.Ending.{Ending}
@@ -23,8 +21,8 @@ pub record Message : Type 0 where
 abbrev pub JobExchange : Type 0
 JobExchange = Exchange Message (List ℕ) Ending
 
--- A job goes on (`still_runs`), or ends: done, by a reply that is none (28), by an error answer (42), by a
--- page that differs (43).
+-- A job ends: done, by a reply that is none (28), by an error answer (42), by a page that differs (43). To C a
+-- job that still runs has number 0.
 abbrev pub still_runs : Ending
 still_runs = record { number = 0; code = 0; offset = 0 }
 
@@ -40,9 +38,17 @@ ends_error c = record { number = error_answer; code = c; offset = 0 }
 abbrev pub ends_differing : (offset : ℕ) → Ending
 ends_differing o = record { number = page_differs; code = 0; offset = o }
 
+-- how a job stands after a reply: it goes on, or has ended
+abbrev pub Standing : Type 0
+Standing = Result (Unit {0}) Ending
+
+abbrev pub goes_on : Standing
+goes_on = Ok tt
+
 -- the rest of a job, unless it has ended
-abbrev pub unless : Ending → JobExchange → JobExchange
-unless v rest = cond (eqb v.number 0) rest (ended v)
+abbrev pub unless : Standing → JobExchange → JobExchange
+unless (Ok _) rest = rest
+unless (Err e) rest = ended e
 
 -- a reply of another length than expected is none
 abbrev pub take_reply : Message → (reply : List ℕ) → Heard (List ℕ) Ending
@@ -52,26 +58,16 @@ abbrev pub say : (message : List ℕ) → (expect : ℕ) → (List ℕ → JobEx
 say m n k = ask (record { bytes = m; expect = n }) k
 
 -- INF_OK goes on, INF_ERROR ends the job with its code, a byte; any other command is no reply
-abbrev pub name_ending : CommandName → (code : ℕ) → Ending
-name_ending InfOk c = still_runs
-name_ending InfError c = ends_error (c % 256)
-name_ending RdSwVersion c = ends_bad
-name_ending InfSwVersion c = ends_bad
-name_ending RdFlashByte c = ends_bad
-name_ending WrFlashByte c = ends_bad
-name_ending RdFlashPage c = ends_bad
-name_ending WrFlashPage c = ends_bad
-name_ending RdPrgArea c = ends_bad
-name_ending WrPrgArea c = ends_bad
-name_ending WrBlankChk c = ends_bad
-name_ending WrBist c = ends_bad
-name_ending WrPrgXram c = ends_bad
+abbrev pub name_ending : CommandName → (code : ℕ) → Standing
+name_ending InfOk c = goes_on
+name_ending InfError c = Err (ends_error (c % 256))
+name_ending _ c = Err ends_bad
 
-abbrev pub read_ending : CommandRead → Ending
-read_ending (Is c) = name_ending c.name c.p0
-read_ending Refused = ends_bad
+abbrev pub read_ending : Option RadioCommand → Standing
+read_ending (Some c) = name_ending c.name c.p0
+read_ending None = Err ends_bad
 
-unfoldable pub answer_ending : (reply : List ℕ) → Ending
+unfoldable pub answer_ending : (reply : List ℕ) → Standing
 answer_ending r = read_ending (read_command r)
 
 -- a message that the module must confirm by INF_OK
@@ -100,13 +96,11 @@ same_bytes (x ∷ xs) (y ∷ ys) = eqb x y && same_bytes xs ys
 
 -- how many bytes two pages share before the first that differs
 unfoldable pub shared : List ℕ → List ℕ → ℕ
-shared [] ys = 0
-shared (x ∷ xs) [] = 0
-shared (x ∷ xs) (y ∷ ys) = cond (eqb x y) (suc (shared xs ys)) 0
+shared xs ys = prefix_len (λ p. p.0 == p.1) (zip xs ys)
 
 -- how a job stands after a page of the image was read back
-unfoldable pub page_ending : (page : ℕ) → (wanted reply : List ℕ) → Ending
-page_ending i p r = cond (same_bytes r p) still_runs (ends_differing (256 * i + shared r p))
+unfoldable pub page_ending : (page : ℕ) → (wanted reply : List ℕ) → Standing
+page_ending i p r = cond (same_bytes r p) goes_on (Err (ends_differing (256 * i + shared r p)))
 
 -- the pages read back, from this one on, and compared as they come
 unfoldable pub pages_compared : (page : ℕ) → List (List ℕ) → JobExchange → JobExchange

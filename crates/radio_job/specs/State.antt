@@ -52,17 +52,11 @@ ending_fits n e =
 
 -- the points that there are: a page is one of the image's
 abbrev pub point_fits : (bytes : ℕ) → JobPoint → Bool
-point_fits n AsksConfiguration = true
-point_fits n TakesConfiguration = true
-point_fits n ErasesArea = true
 point_fits n (FeedsPage p) = ltb p (pages_for n)
-point_fits n ErasesConfiguration = true
-point_fits n SetsConfiguration = true
-point_fits n SetsByte0 = true
 point_fits n (AsksPage p) = ltb p (pages_for n)
 point_fits n (TakesPage p) = ltb p (pages_for n)
-point_fits n SetsByte1 = true
 point_fits n (Finished e) = ending_fits n e
+point_fits n _ = true
 
 -- the states that there are: what an opening asks of mask, data and image, and a point of its order
 unfoldable pub state_fits : JobState → Bool

@@ -2,8 +2,9 @@
 // stands in `radio_point`, `radio_say` and `radio_advance`.
 #![tactic(auto)]
 
-// How a job stands after a reply: with number 0 it goes on; otherwise it has ended, 42 with the module's
-// error code, 43 with the offset of the first byte that differs.
+// How a job has ended: done, 28 by a reply that is none, 42 with the module's error code, 43 with the offset of the
+// first byte that differs. No enum: a record's bytes may hold any number, code and offset, and `ending_fits` speaks of
+// each.
 #[derive(Clone, Copy)]
 pub struct Ending {
     pub number: u32,

@@ -5,5 +5,5 @@ mod ending;
 mod fits;
 mod next;
 
-pub use fits::point_fits;
-pub use next::point_after;
+pub use fits::{PointOf, point_fits, point_of};
+pub use next::{next_page, point_after};

@@ -1,85 +1,60 @@
 // The point after a reply.
-ghost use Rattle.std.specs.Prelude.{◌≡◌, true, ◌<◌, ◌≤◌, length};
-ghost use Rattle.radio_job.specs.declared.JobPoint.TheVariants.{FeedsPage, TakesPage};
-ghost use Rattle.radio_job.specs.Image.{pages_for};
-ghost use Rattle.radio_job.specs.State.{point_fits};
-ghost use Rattle.radio_job.specs.Advance.{reply_ending, next_point};
-ghost use Rattle.radio_point.specs.Code.After.{point_by, job_point_after};
+ghost use Rattle.std.specs.Prelude.{◌≡◌};
+ghost use Rattle.radio_job.specs.Advance.{next_point};
+ghost use Rattle.radio_point.specs.Code.After.{page_behind, job_point_after};
 
-use crate::ending::reply_ending;
-use crate::fits::point_fits;
+use crate::ending::{ends, reply_ending};
+use crate::fits::point_of;
 use numbers::DONE;
 use radio_image::pages_for;
-use radio_job::{Ending, JobPoint};
+use radio_job::JobPoint;
 
-fn after_fed(page: usize, bytes: usize) -> JobPoint
-    requires { page < pages_for bytes }
-    ensures { result ≡ next_point (FeedsPage page) bytes }
+// The page behind one of the image's, if there is one.
+pub fn next_page(page: usize, bytes: usize) -> Option<usize>
+    ensures { result ≡ page_behind page bytes }
 {
-    let next = page + 1;
-    if next < pages_for(bytes) {
-        return JobPoint::FeedsPage { page: next };
+    if page < pages_for(bytes).saturating_sub(1) {
+        Some(page + 1)
+    } else {
+        None
     }
-    JobPoint::ErasesConfiguration
-}
-
-fn after_compared(page: usize, bytes: usize) -> JobPoint
-    requires { page < pages_for bytes }
-    ensures { result ≡ next_point (TakesPage page) bytes }
-{
-    let next = page + 1;
-    if next < pages_for(bytes) {
-        return JobPoint::AsksPage { page: next };
-    }
-    JobPoint::SetsByte1
 }
 
 fn next_point(point: JobPoint, bytes: usize) -> JobPoint
-    requires { point_fits bytes point ≡ true }
     ensures { result ≡ next_point point bytes }
 {
     match point {
         JobPoint::AsksConfiguration => JobPoint::TakesConfiguration,
         JobPoint::TakesConfiguration => JobPoint::ErasesArea,
         JobPoint::ErasesArea => JobPoint::FeedsPage { page: 0 },
-        JobPoint::FeedsPage { page } => after_fed(page, bytes),
+        JobPoint::FeedsPage { page } => match next_page(page, bytes) {
+            Some(page) => JobPoint::FeedsPage { page },
+            None => JobPoint::ErasesConfiguration,
+        },
         JobPoint::ErasesConfiguration => JobPoint::SetsConfiguration,
         JobPoint::SetsConfiguration => JobPoint::SetsByte0,
         JobPoint::SetsByte0 => JobPoint::AsksPage { page: 0 },
-        JobPoint::AsksPage { page } => JobPoint::TakesPage { page: page },
-        JobPoint::TakesPage { page } => after_compared(page, bytes),
-        JobPoint::SetsByte1 => JobPoint::Finished {
-            ending: Ending {
-                number: DONE,
-                code: 0,
-                offset: 0,
-            },
+        JobPoint::AsksPage { page } => JobPoint::TakesPage { page },
+        JobPoint::TakesPage { page } => match next_page(page, bytes) {
+            Some(page) => JobPoint::AsksPage { page },
+            None => JobPoint::SetsByte1,
         },
-        JobPoint::Finished { ending } => JobPoint::Finished { ending: ending },
+        JobPoint::SetsByte1 => JobPoint::Finished { ending: ends(DONE) },
+        JobPoint::Finished { .. } => point,
     }
 }
 
-// The next point, or the end that the reply brings.
-fn judged(point: JobPoint, image: &[u8], reply: &[u8]) -> JobPoint
-    requires { (point_fits (length image.now) point ≡ true) × (length image.now ≤ 32256) }
-    ensures { result ≡ point_by (reply_ending point image.now reply.now) point (length image.now) }
-{
-    let e = reply_ending(point, image, reply);
-    if e.number == 0 {
-        return next_point(point, image.len());
-    }
-    JobPoint::Finished { ending: e }
-}
-
-// The point after a reply to a job with this image. A point that is none of its points stays.
+// The point after a reply to a job with this image: the next, or the end that the reply brings. A point that is none of
+// its points stays.
+#[tactic(auto, unfolding(crate::specs::Code::After::job_point_after))]
 pub fn point_after(point: JobPoint, image: &[u8], reply: &[u8]) -> JobPoint
     ensures { result ≡ job_point_after point image.now reply.now }
 {
-    if !radio_image::image_fits(image.len()) {
+    let Some(at) = point_of(point, image) else {
         return point;
+    };
+    match reply_ending(at, reply) {
+        Ok(()) => next_point(point, image.len()),
+        Err(ending) => JobPoint::Finished { ending },
     }
-    if !point_fits(image.len(), point) {
-        return point;
-    }
-    judged(point, image, reply)
 }

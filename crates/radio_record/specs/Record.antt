@@ -1,6 +1,6 @@
 -- The record of a job, byte by byte (docs/RADIO_RECORD.md), and the job of a record.
-use Rattle.std.specs.Prelude.{cond, ◌&&◌, List, [], ◌∷◌, ◌++◌, ℕ, ◌+◌, ◌*◌, ◌/◌, ◌%◌, eqb, length, take, drop, get_or}
-use Rattle.std.proofs.Math.Option.{Option, some, none}
+use Rattle.std.specs.Prelude.{cond, ◌&&◌, List, [], ◌∷◌, ◌++◌, ℕ, ◌+◌, ◌*◌, ◌/◌, ◌%◌, eqb, length, take, drop, get_or, Option, Some, None}
+use Rattle.std.proofs.Math.Option.{Option as OneOrNone, some, none}
 use Rattle.radio_job.specs.declared.JobPoint.{JobPoint}
 use Rattle.radio_job.specs.declared.JobPoint.TheVariants.{AsksConfiguration, TakesConfiguration, ErasesArea, FeedsPage}
 use Rattle.radio_job.specs.declared.JobPoint.TheVariants.{ErasesConfiguration, SetsConfiguration, SetsByte0, AsksPage, TakesPage}
@@ -10,9 +10,6 @@ use Rattle.radio_job.specs.Job.{same_bytes}
 use Rattle.radio_job.specs.State.{JobState, point_fits}
 use Rattle.radio_record.specs.declared.JobFields.{JobFields}
 use Rattle.radio_record.specs.declared.JobKept.{JobKept}
-use Rattle.radio_record.specs.declared.JobKept.TheVariants.{Keeps, KeepsNone}
-use Rattle.radio_record.specs.declared.PointRead.{PointRead}
-use Rattle.radio_record.specs.declared.PointRead.TheVariants.{Point, NoPoint}
 
 -- a field of one byte (`field_low`); a field of two bytes has its low byte first, then its high byte
 -- (`field_high`)
@@ -70,46 +67,47 @@ job_fields_read r =
     }
 
 -- the point of a running job by its place in the order, if there is one
-abbrev pub later_job_point : (stage page : ℕ) → PointRead
+abbrev pub later_job_point : (stage page : ℕ) → Option JobPoint
 later_job_point k p =
-    cond (eqb k 5) (Point SetsConfiguration)
-    (cond (eqb k 6) (Point SetsByte0)
-    (cond (eqb k 7) (Point (AsksPage p)) (cond (eqb k 8) (Point (TakesPage p)) (cond (eqb k 9) (Point SetsByte1) NoPoint))))
+    cond (eqb k 5) (Some SetsConfiguration)
+    (cond (eqb k 6) (Some SetsByte0)
+    (cond (eqb k 7) (Some (AsksPage p)) (cond (eqb k 8) (Some (TakesPage p)) (cond (eqb k 9) (Some SetsByte1) None))))
 
-abbrev pub stage_point : (stage page : ℕ) → PointRead
+abbrev pub stage_point : (stage page : ℕ) → Option JobPoint
 stage_point k p =
-    cond (eqb k 0) (Point AsksConfiguration)
-    (cond (eqb k 1) (Point TakesConfiguration)
-    (cond (eqb k 2) (Point ErasesArea)
-    (cond (eqb k 3) (Point (FeedsPage p)) (cond (eqb k 4) (Point ErasesConfiguration) (later_job_point k p)))))
+    cond (eqb k 0) (Some AsksConfiguration)
+    (cond (eqb k 1) (Some TakesConfiguration)
+    (cond (eqb k 2) (Some ErasesArea)
+    (cond (eqb k 3) (Some (FeedsPage p)) (cond (eqb k 4) (Some ErasesConfiguration) (later_job_point k p)))))
 
 -- the point that these numbers tell, if they tell one; with number 0 it is a running job's
-unfoldable pub point_read : JobFields → PointRead
+unfoldable pub point_read : JobFields → Option JobPoint
 point_read f =
     cond (eqb f.number 0) (stage_point f.stage f.page)
-    (Point (Finished (record { number = f.number; code = f.code; offset = f.offset })))
+    (Some (Finished (record { number = f.number; code = f.code; offset = f.offset })))
 
 -- the job that was read, if image length and point fit and these are its last eight bytes
-unfoldable pub numbers_checked : (bytes : ℕ) → JobPoint → (told : List ℕ) → JobKept
-numbers_checked n p t = cond (image_fits n && (point_fits n p && same_bytes (point_bytes n p) t)) (Keeps n p) KeepsNone
+unfoldable pub numbers_checked : (bytes : ℕ) → JobPoint → (told : List ℕ) → Option JobKept
+numbers_checked n p t =
+    cond (image_fits n && (point_fits n p && same_bytes (point_bytes n p) t)) (Some (record { bytes = n; point = p })) None
 
 abbrev pub mask_of : List ℕ → List ℕ
 mask_of r = take 256 (drop 256 r)
 
 -- the job at the point that was read, if there is a point and the mask fits
-abbrev pub kept_at : PointRead → List ℕ → JobKept
-kept_at (Point p) r = cond (mask_fits (mask_of r)) (numbers_checked (kept_pair r 512) p (drop 512 r)) KeepsNone
-kept_at NoPoint r = KeepsNone
+abbrev pub kept_at : Option JobPoint → List ℕ → Option JobKept
+kept_at (Some p) r = cond (mask_fits (mask_of r)) (numbers_checked (kept_pair r 512) p (drop 512 r)) None
+kept_at None r = None
 
 -- what a record keeps, by its numbers
-unfoldable pub job_kept : List ℕ → JobKept
-job_kept r = cond (eqb (length r) 520) (kept_at (point_read (job_fields_read r)) r) KeepsNone
+unfoldable pub job_kept : List ℕ → Option JobKept
+job_kept r = cond (eqb (length r) 520) (kept_at (point_read (job_fields_read r)) r) None
 
 -- The job that a record keeps. specs/Claims.antt says of which records it is one: the packing of a job that
 -- fits.
-abbrev pub kept_state : JobKept → List ℕ → Option JobState
-kept_state (Keeps n p) r = some (record { page = take 256 r; mask = mask_of r; bytes = n; point = p })
-kept_state KeepsNone r = none
+abbrev pub kept_state : Option JobKept → List ℕ → OneOrNone JobState
+kept_state (Some k) r = some (record { page = take 256 r; mask = mask_of r; bytes = k.bytes; point = k.point })
+kept_state None r = none
 
-unfoldable pub unpacked_job : List ℕ → Option JobState
+unfoldable pub unpacked_job : List ℕ → OneOrNone JobState
 unpacked_job r = kept_state (job_kept r) r

@@ -6,7 +6,6 @@ use radio_job::JobPoint;
 
 mod held;
 mod read;
-mod words;
 mod write;
 
 pub use held::unpack;
@@ -19,11 +18,11 @@ pub const MASK: usize = 256;
 
 pub const NUMBERS: usize = 512;
 
-// What a record keeps: a job with an image of so many bytes, at this point; or nothing that is one.
+// What a record keeps: a job with an image of so many bytes, at this point.
 #[derive(Clone, Copy)]
-pub enum JobKept {
-    Keeps { bytes: usize, point: JobPoint },
-    KeepsNone,
+pub struct JobKept {
+    pub bytes: usize,
+    pub point: JobPoint,
 }
 
 // The numbers that tell a point. Those not in use are 0.
@@ -34,11 +33,4 @@ struct JobFields {
     number: u32,
     code: u32,
     offset: u32,
-}
-
-// The point that such numbers tell, if they tell one.
-#[derive(Clone, Copy)]
-enum PointRead {
-    Point(JobPoint),
-    NoPoint,
 }

@@ -1,6 +1,6 @@
 -- Worked examples of the model: what each command does to a blank flash and to one with code protection, and
 -- what data do (the notes of each command in source document 002).
-use Rattle.std.specs.Prelude.{◌≡◌, List, [], ◌∷◌, ◌++◌, map, ℕ, replicate}
+use Rattle.std.specs.Prelude.{◌≡◌, List, [], ◌∷◌, ◌++◌, map, ℕ, replicate, Some, None}
 use Rattle.radio_command.specs.declared.CommandName.TheVariants.{RdSwVersion, InfSwVersion, RdFlashByte, WrFlashByte}
 use Rattle.radio_command.specs.declared.CommandName.TheVariants.{RdFlashPage, WrFlashPage, RdPrgArea, WrPrgArea}
 use Rattle.radio_command.specs.declared.CommandName.TheVariants.{InfOk, InfError, WrBlankChk, WrBist, WrPrgXram}
@@ -8,7 +8,6 @@ use Rattle.radio_command.specs.declared.RadioCommand.{RadioCommand}
 use Rattle.radio_command.specs.Command.{built}
 use Rattle.radio_target.specs.declared.ModulePoint.TheVariants.{Waits, Takes, Loads, Sends}
 use Rattle.radio_flash.specs.declared.FlashChange.TheVariants.{Nothing, Byte, Page, Area}
-use Rattle.radio_target.specs.declared.PointFound.TheVariants.{At, Nowhere}
 use Rattle.radio_target.specs.declared.Deed.{Deed}
 use Rattle.radio_flash.specs.Flash.{erased_bytes, byte_set, mass_erased}
 use Rattle.radio_target.specs.Deeds.{radio_command, inf_ok, answers_error, answers_ok, performs}
@@ -171,7 +170,7 @@ States =
     ∷ module_point (radio_target 2 1 1)
     ∷ module_point (radio_target 4 0 0)
     ∷ []
-    ≡ At Waits ∷ At (Takes 5 2) ∷ At (Loads 3) ∷ At (Sends 128 1) ∷ Nowhere ∷ Nowhere ∷ Nowhere ∷ Nowhere ∷ []
+    ≡ Some Waits ∷ Some (Takes 5 2) ∷ Some (Loads 3) ∷ Some (Sends 128 1) ∷ None ∷ None ∷ None ∷ None ∷ []
 
 -- a refused message has no reply and gives the state back as it came
 abbrev pub RefusedStays : Type 0

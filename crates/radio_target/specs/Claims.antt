@@ -1,20 +1,19 @@
 -- What is claimed of the module. Types alone: proofs/Laws/Claims proves each.
-use Rattle.std.specs.Prelude.{◌≡◌, true, List, ℕ, ◌≤◌, length}
+use Rattle.std.specs.Prelude.{◌≡◌, true, List, ℕ, ◌≤◌, length, Some}
 use Rattle.numbers.specs.Numbers.{no_point}
 use Rattle.radio_flash.specs.Flash.{flash_bytes}
 use Rattle.radio_target.specs.declared.ModulePoint.{ModulePoint}
 use Rattle.radio_target.specs.declared.RadioTarget.{RadioTarget}
-use Rattle.radio_target.specs.declared.PointFound.TheVariants.{At}
 use Rattle.radio_target.specs.Model.{is_point, response, message_refusal}
 use Rattle.radio_target.specs.State.{module_state, module_point, radio_stepped}
 
 -- The state of a point is read back as that point.
 abbrev pub PointBack : Type 0
-PointBack = (p : ModulePoint) → module_point (module_state p) ≡ At p
+PointBack = (p : ModulePoint) → module_point (module_state p) ≡ Some p
 
 -- A state that has a point is that point's state: a point has one state only.
 abbrev pub PointState : Type 0
-PointState = (t : RadioTarget) (p : ModulePoint) → module_point t ≡ At p → module_state p ≡ t
+PointState = (t : RadioTarget) (p : ModulePoint) → module_point t ≡ Some p → module_state p ≡ t
 
 -- A message that is taken leaves a module: its point is one that there is, its flash as long as before, and
 -- the reply not longer than a page.

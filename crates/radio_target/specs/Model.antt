@@ -1,7 +1,6 @@
 -- One message to the module: which is refused, and what any other gives and leaves.
-use Rattle.std.specs.Prelude.{Bool, true, cond, ◌&&◌, List, [], ℕ, suc, ◌+◌, ◌-◌, eqb, ltb, leb, length}
-use Rattle.radio_command.specs.declared.NameFound.{NameFound}
-use Rattle.radio_command.specs.declared.NameFound.TheVariants.{Of, Nothing}
+use Rattle.std.specs.Prelude.{Bool, true, cond, ◌&&◌, List, [], ℕ, suc, ◌+◌, ◌-◌, eqb, ltb, leb, length, Option, Some, None}
+use Rattle.radio_command.specs.declared.CommandName.{CommandName}
 use Rattle.numbers.specs.Numbers.{no_point, buffer_too_small}
 use Rattle.radio_command.specs.Numbers.{bad_message}
 use Rattle.radio_command.specs.Command.{message_byte, name_of, command_sum, built}
@@ -12,9 +11,9 @@ use Rattle.radio_flash.specs.Flash.{flash_bytes, flash_page, page_set, changed}
 use Rattle.radio_target.specs.Deeds.{deed, inf_ok, answers_error, err_checksum, err_unknow_cmd}
 
 -- what a command byte with its parameters does; one that is not in the list is not known
-abbrev pub deed_named : NameFound → (p0 p1 p2 : ℕ) → (flash : List ℕ) → Deed
-deed_named (Of n) p0 p1 p2 f = deed n p0 p1 p2 f
-deed_named Nothing p0 p1 p2 f = answers_error err_unknow_cmd
+abbrev pub deed_named : Option CommandName → (p0 p1 p2 : ℕ) → (flash : List ℕ) → Deed
+deed_named (Some n) p0 p1 p2 f = deed n p0 p1 p2 f
+deed_named None p0 p1 p2 f = answers_error err_unknow_cmd
 
 -- what eight bytes with the right head do: the sum is looked at first, then the command
 unfoldable pub commanded : (message flash : List ℕ) → Deed

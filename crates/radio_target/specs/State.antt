@@ -1,10 +1,8 @@
 -- The module's state as plain numbers, and one message to it (document 02, i).
-use Rattle.std.specs.Prelude.{cond, ◌&&◌, List, [], ◌++◌, ℕ, eqb, length, drop}
+use Rattle.std.specs.Prelude.{cond, ◌&&◌, List, [], ◌++◌, ℕ, eqb, length, drop, Option, Some, None}
 use Rattle.numbers.specs.Numbers.{no_point}
 use Rattle.radio_target.specs.declared.ModulePoint.{ModulePoint}
 use Rattle.radio_target.specs.declared.ModulePoint.TheVariants.{Waits, Takes, Loads, Sends}
-use Rattle.radio_target.specs.declared.PointFound.{PointFound}
-use Rattle.radio_target.specs.declared.PointFound.TheVariants.{At, Nowhere}
 use Rattle.radio_target.specs.declared.RadioTarget.{RadioTarget}
 use Rattle.radio_target.specs.declared.RadioReplied.{RadioReplied}
 use Rattle.radio_target.specs.Model.{Response, response, message_refusal}
@@ -20,12 +18,12 @@ module_state (Loads n) = radio_target 2 0 n
 module_state (Sends p n) = radio_target 3 p n
 
 -- the point of a state
-unfoldable pub module_point : RadioTarget → PointFound
+unfoldable pub module_point : RadioTarget → Option ModulePoint
 module_point t =
-    cond (eqb t.point 0) (cond (eqb t.page 0 && eqb t.left 0) (At Waits) Nowhere)
-    (cond (eqb t.point 1) (At (Takes t.page t.left))
-    (cond (eqb t.point 2) (cond (eqb t.page 0) (At (Loads t.left)) Nowhere)
-    (cond (eqb t.point 3) (At (Sends t.page t.left)) Nowhere)))
+    cond (eqb t.point 0) (cond (eqb t.page 0 && eqb t.left 0) (Some Waits) None)
+    (cond (eqb t.point 1) (Some (Takes t.page t.left))
+    (cond (eqb t.point 2) (cond (eqb t.page 0) (Some (Loads t.left)) None)
+    (cond (eqb t.point 3) (Some (Sends t.page t.left)) None)))
 
 -- the state after a reset
 abbrev pub fresh_state : RadioTarget
@@ -45,10 +43,10 @@ radio_refused n t f = record { number = n; reply = []; target = t; flash = f }
 abbrev pub radio_taken : Response → RadioStepped
 radio_taken r = record { number = 0; reply = r.reply; target = module_state r.point; flash = r.flash }
 
-abbrev pub found_stepped : PointFound → RadioTarget → (flash message : List ℕ) → (room : ℕ) → RadioStepped
-found_stepped (At p) t f m room =
+abbrev pub found_stepped : Option ModulePoint → RadioTarget → (flash message : List ℕ) → (room : ℕ) → RadioStepped
+found_stepped (Some p) t f m room =
     let n = message_refusal p f m room in cond (eqb n 0) (radio_taken (response p f m)) (radio_refused n t f)
-found_stepped Nowhere t f m room = radio_refused no_point t f
+found_stepped None t f m room = radio_refused no_point t f
 
 -- one message to a module in this state, with so much room for the reply
 unfoldable pub radio_stepped : RadioTarget → (flash message : List ℕ) → (room : ℕ) → RadioStepped

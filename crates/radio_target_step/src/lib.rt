@@ -7,6 +7,3 @@ mod points;
 mod steps;
 
 pub use steps::{fresh, step};
-
-// The bytes of a command.
-const COMMAND_BYTES: usize = 8;

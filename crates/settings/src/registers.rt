@@ -1,111 +1,68 @@
 // Pairs of register and value: which are accepted, and what a session keeps of them.
-ghost use Rattle.std.specs.Prelude.{◌≡◌, true, cond, ◌&&◌, ◌||◌, eqb};
-ghost use Rattle.settings.specs.Registers.{is_register, are_pairs, tidy, is_tidy};
+ghost use Rattle.std.specs.Prelude.{◌≡◌, ◌≤◌, min, eqb};
+ghost use Rattle.std.specs.List.{list_all};
+ghost use Rattle.settings.specs.Registers.{is_register, named, are_pairs, tidy, is_tidy};
 
 use crate::Pairs;
 
 // The most pairs that settings name.
-const MOST_PAIRS: u8 = 4;
+const MOST_PAIRS: usize = 4;
 
-// Whether a register may be named by a pair, where the pair of this number is named.
-fn may_be_named(named: bool, register: u8, fpdat: u8) -> bool
-    ensures { result ≡ cond named (is_register fpdat register) true }
+// How many entries are named, of those that there are.
+fn named_of(count: u8) -> usize
+    ensures value { result ≡ min count 4 }
+    ensures upper_bound { result ≤ 4 }
 {
-    if named {
-        if register < 3 {
-            return false;
-        }
-        return register != fpdat;
-    }
-    true
+    MOST_PAIRS.min(usize::from(count))
 }
 
-// Whether there are at most four pairs, each of a register that it may name.
-fn entries_fit(fpdat: u8, p: Pairs) -> bool
-    ensures { result ≡ are_pairs fpdat p }
+// Whether each of these is a register that a pair may name.
+fn are_registers(fpdat: u8, registers: &[u8]) -> bool
+    ensures { result ≡ list_all (is_register fpdat) registers.now }
 {
-    let registers = p.registers;
-    if MOST_PAIRS < p.count {
-        return false;
-    }
-    if may_be_named(0 < p.count, registers[0], fpdat) {
-        if may_be_named(1 < p.count, registers[1], fpdat) {
-            if may_be_named(2 < p.count, registers[2], fpdat) {
-                return may_be_named(3 < p.count, registers[3], fpdat);
-            }
-        }
-    }
-    false
+    registers.iter().all(|r| 3 <= *r && *r != fpdat)
 }
 
-// Whether pairs are accepted, of settings or of a modelled target, whose device has this FPDAT address. Most name
-// none, and then no entry is looked at.
+// Whether pairs are accepted, of settings or of a modelled target, whose device has this FPDAT address: at most
+// four, each of a register that it may name.
 pub fn are_pairs(fpdat: u8, p: Pairs) -> bool
     ensures { result ≡ are_pairs fpdat p }
 {
-    if p.count == 0 {
-        return true;
-    }
-    entries_fit(fpdat, p)
+    let count = usize::from(p.count);
+    count <= MOST_PAIRS && are_registers(fpdat, &p.registers[..count])
 }
 
-fn if_named(named: bool, entry: u8) -> u8
-    ensures { result ≡ cond named entry 0 }
+// Entries with 0 for those that are not named.
+fn named(count: u8, mut entries: [u8; MOST_PAIRS]) -> [u8; MOST_PAIRS]
+    ensures { result ≡ named count entries }
 {
-    if named {
-        return entry;
-    }
-    0
+    entries[named_of(count)..].fill(0);
+    entries
 }
 
 // The same pairs with 0 in the entries that are not named.
+#[tactic(auto, unfolding(crate::specs::Registers::tidy))]
 pub fn tidy(p: Pairs) -> Pairs
     ensures { result ≡ tidy p }
 {
-    let count = p.count;
-    let registers = p.registers;
-    let values = p.values;
     Pairs {
-        count: count,
-        registers: [
-            if_named(0 < count, registers[0]),
-            if_named(1 < count, registers[1]),
-            if_named(2 < count, registers[2]),
-            if_named(3 < count, registers[3]),
-        ],
-        values: [
-            if_named(0 < count, values[0]),
-            if_named(1 < count, values[1]),
-            if_named(2 < count, values[2]),
-            if_named(3 < count, values[3]),
-        ],
+        count: p.count,
+        registers: named(p.count, p.registers),
+        values: named(p.count, p.values),
     }
 }
 
-fn named_or_0(named: bool, register: u8, value: u8) -> bool
-    ensures { result ≡ named || (eqb register 0 && eqb value 0) }
+// Whether each entry is 0.
+fn are_zero(entries: &[u8]) -> bool
+    ensures { result ≡ list_all (λ x. eqb x 0) entries.now }
 {
-    if named {
-        return true;
-    }
-    if register == 0 {
-        return value == 0;
-    }
-    false
+    entries.iter().all(|x| *x == 0)
 }
 
 // Whether the entries that are not named are 0.
 pub fn is_tidy(p: Pairs) -> bool
     ensures { result ≡ is_tidy p }
 {
-    let registers = p.registers;
-    let values = p.values;
-    if named_or_0(0 < p.count, registers[0], values[0]) {
-        if named_or_0(1 < p.count, registers[1], values[1]) {
-            if named_or_0(2 < p.count, registers[2], values[2]) {
-                return named_or_0(3 < p.count, registers[3], values[3]);
-            }
-        }
-    }
-    false
+    let from = named_of(p.count);
+    are_zero(&p.registers[from..]) && are_zero(&p.values[from..])
 }

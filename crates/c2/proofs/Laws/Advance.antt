@@ -9,7 +9,7 @@ use Rattle.numbers.specs.Numbers.{bad_record, other_image, no_room}
 use Rattle.c2_wire.specs.Exchange.{Exchange, Outcome, fed, steps, outcome_of}
 use Rattle.c2_session.specs.declared.Session.{Session}
 use Rattle.c2_session.specs.declared.Point.{Point}
-use Rattle.c2_record.specs.declared.Reached.TheVariants.{At}
+use Rattle.std.proofs.Common.{Some}
 use Rattle.c2_record.specs.Record.{Held, Refused, packed, unpacked, reached_in}
 use Rattle.c2_record.specs.Code.Said.{session_beside}
 use Rattle.c2_record.proofs.Laws.Said.{reached_held}
@@ -31,7 +31,7 @@ Leaves r image rs buffer place a b r₁ =
     × ((b ≡ (call_done C2 (taking r image rs buffer place)).steps) × (r₁ ≡ (call_done C2 (taking r image rs buffer place)).held))
 
 -- the session beside the point that was unpacked is the one that the record holds
-pub session_held : (r : List ℕ) (p : Point) → At p ≡ reached_in (unpacked r) → (s : Session) → s ≡ session_beside p r → unpacked r ≡ Held s
+pub session_held : (r : List ℕ) (p : Point) → Some p ≡ reached_in (unpacked r) → (s : Session) → s ≡ session_beside p r → unpacked r ≡ Held s
 session_held r p h s e = reached_held r p h ∙ ap Held (sym e)
 
 module _ (r image rs buffer : List ℕ) (place : ℕ) (a : Advanced) where

@@ -71,10 +71,11 @@ module _ (image replies steps₀ : List ℕ) (s₀ : Session) where
           out = sym (take-append-drop i steps) ∙ rw (w, k.rest);
         }
 
-    pub done : length replies ≤ i → Due image replies steps₀ s₀ steps s i
+    pub done : length replies ≤ i → Due image replies steps₀ s₀ steps s (length replies)
     done h =
         let z : drop i replies ≡ [] = drop_of_length-le replies h in
-        ends (rw z) (rw z)
+        let all : length replies ≡ i = omega (arith, k.small) in
+        rw all (ends (rw z) (rw z))
 
     pub stops : is_running s.point ≡ false → Due image replies steps₀ s₀ steps s i
     stops p = ends (wrote_stops image s (drop i replies) p) (sym (ran_stops image s (drop i replies) p))

@@ -79,10 +79,6 @@ place_by w r t q c v = rw (strobes_are t) (go (dec_lt q (strobes_by t)))
         )
     go (no y) = rw (le-ltb q (strobes_by t) (omega arith))
 
-pub place_is : (w r : ℕ) (t u : Task) (q c v : ℕ) (b : Bool) → t ≡ u → b ≡ below_bounds (strobes_by u) (limit_by w r u q) (sampled_by u q) q c v
-    → b ≡ place_in_range w (reads_in r t) (strobes_in t) q c v
-place_is w r t u q c v b e h = rw e (h ∙ sym (place_by w r u q c v))
-
 -- frames that sample and wait at the same strobes have the same places in range
 same_places : (w r n : ℕ) (ss tt : List Strobe) → length ss ≡ n → length tt ≡ n
     → upto (λ q. count_limit w r (strobe_at ss q)) n ≡ upto (λ q. count_limit w r (strobe_at tt q)) n

@@ -1,4 +1,5 @@
 -- The claims of specs/Claims.antt, each proved under its name.
+use Rattle.std.proofs.Common.{Option, Some, None}
 use mathlib.Core.Path.{◌≡◌, refl, sym, ap, subst, ◌∙◌}
 use mathlib.Core.Bool.{true}
 use mathlib.Core.List.{List, [], ◌∷◌, map}
@@ -14,8 +15,6 @@ use Rattle.c2_order.specs.Conversation.{limits_of}
 use Rattle.c2_session.specs.declared.Point.{Point}
 use Rattle.c2_session.specs.declared.Session.{Session}
 use Rattle.c2_range.specs.Range.{in_range}
-use Rattle.c2_record.specs.declared.Reached.{Reached}
-use Rattle.c2_record.specs.declared.Reached.TheVariants.{At, Nowhere}
 use Rattle.c2_record.specs.Record.{Unpacked, Held, Refused, fields_of, laid, packed, settings_read, fields_read, point_of, session_read, same, checked, taken_apart, unpacked}
 use Rattle.c2_record.specs.Claims.{RecordOf, PackedWhole, PackUnpack, UnpackPack, UnpackedInRange, OneRecord, UnpackedExactly, RefusedExactly}
 use Rattle.c2_record.proofs.Laws.Record.{same_true, packed_length, is_held, a_point}
@@ -58,7 +57,7 @@ pack_unpack s i e =
 -- record
 pub record Taken (s : Session) (r : List ℕ) : Type 0 where
   pub point : Point
-  pub told : At point ≡ point_of (fields_read r)
+  pub told : Some point ≡ point_of (fields_read r)
   pub read : session_read r point ≡ s
   pub ranges : in_range s ≡ true
   pub bytes : packed s ≡ r
@@ -76,11 +75,11 @@ pub taken : (s : Session) (r : List ℕ) → unpacked r ≡ Held s → Taken s r
 unfolding unpacked
 taken s r e = go (point_of (fields_read r)) refl e
   where
-    go : (x : Reached) → x ≡ point_of (fields_read r) → taken_apart x r ≡ Held s → Taken s r
-    go (At p) q h =
+    go : (x : Option Point) → x ≡ point_of (fields_read r) → taken_apart x r ≡ Held s → Taken s r
+    go (Some p) q h =
         let c = checked_held (session_read r p) s r h in
         record { point = p; told = q; read = c.0; ranges = c.1; bytes = c.2 }
-    go Nowhere q h = absurd (let y : ◌≡◌ {A = ℕ} 0 1 = cc in omega arith)
+    go None q h = absurd (let y : ◌≡◌ {A = ℕ} 0 1 = cc in omega arith)
 
 pub unpack_pack : UnpackPack
 unpack_pack s r e = (taken s r e).bytes

@@ -1,4 +1,5 @@
 -- The numbers of a session in range fit their fields of the record, and are read back.
+use Rattle.std.proofs.Common.{Some}
 use mathlib.Core.Path.{◌≡◌, refl, sym, ◌∙◌}
 use mathlib.Core.Bool.{Bool, true, false, cond, ◌&&◌}
 use mathlib.Core.List.{List, [], ◌∷◌}
@@ -24,8 +25,7 @@ use Rattle.c2_session.specs.declared.Session.{Session}
 use Rattle.c2_acts.specs.Code.Acts.{task_of, acts_in}
 use Rattle.c2_range.specs.Range.{pages_in, blocks_in}
 use Rattle.c2_range.specs.Code.Bounds.{strobes_by, limit_by, sampled_from, sampled_by}
-use Rattle.c2_record.specs.declared.Reached.TheVariants.{At}
-use Rattle.c2_record.specs.Record.{Of, stage_code, fields_of, laid, packed, settings_read, fields_read, stage_named, point_of, session_read}
+use Rattle.c2_record.specs.Record.{stage_code, fields_of, laid, packed, settings_read, fields_read, stage_named, point_of, session_read}
 use Rattle.c2_range.specs.Claims.{OpeningPasses, PointExists, OutcomeStands, PointStands}
 use Rattle.c2_range.proofs.Laws.Bounds.{place_by, bounded}
 use Rattle.c2_range.proofs.Laws.Range.{point_is_in_range}
@@ -181,7 +181,7 @@ one_back x h = omega arith
 two_back : (x : ℕ) → x < 65536 → x % 256 + x / 256 % 256 * 256 ≡ x
 two_back x h = omega arith
 
-stage_back : (g : Stage) → stage_named (stage_code g % 256) ≡ Of g
+stage_back : (g : Stage) → stage_named (stage_code g % 256) ≡ Some g
 unfolding stage_named
 stage_back Lead = refl
 stage_back Erase = refl
@@ -192,7 +192,7 @@ stage_back Register = refl
 
 -- the point of a record is read back
 module _ (l : Limits) (small : Small l) (t : Settings) (first pages : ℕ) (o : OpeningFits t first pages) where
-  pub point_back : (p : Point) → PointStands l t.size t.pairs.count pages p → point_of (fields_read (laid t first pages (fields_of p))) ≡ At p
+  pub point_back : (p : Point) → PointStands l t.size t.pairs.count pages p → point_of (fields_read (laid t first pages (fields_of p))) ≡ Some p
   unfolding point_of fields_read laid
   point_back (Running g i j k q c v) x =
       let f = point_fits l small t.size t.pairs.count pages o.size o.few_pairs o.pages_too g i j k q c v x in

@@ -1,4 +1,5 @@
 -- What is read of a record, and when it is taken.
+use Rattle.std.proofs.Common.{Option, Some, None}
 use mathlib.Core.Path.{◌≡◌, refl, sym, ap, ◌∙◌}
 use mathlib.Core.Bool.{true, false}
 use mathlib.Core.List.{List, [], ◌∷◌}
@@ -11,8 +12,6 @@ use Rattle.laws.proofs.Tests.{both, by_test}
 use Rattle.c2_session.specs.declared.Point.{Point}
 use Rattle.c2_session.specs.declared.Session.{Session}
 use Rattle.c2_range.specs.Range.{in_range}
-use Rattle.c2_record.specs.declared.Reached.{Reached}
-use Rattle.c2_record.specs.declared.Reached.TheVariants.{At, Nowhere}
 use Rattle.c2_record.specs.Record.{Unpacked, Held, Refused, laid, packed, fields_read, point_of, session_read, same, checked, taken_apart, unpacked}
 
 pub same_true : (xs ys : List ℕ) → same xs ys ≡ true → xs ≡ ys
@@ -52,14 +51,14 @@ module _ (r : List ℕ) where
   unfolding unpacked
   not_32_bytes n = go (point_of (fields_read r))
     where
-      go : (x : Reached) → Refused ≡ taken_apart x r
-      go (At p) = not_its_record (session_read r p) r (λ e. n (sym (ap length e) ∙ packed_length (session_read r p)))
-      go Nowhere = refl
+      go : (x : Option Point) → Refused ≡ taken_apart x r
+      go (Some p) = not_its_record (session_read r p) r (λ e. n (sym (ap length e) ∙ packed_length (session_read r p)))
+      go None = refl
 
-  pub no_point : Nowhere ≡ point_of (fields_read r) → Refused ≡ unpacked r
+  pub no_point : None ≡ point_of (fields_read r) → Refused ≡ unpacked r
   unfolding unpacked
   no_point e = rw (← e)
 
-  pub a_point : (p : Point) (x : Unpacked) → At p ≡ point_of (fields_read r) → x ≡ checked (session_read r p) r → x ≡ unpacked r
+  pub a_point : (p : Point) (x : Unpacked) → Some p ≡ point_of (fields_read r) → x ≡ checked (session_read r p) r → x ≡ unpacked r
   unfolding unpacked
   a_point p x e h = rw (← e) h

@@ -1,4 +1,5 @@
 -- A session that was read from a record packs to it exactly where the bytes not in use are 0.
+use Rattle.std.proofs.Common.{Option, Some, None}
 use mathlib.Core.Path.{◌≡◌, refl, sym, ap, ◌∙◌}
 use mathlib.Core.Bool.{Bool, true, false, cond, true≢false}
 use mathlib.Core.List.{List}
@@ -16,22 +17,21 @@ use Rattle.c2_session.specs.declared.Point.{Point}
 use Rattle.c2_session.specs.declared.Point.TheVariants.{Running, Ended}
 use Rattle.c2_session.specs.declared.Session.{Session}
 use Rattle.c2_range.specs.Range.{in_range}
-use Rattle.c2_record.specs.declared.Reached.TheVariants.{At}
-use Rattle.c2_record.specs.Record.{Named, Of, Nothing, Unpacked, Held, Refused, stage_code, fields_of, laid, packed, byte, two_bytes, settings_read, fields_read, stage_named, running_at, point_of, session_read, same, checked, unpacked}
+use Rattle.c2_record.specs.Record.{Unpacked, Held, Refused, stage_code, fields_of, laid, packed, byte, two_bytes, settings_read, fields_read, stage_named, running_at, point_of, session_read, same, checked, unpacked}
 use Rattle.c2_record.specs.Code.Spare.{four, all_zero, unused, spare}
 use Rattle.c2_record.proofs.Laws.Record.{same_is, same_not, a_point}
 use Rattle.c2_record.proofs.Laws.Fields.{one_back}
 
 -- the stage of a byte is packed to that byte
-stage_read : (n : ℕ) (g : Stage) → Of g ≡ stage_named n → stage_code g ≡ n
+stage_read : (n : ℕ) (g : Stage) → Some g ≡ stage_named n → stage_code g ≡ n
 unfolding stage_named
 stage_read n g e =
     this 0 Lead _ refl (this 1 Erase _ refl (this 2 Write _ refl (this 3 Read _ refl (this 4 Close _ refl (this 5 Register _ refl (λ h. absurd (let z : ◌≡◌ {A = ℕ} 0 1 = cc in omega arith))))))) e
   where
-    this : (k : ℕ) (h : Stage) (x : Named) → stage_code h ≡ k → (Of g ≡ x → stage_code g ≡ n) → Of g ≡ cond (eqb n k) (Of h) x → stage_code g ≡ n
+    this : (k : ℕ) (h : Stage) (x : Option Stage) → stage_code h ≡ k → (Some g ≡ x → stage_code g ≡ n) → Some g ≡ cond (eqb n k) (Some h) x → stage_code g ≡ n
     this k h x s next e =
         by_test (eqb n k)
-        (λ p. let d : Of g ≡ Of h = rw p at e in let q : g ≡ h = cc in rw q (s ∙ sym (eqb-true n k p)))
+        (λ p. let d : Some g ≡ Some h = rw p at e in let q : g ≡ h = cc in rw q (s ∙ sym (eqb-true n k p)))
         (λ p. next (rw p at e))
 
 -- a pair of bytes is packed to them
@@ -71,16 +71,16 @@ ended_read r = Ended (byte r 7) (two_bytes r 8)
 
 pub by_point : (r : List ℕ) (C : Point → Type 0)
     → ((g : Stage) → byte r 7 ≡ 0 → stage_code g ≡ byte r 10 → C (running_read r g)) → ((byte r 7 ≡ 0 → ⊥) → C (ended_read r))
-    → (p : Point) → At p ≡ point_of (fields_read r) → C p
+    → (p : Point) → Some p ≡ point_of (fields_read r) → C p
 unfolding point_of fields_read
 by_point r C runs ended p e =
     by_test (eqb (byte r 7) 0)
     (λ t. runs_at (stage_named (byte r 10)) refl (eqb-true (byte r 7) 0 t) (rw t at e))
-    (λ t. let h : At p ≡ At (ended_read r) = rw t at e in let q : ended_read r ≡ p = cc in rw (← q) (ended (eqb-false (byte r 7) 0 t)))
+    (λ t. let h : Some p ≡ Some (ended_read r) = rw t at e in let q : ended_read r ≡ p = cc in rw (← q) (ended (eqb-false (byte r 7) 0 t)))
   where
-    runs_at : (x : Named) → x ≡ stage_named (byte r 10) → byte r 7 ≡ 0 → At p ≡ running_at x (fields_read r) → C p
-    runs_at (Of g) s z h = let q : running_read r g ≡ p = cc in rw (← q) (runs g z (stage_read (byte r 10) g s))
-    runs_at Nothing s z h = absurd (let y : ◌≡◌ {A = ℕ} 0 1 = cc in omega arith)
+    runs_at : (x : Option Stage) → x ≡ stage_named (byte r 10) → byte r 7 ≡ 0 → Some p ≡ running_at x (fields_read r) → C p
+    runs_at (Some g) s z h = let q : running_read r g ≡ p = cc in rw (← q) (runs g z (stage_read (byte r 10) g s))
+    runs_at None s z h = absurd (let y : ◌≡◌ {A = ℕ} 0 1 = cc in omega arith)
 
 -- settings, pages and fields that were read are packed to their bytes, and to 0 behind them
 fills : (r : List ℕ) → length r ≡ 32 → ((i : ℕ) → byte r i < 256) → spare r ≡ true → laid (settings_read r) (byte r 5) (byte r 6) (fields_read r) ≡ r
@@ -183,7 +183,7 @@ module _ (r : List ℕ) (n : length r ≡ 32) (b : (i : ℕ) → byte r i < 256)
       (λ e. let at = byte_again (session_read r (ended_read r)) r e in rw (d, zeros_pass r 10 (at 10, at 11, at 12, at 13, at 14, at 15, at 16, at 17)))
 
   -- A session that was read is unpacked where the code's tests pass.
-  pub as_checked : (p : Point) (x : Unpacked) → At p ≡ point_of (fields_read r) → x ≡ checked_by (session_read r p) r → x ≡ unpacked r
+  pub as_checked : (p : Point) (x : Unpacked) → Some p ≡ point_of (fields_read r) → x ≡ checked_by (session_read r p) r → x ≡ unpacked r
   unfolding checked checked_by
   as_checked p x e h =
       let s : Session = session_read r p in

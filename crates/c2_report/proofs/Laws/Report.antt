@@ -8,7 +8,9 @@ use borrow.Author.Tests.{ne_eqb, lt-ltb, le-ltb, le-leb, ltb-false}
 use lib.Dec.{ltb}
 use lib.ListN.{length, replicate}
 use Rattle.laws.proofs.Tests.{by_test}
-use Rattle.numbers.specs.Numbers.{past_last_page, done}
+use Rattle.numbers.specs.declared.Refusal.{Refusal}
+use Rattle.numbers.specs.Numbers.{past_last_page, done, refusal_number}
+use Rattle.numbers.proofs.Refused.{refused}
 use Rattle.laws.specs.Bytes.{Bytes}
 use Rattle.c2_wire.specs.Exchange.{Outcome, outcome_of}
 use Rattle.settings.specs.Accepted.{is_fpdat, is_page_size, is_page_count, settings_refusal}
@@ -45,10 +47,10 @@ module _ (image : List ℕ) where
     unfolding image_refusal
     as_opening = rw (le-ltb 16384 (length image) short)
 
-    pub reports_refused : (n : ℕ) → n ≡ opening_refusal program_device 0 (length image) → (n ≡ 0 → ⊥)
-        → reported image ≡ record { pages = 0; replies = 0; outcome = n }
+    pub reports_refused : (e : Refusal) → refusal_number e ≡ opening_refusal program_device 0 (length image)
+        → reported image ≡ record { pages = 0; replies = 0; outcome = refusal_number e }
     unfolding reported
-    reports_refused n e h = rw (as_opening, sym e, ne_eqb n 0 h)
+    reports_refused e h = let z = refused e in rw (as_opening, sym h, ne_eqb (refusal_number e) 0 (λ q. omega arith))
 
     module _ (bytes : Bytes image) (accepted : opening_refusal program_device 0 (length image) ≡ 0) where
       opening : Opening program_device 0 image

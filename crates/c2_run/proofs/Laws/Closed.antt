@@ -10,7 +10,11 @@ use borrow.Author.Tests.{ne_eqb}
 use lib.Dec.{eqb}
 use lib.ListN.{length}
 use Rattle.laws.proofs.Tests.{by_test}
-use Rattle.numbers.specs.Numbers.{no_point}
+use Rattle.std.proofs.Common.{Result, Ok, Err, IfOk}
+use Rattle.numbers.specs.declared.Refusal.{Refusal}
+use Rattle.numbers.specs.Numbers.{no_point, refusal_number}
+use Rattle.numbers.specs.Numbers
+use Rattle.numbers.proofs.Refused.{refused}
 use Rattle.laws.specs.Bytes.{Bytes}
 use Rattle.c2_wire.specs.Step.{Step}
 use Rattle.c2_wire.specs.Field.{Field}
@@ -39,7 +43,9 @@ use Rattle.c2_opening.proofs.Laws.Opened.{started_is, begins_lent, begins_so}
 use Rattle.c2_opening.proofs.Laws.Follows.{Lent, lent_advances, still_asks, ended_over, outcome_now}
 use Rattle.c2_target_step.specs.Code.Closed.{Closed, closed, from_start, first_refusal, closed_run}
 use Rattle.c2_run.specs.Run.{run_refusal, run, run_answer, run_flash}
+use Rattle.c2_target_step.specs.declared.Ran.{Ran}
 use Rattle.c2_run.specs.declared.Run.{Run}
+use Rattle.c2_run.specs.Code.{answered}
 
 -- the exchange played and the session and target step by step stand at the same
 pub record Same (image : List ℕ) (i : ℕ) (p : Played) (c : Closed) : Type 0 where
@@ -104,7 +110,7 @@ abbrev pub Leaves : Settings → (first : ℕ) → (image flash delays : List �
 Leaves t first image f ds n a f₁ = (a ≡ run_answer t first image f ds n) × (f₁ ≡ run_flash t first image f ds n)
 
 module _ (t : Settings) (first : ℕ) (image f ds : List ℕ) (n k : ℕ) (tested : k ≡ opening_refusal t first (length image)) where
-  pub refuses_opening : (k ≡ 0 → ⊥) → (a : Run) → a ≡ record { number = k; offset = 0; replies = 0; collision = false } → Leaves t first image f ds n a f
+  refuses_opening : (k ≡ 0 → ⊥) → (a : Run) → a ≡ record { number = k; offset = 0; replies = 0; collision = false } → Leaves t first image f ds n a f
   unfolding run_answer run_flash run_refusal
   refuses_opening differs a d = rw (sym tested, ne_eqb k 0 differs, ne_eqb k 0 differs) (d, refl)
 
@@ -131,7 +137,7 @@ module _ (t : Settings) (first : ℕ) (image f ds : List ℕ) (n k : ℕ) (teste
         let z : cond (eqb (first_refusal t f) 0) n 0 ≡ 0 = rw (sym asked, ne_eqb m 0 differs) in
         ap (λ (b : ℕ). (closed b 0 t ds image (from_start s) fresh f).flash) z
 
-    pub refuses_flash : (m ≡ 0 → ⊥) → (f₁ : List ℕ) → f₁ ≡ left → (a : Run) → a ≡ record { number = m; offset = 0; replies = 0; collision = false }
+    refuses_flash : (m ≡ 0 → ⊥) → (f₁ : List ℕ) → f₁ ≡ left → (a : Run) → a ≡ record { number = m; offset = 0; replies = 0; collision = false }
         → Leaves t first image f ds n a f₁
     unfolding run_answer run_flash run_refusal
     refuses_flash differs f₁ ef a d =
@@ -164,7 +170,7 @@ module _ (t : Settings) (first : ℕ) (image f ds : List ℕ) (n k : ℕ) (teste
           ap (λ (b : ℕ). closed b 0 t ds image (from_start s) fresh f) all
           ∙ ap (λ (x : Session). closed n 0 t ds image (from_start x) fresh f) so
 
-      pub accepts : m ≡ 0 → (p : Point) (y : ℕ) (c : Bool) (f₁ : List ℕ)
+      accepts : m ≡ 0 → (p : Point) (y : ℕ) (c : Bool) (f₁ : List ℕ)
           → p ≡ (closed_run n t s ds image f).session.point → y ≡ (closed_run n t s ds image f).replies → c ≡ (closed_run n t s ds image f).target.collision → f₁ ≡ left
           → (a : Run) → a ≡ record { number = number_of p; offset = offset_of p; replies = y; collision = c }
           → Leaves t first image f ds n a f₁
@@ -182,3 +188,20 @@ module _ (t : Settings) (first : ℕ) (image f ds : List ℕ) (n k : ℕ) (teste
             ef ∙ ap (λ (x : Closed). x.flash) is ∙ sym run_is.flash,
           ))
           (λ e. absurd (let w : ◌≡◌ {A = ℕ} no_point 0 = sym (rw e at by_length) ∙ z in omega arith))
+
+-- a refused opening, and an accepted one that is played as far as it goes
+module _ (t : Settings) (first : ℕ) (image f ds : List ℕ) (n : ℕ) where
+  pub opening_refused : (e : Refusal) → refusal_number e ≡ opening_refusal t first (length image) → Leaves t first image f ds n (answered (Err e)) f
+  opening_refused e tested = let z = refused e in refuses_opening t first image f ds n _ tested (λ q. omega arith) _ refl
+
+  module _ (tested : 0 ≡ opening_refusal t first (length image)) (s : Session) (begun : s ≡ started t first (length image)) (i : t.id < 256) (b : Bytes image) where
+    pub plays : (r : Result Ran Refusal) → Numbers.number_of r ≡ first_refusal t f
+        → IfOk r (λ x. x.point ≡ (closed_run n t s ds image f).session.point)
+        → IfOk r (λ x. x.replies ≡ (closed_run n t s ds image f).replies)
+        → IfOk r (λ x. x.collision ≡ (closed_run n t s ds image f).target.collision)
+        → (f₁ : List ℕ) → f₁ ≡ (closed_run n t s ds image f).flash → Leaves t first image f ds n (answered r) f₁
+    plays (Ok x) asked point replies collision f₁ e =
+        accepts t first image f ds n 0 tested refl s begun 0 asked i b refl x.point x.replies x.collision f₁ point replies collision e _ refl
+    plays (Err d) asked point replies collision f₁ e =
+        let z = refused d in
+        refuses_flash t first image f ds n 0 tested refl s begun (refusal_number d) asked (λ q. omega arith) f₁ e _ refl

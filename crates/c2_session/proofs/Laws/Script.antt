@@ -2,10 +2,9 @@
 use mathlib.Core.Path.{◌≡◌, refl, ap, ◌∙◌}
 use mathlib.Core.Bool.{Bool, true, false, cond}
 use mathlib.Core.List.{List}
-use Prim.Native.Nat.{ℕ, ◌%◌, ◌<◌, ◌≤◌}
+use Prim.Native.Nat.{ℕ, ◌%◌, ◌<◌}
 use native.Mathlib.Omega.{arith}
-use borrow.Author.Tests.{ne_eqb, lt-ltb, le-ltb}
-use lib.Dec.{eqb, ltb, leb}
+use lib.Dec.{eqb, leb}
 use lib.ListN.{get_or, replicate, get_or-replicate}
 use Rattle.c2_wire.specs.Frames.{frame}
 use Rattle.c2_wire.specs.Place.{step_at, followed}
@@ -17,54 +16,10 @@ use Rattle.c2_wire.specs.declared.Moved.TheVariants.{Stopped}
 use Rattle.c2_wire.proofs.Laws.Script.{Codes, codes_of, code_from, kept_small, step_by_code, follows_by_code, followed_any_byte}
 use Rattle.c2_acts.specs.declared.Task.{Task}
 use Rattle.c2_acts.specs.declared.Task.TheVariants.{Reset, Pause, Address, Send, Input, Output, Ident, Status, Compare}
-use Rattle.c2_acts.specs.Code.Acts.{lead_task, put_task, erase_task, write_task, read_task, register_task}
 use Rattle.c2_session.specs.declared.At.{At}
 use Rattle.c2_session.specs.declared.Session.{Session}
 use Rattle.c2_session.specs.Code.Step.{alone, task_frame, task_byte, task_step}
 use Rattle.c2_session.specs.Code.Script.{task_codes, script_at}
-
--- acts that stand in a frame
-framed : (b : Bool) (x y : Task) → alone x ≡ 0 → alone y ≡ 0 → alone (cond b x y) ≡ 0
-framed true x y e f = e
-framed false x y e f = f
-
-put_framed : (k : ℕ) → alone (put_task k) ≡ 0
-put_framed k = framed (eqb (k % 2) 1) Send Input refl refl
-
-pub lead_framed : (k : ℕ) → (k ≡ 0 → ⊥) → (k ≡ 2 → ⊥) → k < 7 → alone (lead_task k) ≡ 0
-lead_framed k a b c =
-    rw (ne_eqb k 0 a, ne_eqb k 2 b, lt-ltb k 7 c) (framed (eqb k 1) Ident (cond (eqb k 3) Address Send) refl (framed (eqb k 3) Address Send refl refl))
-
-pub lead_pauses : (k : ℕ) → 7 ≤ k → alone (lead_task k) ≡ 5
-lead_pauses k h =
-    rw (
-      ne_eqb k 0 (λ e. omega arith),
-      ne_eqb k 1 (λ e. omega arith),
-      ne_eqb k 2 (λ e. omega arith),
-      ne_eqb k 3 (λ e. omega arith),
-      le-ltb k 7 h,
-    )
-
-pub erase_framed : (k : ℕ) → alone (erase_task k) ≡ 0
-erase_framed k =
-    framed (eqb k 0) Address _ refl
-    (framed (eqb (k % 4) 1) Send _ refl (framed (eqb (k % 4) 2) Input _ refl (framed (eqb (k % 4) 3) Output Status refl refl)))
-
-pub register_framed : (k : ℕ) → alone (register_task k) ≡ 0
-register_framed k = framed (eqb k 0) Address Send refl refl
-
-pub write_framed : (k : ℕ) → alone (write_task k) ≡ 0
-write_framed k =
-    framed (eqb k 0) Address _ refl
-    (framed (eqb k 3) Output _ refl
-    (framed (eqb k 4) Status _ refl (framed (ltb k 523) (put_task k) _ (put_framed k) (framed (eqb k 523) Output Status refl refl))))
-
-pub read_framed : (k : ℕ) → alone (read_task k) ≡ 0
-read_framed k =
-    framed (eqb k 0) Address _ refl
-    (framed (eqb k 3) Output _ refl
-    (framed (eqb k 4) Status _ refl
-    (framed (ltb k 11) (put_task k) _ (put_framed k) (framed (eqb (k % 2) 1) Output _ refl (framed (eqb k 12) Status Compare refl refl)))))
 
 -- the codes of an act are sixteen, each of four bits
 same_codes : (n : ℕ) → n < 16 → Codes (replicate 16 n)

@@ -10,16 +10,10 @@ use Rattle.c2_session.specs.declared.At.{At}
 use Rattle.c2_session.specs.declared.Point.{Point}
 use Rattle.c2_session.specs.declared.Point.TheVariants.{Running, Ended}
 use Rattle.c2_session.specs.declared.Session.{Session}
-use Rattle.c2_session.specs.declared.Way.{Way}
 use Rattle.c2_acts.specs.Code.Acts.{acts_in}
 
 abbrev pub act_at : Stage → (page block act : ℕ) → At
 act_at stage page block act = record { stage = stage; page = page; block = block; act = act }
-
--- the point that its numbers side by side say
-unfoldable pub way_point : Way → Point
-way_point w =
-    cond w.ended (Ended w.number w.offset) (Running w.stage w.page w.block w.act w.strobe w.count w.bits)
 
 -- the point of a running session, from its act and its place
 abbrev pub strobe_point : At → Place → Point

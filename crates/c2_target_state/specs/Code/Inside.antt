@@ -1,6 +1,6 @@
 -- For the code: a strobe inside a frame, which changes nothing of the device. `kept_inside` of
 -- proofs/Laws/Inside is the law that its numbers stay.
-use Rattle.std.specs.Prelude.{Bool, false, cond, ℕ, ltb}
+use Rattle.std.specs.Prelude.{Bool, ◌&&◌, ℕ, ltb}
 use Rattle.c2_wire.specs.Bits.{bit}
 use Rattle.c2_target.specs.declared.Target.{Target}
 use Rattle.c2_target_state.specs.declared.State.{State}
@@ -8,7 +8,7 @@ use Rattle.c2_target_state.specs.State.{point_fields}
 
 -- whether a step at this point is a strobe inside a frame, after its START and before its STOP
 unfoldable pub is_inside : (point step : ℕ) → Bool
-is_inside p x = cond (ltb x 4) (cond (ltb 0 p) (ltb p 10) false) false
+is_inside p x = ltb x 4 && (ltb 0 p && ltb p 10)
 
 -- the state of a target that has the device of this state's
 unfoldable pub point_moved : State → Target → State

@@ -1,12 +1,9 @@
 -- Only a put changes the flash.
-use mathlib.Core.Path.{◌≡◌, refl, sym, ap, ◌∙◌}
+use mathlib.Core.Path.{◌≡◌, refl, sym, ◌∙◌}
 use mathlib.Core.Bool.{Bool, true, false}
-use mathlib.Core.List.{List, ◌++◌}
-use Prim.Native.Nat.{ℕ, ◌+◌, ◌-◌, ◌*◌, ◌≤◌}
-use native.Mathlib.Omega.{arith}
-use borrow.Rule.Slice.PartMut.{put_mid, mid_of, mid_len, Post-is}
-use lib.Dec.{eqb, ltb}
-use lib.ListN.{length, take, replicate}
+use mathlib.Core.List.{List}
+use Prim.Native.Nat.{ℕ}
+use lib.Dec.{eqb}
 use Rattle.laws.proofs.Tests.{by_test}
 use Rattle.c2_wire.specs.Step.{Step}
 use Rattle.settings.specs.declared.Settings.{Settings}
@@ -19,26 +16,16 @@ use Rattle.c2_target.specs.declared.Point.TheVariants.{Start, Ins, WriteLength, 
 use Rattle.c2_target.specs.declared.Device.{Device}
 use Rattle.c2_target.specs.declared.Target.{Target}
 use Rattle.c2_target.specs.Delays.{Setup}
-use Rattle.c2_target.specs.Commands.{erased, opens, takes_put}
+use Rattle.c2_target.specs.Commands.{opens, takes_put}
 use Rattle.c2_target.specs.Interface.{out_ready, linked, put_byte, get_byte, prepared, frame_does}
 use Rattle.c2_target.specs.Strobes.{strobed_at}
 use Rattle.c2_target_step.specs.Code.Parts.{effect_flash, strobe_flash}
 
 -- the first byte of a command changes no flash
-pub opens_keeps : (ready : Bool) (b : ℕ) (f : List ℕ) → (opens ready b f).flash ≡ f
+opens_keeps : (ready : Bool) (b : ℕ) (f : List ℕ) → (opens ready b f).flash ≡ f
 unfolding opens
 opens_keeps ready b f =
     by_test (eqb b 0x08) (λ e. rw e) (λ e. rw e (by_test (eqb b 0x07) (λ e. rw e) (λ e. rw e (by_test (eqb b 0x06) (λ e. rw e) (λ e. rw e)))))
-
--- the page of an erase (`page_keeps`) and the length code of a block (`length_keeps`) change no flash
-pub page_keeps : (s : Settings) (ready : Bool) (b : ℕ) (f : List ℕ) → (takes_put s ready ErasePage b f).flash ≡ f
-unfolding takes_put
-page_keeps s ready b f = by_test (ltb b s.count) (λ e. rw e) (λ e. rw e)
-
-pub length_keeps : (s : Settings) (ready w : Bool) (a b : ℕ) (f : List ℕ) → (takes_put s ready (LengthCode w a) b f).flash ≡ f
-unfolding takes_put
-length_keeps s ready true a b f = refl
-length_keeps s ready false a b f = refl
 
 -- what a byte put makes of the flash, the device may be prepared or not
 put_alike : (s : Settings) (ready : Bool) (c : Command) (b : ℕ) (f : List ℕ) → (takes_put s ready c b f).flash ≡ (takes_put s true c b f).flash
@@ -52,17 +39,6 @@ put_alike s ready (LengthCode true a) b f = refl
 put_alike s ready (LengthCode false a) b f = refl
 put_alike s ready (Byte a n) b f = refl
 put_alike s ready (PastEnd n) b f = refl
-
--- a part that is filled is a page erased
-pub filled_page : (size p : ℕ) (f ys : List ℕ) → p * size + size ≤ length f → ys ≡ replicate (length (mid_of (p * size) (p * size + size - p * size) f)) 0xff
-    → put_mid (p * size) (p * size + size - p * size) f ys ≡ erased size p f
-unfolding erased
-filled_page size p f ys h q =
-    let a = p * size in
-    let l : a ≤ a + size = omega arith in
-    let w : a + size - a ≡ size = omega arith in
-    ap (λ (y : List ℕ). put_mid a (a + size - a) f y) (q ∙ ap (λ (m : ℕ). replicate m 0xff) (mid_len a (a + size) f h ∙ w))
-    ∙ ap (λ (z : List ℕ). take a f ++ (replicate size 0xff ++ z)) (Post-is a (a + size) f l)
 
 -- a read keeps the flash
 get_keeps : (u : Setup) (d : Device) (p : ℕ) (f : List ℕ) → (get_byte u d.link p f).flash ≡ f

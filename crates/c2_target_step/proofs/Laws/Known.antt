@@ -1,15 +1,13 @@
 -- What the tests of a state say of its numbers.
 use mathlib.Core.Path.{◌≡◌}
 use mathlib.Core.Bool.{true, ◌&&◌}
-use Prim.Native.Nat.{ℕ, suc, ◌+◌, ◌*◌, ◌^◌, ◌<◌, ◌≤◌}
-use native.Mathlib.Nat.{mul-le-mul_right}
+use Prim.Native.Nat.{ℕ, ◌+◌, ◌^◌, ◌<◌, ◌≤◌}
 use native.Mathlib.Omega.{arith}
 use borrow.Author.Tests.{ltb-true, leb-true}
-use lib.Dec.{ltb, leb}
+use lib.Dec.{leb}
 use Rattle.laws.proofs.Tests.{both}
 use Rattle.c2_wire.proofs.Laws.Bits.{weight_small}
-use Rattle.c2_target.specs.declared.Link.{Link}
-use Rattle.c2_target.specs.Known.{hearing, is_byte, is_count, known_block, known_command, known_output, known_link}
+use Rattle.c2_target.specs.Known.{hearing, is_byte, is_count, known_block}
 use Rattle.c2_target.proofs.Laws.KnownPoint.{hearing_says}
 
 -- fewer than eight bits heard, and their value is a byte
@@ -29,15 +27,3 @@ unfolding known_block is_count
 block_says end a n e =
     let h = both (leb 1 n && leb n 256) (leb (a + n) end) e in
     (leb-true 1 n (both (leb 1 n) (leb n 256) h.0).0, leb-true (a + n) end h.1)
-
--- a page of the device lies in the flash
-pub page_says : (size count p end : ℕ) → ltb p count ≡ true → end ≡ size * count → p * size + size ≤ end
-page_says size count p end e h = let k : suc p * size ≤ count * size = mul-le-mul_right size (ltb-true p count e) in omega arith
-
-pub link_command : (count end : ℕ) (l : Link) → known_link count end l ≡ true → known_command count end l.command ≡ true
-unfolding known_link
-link_command count end l e = (both (known_command count end l.command) _ e).0
-
-pub link_output : (count end : ℕ) (l : Link) → known_link count end l ≡ true → known_output end l.output ≡ true
-unfolding known_link
-link_output count end l e = (both (known_output end l.output) _ (both (known_command count end l.command) _ e).1).0

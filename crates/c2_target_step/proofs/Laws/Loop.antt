@@ -25,9 +25,14 @@ use Rattle.c2_session.specs.Code.Run.{runner_advanced, runner_step}
 use Rattle.c2_session.proofs.Laws.Run.{Knows, Ready, goes_on_ready, runner_goes, session_of, session_goes, session_waits}
 use Rattle.c2_outcome.specs.Outcome.{is_running}
 use Rattle.c2_target.specs.declared.Target.{Target}
-use Rattle.c2_target.specs.declared.Replied.{Replied}
+use Rattle.c2_target.specs.declared.Turned.{Turned}
+use Rattle.c2_wire.specs.Bits.{bit}
+use mir.Val.{bool_byte}
+use Rattle.numbers.specs.declared.Refusal.{Refusal}
+use Rattle.numbers.specs.Numbers.{refusal_number}
+use Rattle.numbers.proofs.Refused.{refused}
 use Rattle.c2_target.specs.Delays.{setup}
-use Rattle.c2_target.specs.Target.{fresh, is_step, setup_refusal, answer, flash_after}
+use Rattle.c2_target.specs.Target.{fresh, is_step, setup_refusal, Replied, answer, flash_after}
 use Rattle.c2_target.proofs.Laws.Known.{Lent}
 use Rattle.c2_target.proofs.Laws.Steps.{is_step_code, not_refused, Lasts, answer_lasts}
 use Rattle.c2_target_step.specs.Code.Closed.{stops_at, closed, from_start, first_refusal, closed_run}
@@ -88,46 +93,60 @@ module _ (t : Settings) (start : Session) (image f₀ ds : List ℕ) (budget : �
         go zero = refl
         go (suc m) = rw p
 
+-- a bit as the byte that a session is given
+bit_byte : (b : Bool) → bool_byte b ≡ bit b % 256
+unfolding bit
+bit_byte true = refl
+bit_byte false = refl
+
 -- a turn of the loop with a runner, where the target exists
 pub goes_running : (t : Settings) (start : Session) (image f₀ ds : List ℕ) (budget : ℕ) (f : List ℕ) (r : Runner) (y : Target) (n : ℕ)
     → Sofar t start image f₀ ds budget f (session_of start r) y n → Lent (setup t no_pairs ds) → setup_refusal (setup t no_pairs ds) ≡ 0
     → Lasts (setup t no_pairs ds) y f → Knows start image r
-    → n < budget → is_running r.point ≡ true → (x : ℕ) → x ≡ runner_step r → (a : Replied) (f₁ : List ℕ) → Stepped (setup t no_pairs ds) y f x a f₁
-    → length f₁ ≡ length f → (v : ℕ) → v ≡ a.reply % 256
+    → n < budget → is_running r.point ≡ true → (x : ℕ) → x ≡ runner_step r → (a : Turned) (f₁ : List ℕ) → Stepped (setup t no_pairs ds) y f x a f₁
+    → length f₁ ≡ length f → (v : ℕ) → v ≡ bool_byte a.reply
     → (r₁ : Runner) → r₁ ≡ runner_advanced start r v image
     → Sofar t start image f₀ ds budget f₁ (session_of start r₁) a.target (n + 1) × (Knows start image r₁ × Lasts (setup t no_pairs ds) a.target f₁)
 goes_running t start image f₀ ds budget f r y n k lent accepted lasts m h run x ex a f₁ ea l v ev r₁ er =
     let u = setup t no_pairs ds in
     let passes = not_refused u y f x accepted lasts.exists (runner_is_step start image r m x ex) in
-    let on = is_accepted u y f x 0 (sym passes) refl a f₁ ea in
+    let on = is_accepted u y f x passes a f₁ ea in
+    let reply : v ≡ (answer u y f x).reply % 256 = ev ∙ bit_byte a.reply ∙ ap (λ (r : Replied). r.reply % 256) on.0 in
+    let after : a.target ≡ (answer u y f x).target = ap (λ (r : Replied). r.target) on.0 in
     let asked : x ≡ session_step (session_of start r) image = ex ∙ session_waits start image r m in
     let ready : Ready start image r = goes_on_ready start image r m in
     let e : session_of start r₁ ≡ advanced (session_of start r) v image = ap (session_of start) er ∙ session_goes start image r v ready in
     let knows : Knows start image r₁ = rw er (runner_goes start image r v ready).1 in (
-      rw (e, ev, on.0, on.1, asked) (goes t start image f₀ ds budget f (session_of start r) y n k h run (rw (on.1, asked) at l)),
-      (knows, rw (on.0, on.1) (answer_lasts u lent y f x lasts)),
+      rw (e, reply, after, on.1, asked) (goes t start image f₀ ds budget f (session_of start r) y n k h run (rw (on.1, asked) at l)),
+      (knows, rw (after, on.1) (answer_lasts u lent y f x lasts)),
     )
 
--- What `play` gives and leaves: where the first step is refused (`plays_nothing`), where the session has ended
--- (`plays_out`), and where the budget is spent (`plays_on`).
-abbrev Plays : (budget : ℕ) → Settings → Session → (delays image flash : List ℕ) → (number : ℕ) → Point → (replies : ℕ) → (collision : Bool) → (flash₁ : List ℕ) → Type 0
-Plays n t s ds image f k p i c f₁ =
+-- where the first step is refused nothing is played
+pub plays_nothing : (t : Settings) (start : Session) (image f₀ ds : List ℕ) (budget : ℕ) (e : Refusal) → refusal_number e ≡ first_refusal t f₀
+    → closed_run budget t start ds image f₀ ≡ stops_at 0 (from_start start) fresh f₀
+unfolding closed_run closed
+plays_nothing t start image f₀ ds budget e tested =
+    let z : first_refusal t f₀ ≡ 0 → ⊥ = λ h. omega (arith, refused e, tested, h) in rw (ne_eqb _ 0 z)
+
+-- What `play` gives and leaves where the session has ended (`plays_out`), and where the budget is spent
+-- (`plays_on`).
+abbrev Plays : (budget : ℕ) → Settings → Session → (delays image flash : List ℕ) → Point → (replies : ℕ) → (collision : Bool) → (flash₁ : List ℕ) → Type 0
+Plays n t s ds image f p i c f₁ =
     let x = closed_run n t s ds image f in
-    (k ≡ first_refusal t f) × ((p ≡ x.session.point) × ((i ≡ x.replies) × ((c ≡ x.target.collision) × (f₁ ≡ x.flash))))
+    (p ≡ x.session.point) × ((i ≡ x.replies) × ((c ≡ x.target.collision) × (f₁ ≡ x.flash)))
 
-module _ (t : Settings) (start : Session) (image f₀ ds : List ℕ) (budget k : ℕ) (tested : k ≡ first_refusal t f₀) where
-  pub plays_nothing : (k ≡ 0 → ⊥) → Plays budget t start ds image f₀ k (from_start start).point 0 false f₀
-  unfolding closed_run closed fresh
-  plays_nothing h = (tested, rw (sym tested, ne_eqb k 0 h) (refl, (refl, (refl, refl))))
-
-  module _ (passed : k ≡ 0) (f : List ℕ) (s : Session) (y : Target) (n : ℕ) (so : Sofar t start image f₀ ds budget f s y n) where
+module _ (t : Settings) (start : Session) (image f₀ ds : List ℕ) (budget : ℕ) (passed : first_refusal t f₀ ≡ 0) where
+  module _ (f : List ℕ) (s : Session) (y : Target) (n : ℕ) (so : Sofar t start image f₀ ds budget f s y n) where
     left_at : closed budget 0 t ds image (from_start start) fresh f₀ ≡ stops_at n s y f
-        → Plays budget t start ds image f₀ 0 s.point n y.collision f
+        → Plays budget t start ds image f₀ s.point n y.collision f
     unfolding closed_run
-    left_at e = let z : first_refusal t f₀ ≡ 0 = sym tested ∙ passed in (sym z, rw (z, e) (refl, (refl, (refl, refl))))
+    left_at e = rw (passed, e) (refl, (refl, (refl, refl)))
 
-    pub plays_on : budget ≤ n → Plays budget t start ds image f₀ 0 s.point n y.collision f
-    plays_on h = left_at (done t start image f₀ ds budget f s y n so h)
+    pub plays_on : budget ≤ n → Plays budget t start ds image f₀ s.point budget y.collision f
+    plays_on h =
+        let e : n ≡ budget = omega (arith, so.small) in
+        let so_far = left_at (done t start image f₀ ds budget f s y n so h) in
+        (so_far.0, (sym e ∙ so_far.1.0, so_far.1.1))
 
-    pub plays_out : is_running s.point ≡ false → Plays budget t start ds image f₀ 0 s.point n y.collision f
+    pub plays_out : is_running s.point ≡ false → Plays budget t start ds image f₀ s.point n y.collision f
     plays_out h = left_at (stops t start image f₀ ds budget f s y n so h)

@@ -1,8 +1,6 @@
 -- For the code, which gives reply and target and writes the flash apart: parts of what the definitions give.
--- `is_strobe` and `still_is` of proofs/Laws/Target and `strobed_flash` of proofs/Laws/Flash join them to the
--- definitions.
-use Rattle.std.specs.Prelude.{true, cond, List, ℕ, eqb}
-use Rattle.c2_wire.specs.Bits.{bit}
+-- The contract of `stepped` (src/steps.rt) and `strobed_flash` of proofs/Laws/Flash join them to the definitions.
+use Rattle.std.specs.Prelude.{Bool, true, cond, List, ℕ, eqb}
 use Rattle.settings.specs.declared.Settings.{Settings}
 use Rattle.c2_target.specs.declared.Effect.{Effect}
 use Rattle.c2_target.specs.declared.Effect.TheVariants.{Nothing, SetAddress, Write, CountDown, Read}
@@ -10,32 +8,39 @@ use Rattle.c2_target.specs.declared.Point.{Point}
 use Rattle.c2_target.specs.declared.Point.TheVariants.{Start, Ins, WriteLength, ReadLength, Address, Data, LongData, Wait, Waiting, Send, Stop}
 use Rattle.c2_target.specs.declared.Device.{Device}
 use Rattle.c2_target.specs.declared.Target.{Target}
-use Rattle.c2_target.specs.declared.Replied.{Replied}
-use Rattle.c2_target_step.specs.declared.Taking.{Taking}
+use Rattle.c2_target.specs.declared.Command.{Command}
+use Rattle.c2_target.specs.declared.Output.{Output}
+use Rattle.c2_target.specs.declared.Turned.{Turned}
+use Rattle.c2_target_step.specs.declared.Lent.{Lent}
+use Rattle.c2_target.specs.Delays.{Setup, setup}
 use Rattle.c2_target.specs.Commands.{PutTaken, takes_put}
 use Rattle.c2_target.specs.Interface.{Acted, linked}
 use Rattle.c2_target.specs.Strobes.{target, Turn}
 use Rattle.c2_target.specs.Target.{after_reset, after_pause}
 
+-- what the target is lent
+abbrev pub lent : Lent → Setup
+lent u = setup u.t u.wanted u.delays.now
+
 -- what a step gives that is not refused
-abbrev pub replying : (reply : ℕ) → Target → Replied
-replying r t = record { number = 0; reply = r; target = t }
+abbrev pub replying : (reply : Bool) → Target → Turned
+replying r t = record { reply = r; target = t }
 
 -- what a strobe gives that is not refused
-abbrev pub turn_replied : Turn → Replied
-turn_replied r = replying (bit r.reply) r.target
+abbrev pub turn_replied : Turn → Turned
+turn_replied r = replying r.reply r.target
 
 -- what a step gives that is no strobe
-abbrev pub still : Target → (step : ℕ) → Replied
-still t x = replying 1 (cond (eqb x 4) (after_reset t) (cond (eqb x 5) (after_pause t) t))
+abbrev pub still : Target → (step : ℕ) → Turned
+still t x = replying true (cond (eqb x 4) (after_reset t) (cond (eqb x 5) (after_pause t) t))
 
 -- the target after a frame's STOP
 abbrev pub stopped : Target → Acted → Target
 stopped t a = target Start a.place t.collision a.device
 
 -- what a byte put makes of the command and of the output
-abbrev pub put_taking : PutTaken → Taking
-put_taking r = record { command = r.command; output = r.output }
+abbrev pub put_taking : PutTaken → Command × Output
+put_taking r = (r.command, r.output)
 
 -- The flash after a frame's STOP, by what the frame does: only a put changes it, whether the device is
 -- prepared or not.

@@ -22,8 +22,7 @@ use Rattle.c2_target.specs.Known.{known}
 use Rattle.c2_target.specs.Target.{is_step, setup_refusal, step_refusal, answer}
 use Rattle.c2_target_state.specs.declared.State.{State}
 use Rattle.c2_target_state.specs.declared.ModelReplied.{ModelReplied}
-use Rattle.c2_target_state.specs.declared.Seen.{Seen}
-use Rattle.c2_target_state.specs.declared.Seen.TheVariants.{Held, Nothing}
+use Rattle.std.specs.Prelude.{Option, Some, None}
 use Rattle.c2_target_state.specs.State.{state_of, target_of}
 use Rattle.c2_target_state.specs.Model.{no_target, held_answer, seen_answer}
 use Rattle.c2_target_state.proofs.Laws.Claims.{has_state, steps_alike}
@@ -73,8 +72,8 @@ pub stands : (t : Settings) (b : Bench) → Ready t b → Stands t b
 unfolding seen_answer held_answer answer state_of
 stands t b r = go (target_of b.target) refl r.steps
   where
-    go : (x : Seen) → target_of b.target ≡ x → (seen_answer t b.wanted x b.target b.flash b.delays (code off)).number ≡ 0 → Stands t b
-    go (Held y) h e =
+    go : (x : Option Target) → target_of b.target ≡ x → (seen_answer t b.wanted x b.target b.flash b.delays (code off)).number ≡ 0 → Stands t b
+    go (Some y) h e =
         let same : b.target ≡ state_of y = sym (has_state y b.target h) in
         let ok : step_refusal (setup t b.wanted b.delays) y b.flash (code off) ≡ 0 =
         by_test (eqb (step_refusal (setup t b.wanted b.delays) y b.flash (code off)) 0) (λ p. eqb-true _ 0 p) (λ p. absurd (eqb-false _ 0 p (rw (p, p) at e))) in
@@ -94,7 +93,7 @@ stands t b r = go (target_of b.target) refl r.steps
                 reads = omega arith;
               };
         }
-    go Nothing h e = absurd (no_target_refuses t b.wanted e)
+    go None h e = absurd (no_target_refuses t b.wanted e)
 
 -- the bench of a target
 abbrev pub bench : (wanted : Pairs) → (delays : List ℕ) → Target → (flash : List ℕ) → Bench

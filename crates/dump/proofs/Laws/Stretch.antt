@@ -7,16 +7,13 @@ use native.Mathlib.Omega.{arith}
 use native.Mathlib.Decide.{dec_lt}
 use lib.ListN.{take, drop, get_or}
 use lib.Seq.{get_or-take, get_or-drop}
-use Rattle.dump.specs.Code.Stretch.{Equal, Differing, DifferenceAt, Passed}
+use Rattle.dump.specs.Code.Stretch.{Equal}
 
 pub every_more : (P : ℕ → Type 0) (from i : ℕ) → ((k : ℕ) → from ≤ k → k < i → P k) → P i → (k : ℕ) → from ≤ k → k < i + 1 → P k
 every_more P from i f p k h l = by_cases (dec_lt k i) (λ y. f k h y) (λ n. let e : k ≡ i = omega arith in rw e p)
 
 pub equal_more : (a b : List ℕ) (from i : ℕ) → Equal a b from i → get_or a i 0 ≡ get_or b i 0 → Equal a b from (i + 1)
 equal_more a b from i f p = every_more (λ k. get_or a k 0 ≡ get_or b k 0) from i f p
-
-pub differing_more : (a b : List ℕ) (from i : ℕ) → Differing a b from i → (get_or a i 0 ≡ get_or b i 0 → ⊥) → Differing a b from (i + 1)
-differing_more a b from i f p = every_more (λ k. get_or a k 0 ≡ get_or b k 0 → ⊥) from i f p
 
 -- a part that is equal as a whole
 pub equal_part : (a b : List ℕ) (from i n : ℕ) → Equal a b from i → take (i + n - i) (drop i a) ≡ take (i + n - i) (drop i b)
@@ -35,14 +32,3 @@ equal_part a b from i n f e k h l = by_cases (dec_lt k i) (λ y. f k h y) here
 -- Equal stretches in a row are one; so the first difference behind them is the first one of all.
 pub equal_join : (a b : List ℕ) (from to next : ℕ) → Equal a b from to → Equal a b to next → Equal a b from next
 equal_join a b from to next f g k h l = by_cases (dec_lt k to) (λ y. f k h y) (λ y. g k (omega arith) l)
-
-pub near_found : (a b : List ℕ) (from end last p : ℕ) → DifferenceAt a b from end p → p < end → end ≤ last → DifferenceAt a b from last p
-near_found a b from end last p d h l = record { since = d.since; within = omega arith; equal = d.equal; found = λ _. d.found h }
-
-pub far_found : (a b : List ℕ) (from end p q last r : ℕ) → DifferenceAt a b from end p → end ≤ p → Passed a b end q
-    → DifferenceAt a b q last r → DifferenceAt a b from last r
-far_found a b from end p q last r d h e f =
-    let o : p ≡ end = omega arith in
-    let near : Equal a b from end = rw o at d.equal in
-    let far = equal_join a b end q r e.equal f.equal in
-    record { since = omega arith; within = f.within; equal = equal_join a b from end r near far; found = f.found }

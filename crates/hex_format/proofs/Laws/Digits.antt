@@ -1,60 +1,13 @@
 -- Laws of digits and of the bytes that they stand for.
 use mathlib.Core.Path.{◌≡◌, refl, ap}
-use mathlib.Core.Bool.{Bool, true, false, ◌&&◌}
 use mathlib.Core.List.{List, [], ◌∷◌}
-use Prim.Native.Nat.{ℕ, zero, suc, ◌+◌, ◌*◌, ◌≤◌, ◌<◌}
+use Prim.Native.Nat.{ℕ, zero, suc, ◌+◌, ◌*◌, ◌<◌}
 use native.Mathlib.Omega.{arith}
-use native.Mathlib.Numerals.{add-one}
-use borrow.Author.Tests.{lt-ltb, le-ltb}
-use lib.Dec.{ltb}
-use lib.ListN.{length, get_or, drop}
-use lib.Seq.{drop-cons}
+use lib.ListN.{length, get_or}
 use Rattle.laws.specs.Bytes.{Bytes}
-use Rattle.hex_format.specs.Digits.{digit, all_digits, octet, octets}
+use Rattle.hex_format.specs.Digits.{digit, octet, octets}
 
--- the next two of a row of digits are digits
-pub digits_more : (s : List ℕ) (i : ℕ) → i + 1 < length s → digit (get_or s i 0) < 16 → digit (get_or s (i + 1) 0) < 16
-    → all_digits (drop i s) ≡ all_digits (drop (i + 2) s)
-unfolding all_digits
-digits_more s i h d e =
-    let p : i < length s = omega arith in
-    let q : suc i < length s = omega arith in
-    let t : i + 2 ≡ suc (suc i) = omega arith in
-    let f : digit (get_or s (suc i) 0) < 16 = rw (add-one i) at e in
-    rw (t, drop-cons s i 0 p, drop-cons s (suc i) 0 q, lt-ltb _ _ d, lt-ltb _ _ f)
-
--- one of the next two is none
-pub digits_stop : (s : List ℕ) (i : ℕ) → i < length s → 16 ≤ digit (get_or s i 0) → false ≡ all_digits (drop i s)
-unfolding all_digits
-digits_stop s i h d = rw (drop-cons s i 0 h, le-ltb _ _ d)
-
-second : (a b : Bool) → b ≡ false → false ≡ a && b
-second true b e = rw e
-second false b e = refl
-
-pub digits_stop_low : (s : List ℕ) (i : ℕ) → i + 1 < length s → 16 ≤ digit (get_or s (i + 1) 0) → false ≡ all_digits (drop i s)
-unfolding all_digits
-digits_stop_low s i h d =
-    let p : i < length s = omega arith in
-    let q : suc i < length s = omega arith in
-    let f : 16 ≤ digit (get_or s (suc i) 0) = rw (add-one i) at d in
-    rw (drop-cons s i 0 p, drop-cons s (suc i) 0 q, le-ltb _ _ f) (second (ltb (digit (get_or s i 0)) 16) false refl)
-
--- the byte of two more digits
-pub octets_more : (s : List ℕ) (i : ℕ) → i + 1 < length s → octets (drop i s) ≡ octet (get_or s i 0) (get_or s (i + 1) 0) ∷ octets (drop (i + 2) s)
-unfolding octets
-octets_more s i h =
-    let p : i < length s = omega arith in
-    let q : suc i < length s = omega arith in
-    let t : i + 2 ≡ suc (suc i) = omega arith in
-    rw (t, add-one i, drop-cons s i 0 p, drop-cons s (suc i) 0 q)
-
-pub octets_none : (s : List ℕ) → length s < 2 → octets s ≡ []
-unfolding octets
-octets_none [] h = refl
-octets_none (a ∷ []) h = refl
-octets_none (a ∷ b ∷ s) h = absurd (omega arith)
-
+-- the bytes of digits: how many, and each by its place
 pub octets_length : (s : List ℕ) (n : ℕ) → length s ≡ 2 * n → length (octets s) ≡ n
 unfolding octets
 octets_length [] n h = omega arith

@@ -8,7 +8,9 @@ use native.Mathlib.Omega.{arith}
 use native.Mathlib.Decide.{dec_le, dec_lt}
 use lib.ListN.{length, get_or, take, drop, replicate, length-append, length-replicate, get_or-append, get_or-eq_default}
 use lib.Seq.{sets, length-sets, get_or_at}
-use Rattle.hex_format.specs.declared.Line.TheVariants.{Bad, Data, Last}
+use Rattle.std.specs.Prelude.{Ok, Err}
+use Rattle.numbers.specs.declared.Refusal.TheVariants.{BadLine}
+use Rattle.hex_format.specs.declared.Record.TheVariants.{Data, Last}
 use Rattle.hex_format.specs.Lines.{is_line, judged_line, data_of}
 use Rattle.hex_format.specs.Reading.{unset, all_unset, line_taken}
 use Rattle.hex_format.specs.Claims.{SetsByte, Ended}
@@ -17,15 +19,15 @@ use Rattle.hex_format.proofs.Laws.Steps as Steps
 use Rattle.hex_format.proofs.Laws.Steps.{Placed, in_place, accepted}
 
 -- an empty line covers nothing and ends nothing
-empty_line : (flash : ℕ) → judged_line flash [] ≡ Bad 20
+empty_line : (flash : ℕ) → judged_line flash [] ≡ Err BadLine
 unfolding judged_line is_line
 empty_line flash = refl
 
 pub none_covers : (flash k b : ℕ) → SetsByte flash [] k b → ⊥
-none_covers flash k b c = let z : Bad 20 ≡ Data c.a c.n = sym (empty_line flash) ∙ c.line in let y : ◌≡◌ {A = ℕ} 0 1 = cc in omega arith
+none_covers flash k b c = let z : Err BadLine ≡ Ok (Data c.a c.n) = sym (empty_line flash) ∙ c.line in let y : ◌≡◌ {A = ℕ} 0 1 = cc in omega arith
 
-none_ends : (flash : ℕ) → judged_line flash [] ≡ Last → ⊥
-none_ends flash e = let z : Bad 20 ≡ Last = sym (empty_line flash) ∙ e in let y : ◌≡◌ {A = ℕ} 0 1 = cc in omega arith
+none_ends : (flash : ℕ) → judged_line flash [] ≡ Ok Last → ⊥
+none_ends flash e = let z : Err BadLine ≡ Ok Last = sym (empty_line flash) ∙ e in let y : ◌≡◌ {A = ℕ} 0 1 = cc in omega arith
 
 -- a line behind others
 abbrev Lines : Type 0
@@ -54,10 +56,10 @@ split flash before l i k b c = go (dec_lt i (length before)) (dec_lt (length bef
         let e : i ≡ length before = omega arith in
         inr (e, rw (e, at_new before l) at c)
 
-split_end : (flash : ℕ) (before : Lines) (l : List ℕ) → Ended flash (before ++ (l ∷ [])) → Ended flash before ⊎ (judged_line flash l ≡ Last)
+split_end : (flash : ℕ) (before : Lines) (l : List ℕ) → Ended flash (before ++ (l ∷ [])) → Ended flash before ⊎ (judged_line flash l ≡ Ok Last)
 split_end flash before l e = go (dec_lt e.i (length before)) (dec_lt (length before) e.i)
   where
-    go : Dec (e.i < length before) → Dec (length before < e.i) → Ended flash before ⊎ (judged_line flash l ≡ Last)
+    go : Dec (e.i < length before) → Dec (length before < e.i) → Ended flash before ⊎ (judged_line flash l ≡ Ok Last)
     go (yes y) z = inl (record { i = e.i; line = rw (at_old before l e.i y) at e.line })
     go (no y) (yes z) = absurd (none_ends flash (rw (past_new before l e.i z) at e.line))
     go (no y) (no z) = let q : e.i ≡ length before = omega arith in inr (rw (q, at_new before l) at e.line)
@@ -101,14 +103,14 @@ history_none flash =
 
 -- a record of data more
 module _ (flash : ℕ) (before : List (List ℕ)) (cells l : List ℕ) (h : History flash before false cells) (a n : ℕ)
-    (j : judged_line (length cells) l ≡ Data a n) (free : all_unset (take n (drop a cells)) ≡ true) where
+    (j : judged_line (length cells) l ≡ Ok (Data a n)) (free : all_unset (take n (drop a cells)) ≡ true) where
   abbrev later : List ℕ
   later = sets cells a (data_of l)
 
   p : Placed cells l a n
   p = in_place cells l a n j
 
-  same : judged_line flash l ≡ Data a n
+  same : judged_line flash l ≡ Ok (Data a n)
   same = ap (λ x. judged_line x l) (sym h.size) ∙ j
 
   none : (d : List ℕ) (k : ℕ) → length d ≡ 0 → cell (sets cells a d) k ≡ cell cells k
@@ -149,7 +151,7 @@ module _ (flash : ℕ) (before : List (List ℕ)) (cells l : List ℕ) (h : Hist
 
   mine : (k b : ℕ) → SetsByte flash l k b → Mine k b
   mine k b c =
-      let e : Data c.a c.n ≡ Data a n = sym c.line ∙ same in
+      let e : Ok (Data c.a c.n) ≡ Ok (Data a n) = sym c.line ∙ same in
       let x : c.a ≡ a = cc in
       let y : c.n ≡ n = cc in
       record { low = rw x at c.from; high = rw (x, y) at c.below; value = rw x at c.byte }
@@ -192,8 +194,8 @@ module _ (flash : ℕ) (before : List (List ℕ)) (cells l : List ℕ) (h : Hist
         once = λ i j k b d c e. only i j k b d (split flash before l i k b c) (split flash before l j k d e);
       }
     where
-      last : judged_line flash l ≡ Last → ⊥
-      last q = let z : Last ≡ Data a n = sym q ∙ same in let y : ◌≡◌ {A = ℕ} 0 1 = cc in omega arith
+      last : judged_line flash l ≡ Ok Last → ⊥
+      last q = let z : Ok Last ≡ Ok (Data a n) = sym q ∙ same in let y : ◌≡◌ {A = ℕ} 0 1 = cc in omega arith
 
       old : (i k b : ℕ) → SetsByte flash (get_or before i []) k b → cell later k ≡ b
       old i k b o =
@@ -218,7 +220,7 @@ module _ (flash : ℕ) (before : List (List ℕ)) (cells l : List ℕ) (h : Hist
       only i j k b d (inr o) (inr q) = o.0 ∙ sym q.0
 
 -- the end record more
-pub history_last : (flash : ℕ) (before : List (List ℕ)) (cells l : List ℕ) → History flash before false cells → judged_line (length cells) l ≡ Last
+pub history_last : (flash : ℕ) (before : List (List ℕ)) (cells l : List ℕ) → History flash before false cells → judged_line (length cells) l ≡ Ok Last
     → History flash (before ++ (l ∷ [])) true cells
 history_last flash before cells l h j =
     record {
@@ -231,11 +233,11 @@ history_last flash before cells l h j =
       once = λ i j k b d c e. only i j k b d (split flash before l i k b c) (split flash before l j k d e);
     }
   where
-    same : judged_line flash l ≡ Last
+    same : judged_line flash l ≡ Ok Last
     same = ap (λ x. judged_line x l) (sym h.size) ∙ j
 
     not_mine : (k b : ℕ) → SetsByte flash l k b → ⊥
-    not_mine k b c = let z : Last ≡ Data c.a c.n = sym same ∙ c.line in let y : ◌≡◌ {A = ℕ} 0 1 = cc in omega arith
+    not_mine k b c = let z : Ok Last ≡ Ok (Data c.a c.n) = sym same ∙ c.line in let y : ◌≡◌ {A = ℕ} 0 1 = cc in omega arith
 
     only : (i j k b d : ℕ) → ((i < length before) × SetsByte flash (get_or before i []) k b) ⊎ ((i ≡ length before) × SetsByte flash l k b)
         → ((j < length before) × SetsByte flash (get_or before j []) k d) ⊎ ((j ≡ length before) × SetsByte flash l k d) → i ≡ j

@@ -1,19 +1,20 @@
 -- Laws of the fold over a file's lines: one line more, the end, and what an accepted line was.
 use mathlib.Core.Path.{◌≡◌, refl, sym, ap, ◌∙◌}
-use mathlib.Core.Bool.{Bool, true, false, cond, ◌&&◌, ◌||◌}
+use mathlib.Core.Bool.{Bool, true, false, cond}
 use mathlib.Core.List.{List, [], ◌∷◌}
 use mathlib.Core.Logic.{◌⊎◌, inl, inr, ⊎_elim}
-use Prim.Native.Nat.{ℕ, ◌+◌, ◌*◌, ◌≤◌, ◌<◌}
+use Prim.Native.Nat.{ℕ, ◌+◌, ◌*◌, ◌≤◌}
 use native.Mathlib.Omega.{arith}
 use native.Mathlib.Decide.{dec_le}
 use borrow.Author.Tests.{ne_eqb, eqb-true, eq-eqb}
-use lib.Dec.{eqb, leb}
+use lib.Dec.{eqb}
 use lib.ListN.{length, take, drop, length-drop}
 use lib.Seq.{sets, length-sets, length-take-le}
-use Rattle.hex_format.specs.declared.Line.{Line}
-use Rattle.hex_format.specs.declared.Line.TheVariants.{Bad, Data, Last}
+use Rattle.std.specs.Prelude.{Ok, Err}
+use Rattle.numbers.proofs.Refused.{refused}
+use Rattle.hex_format.specs.declared.Record.TheVariants.{Data, Last}
 use Rattle.laws.specs.Bytes.{Bytes}
-use Rattle.hex_format.specs.Lines.{count, is_line, adds_up, address, kind, data_of, kinded, judged_line}
+use Rattle.hex_format.specs.Lines.{count, is_line, address, data_of, Line, judged_line}
 use Rattle.hex_format.specs.Reading.{unset, all_unset, LineTaken, took, placed, taken_as, line_taken, LinesTaken, ended_with, lines_taken}
 use Rattle.hex_format.proofs.Laws.Digits.{octets_length, octets_bytes}
 use Rattle.hex_format.proofs.Laws.Lines.{held, long_line}
@@ -46,59 +47,38 @@ step_stop before number ended next cells later l ls e n =
 pub record Stored (cells l : List ℕ) (t : LineTaken) : Type 0 where
   pub a : ℕ
   pub n : ℕ
-  pub line : judged_line (length cells) l ≡ Data a n
+  pub line : judged_line (length cells) l ≡ Ok (Data a n)
   pub free : all_unset (take n (drop a cells)) ≡ true
   pub gives : t ≡ took 0 false (sets cells a (data_of l))
 
 pub record Ended (cells l : List ℕ) (t : LineTaken) : Type 0 where
-  pub line : judged_line (length cells) l ≡ Last
+  pub line : judged_line (length cells) l ≡ Ok Last
   pub gives : t ≡ took 0 true cells
-
-positive : (t : Bool) (x y : Line) (k : ℕ) → cond t x y ≡ Bad k → (x ≡ Bad k → 0 < k) → (y ≡ Bad k → 0 < k) → 0 < k
-positive true x y k e f g = f e
-positive false x y k e f g = g e
-
--- a number by which a line is refused is not 0
-bad_number : (j k : ℕ) → 0 < j → Bad j ≡ Bad k → 0 < k
-bad_number j k h e = let p : j ≡ k = cc in omega arith
-
-pub judged_number : (flash : ℕ) (l : List ℕ) (k : ℕ) → judged_line flash l ≡ Bad k → 0 < k
-unfolding judged_line kinded
-judged_number flash l k e =
-    positive (is_line l) _ (Bad 20) k e
-    (λ p. positive (adds_up l) _ (Bad 21) k p
-    (λ q. positive (eqb (kind l) 0) _ _ k q
-    (λ r. positive (eqb (count l) 0 || leb (address l + count l) flash) (Data (address l) (count l)) (Bad 22) k r
-    (λ d. absurd (let z : ◌≡◌ {A = ℕ} 0 1 = cc in omega arith)) (bad_number 22 k (omega arith)))
-    (λ r. positive (eqb (kind l) 1 && (eqb (count l) 0 && eqb (address l) 0)) Last (Bad 22) k r
-    (λ d. absurd (let z : ◌≡◌ {A = ℕ} 0 1 = cc in omega arith)) (bad_number 22 k (omega arith))))
-    (bad_number 21 k (omega arith)))
-    (bad_number 20 k (omega arith))
 
 pub accepted : (ended : Bool) (cells l : List ℕ) → (line_taken ended cells l).number ≡ 0
     → (ended ≡ false) × (Stored cells l (line_taken ended cells l) ⊎ Ended cells l (line_taken ended cells l))
 unfolding line_taken taken_as placed
 accepted ended cells l e = go (judged_line (length cells) l) refl e
   where
-    data_line : (ended : Bool) (a n : ℕ) (u : Bool) → judged_line (length cells) l ≡ Data a n → all_unset (take n (drop a cells)) ≡ u
+    data_line : (ended : Bool) (a n : ℕ) (u : Bool) → judged_line (length cells) l ≡ Ok (Data a n) → all_unset (take n (drop a cells)) ≡ u
         → (cond u (cond ended (took 24 ended cells) (took 0 ended (sets cells a (data_of l)))) (took 23 ended cells)).number ≡ 0
         → (ended ≡ false) × Stored cells l (cond u (cond ended (took 24 ended cells) (took 0 ended (sets cells a (data_of l)))) (took 23 ended cells))
     data_line true a n true j f z = absurd (omega arith)
     data_line false a n true j f z = (refl, record { a = a; n = n; line = j; free = f; gives = refl })
     data_line ended a n false j f z = absurd (omega arith)
 
-    last_line : (ended : Bool) → judged_line (length cells) l ≡ Last → ◌≡◌ {A = ℕ} (cond ended 24 0) 0
+    last_line : (ended : Bool) → judged_line (length cells) l ≡ Ok Last → ◌≡◌ {A = ℕ} (cond ended 24 0) 0
         → (ended ≡ false) × Ended cells l (took (cond ended 24 0) true cells)
     last_line true j z = absurd (omega arith)
     last_line false j z = (refl, record { line = j; gives = refl })
 
     go : (j : Line) → judged_line (length cells) l ≡ j → (taken_as ended cells l j).number ≡ 0
         → (ended ≡ false) × (Stored cells l (taken_as ended cells l j) ⊎ Ended cells l (taken_as ended cells l j))
-    go (Bad k) p z = absurd (let h = judged_number (length cells) l k p in omega arith)
-    go (Data a n) p z =
+    go (Err k) p z = absurd (let h = refused k in omega arith)
+    go (Ok (Data a n)) p z =
         let r = data_line ended a n (all_unset (take n (drop a cells))) p refl z in
         (r.0, inl r.1)
-    go Last p z = let r = last_line ended p z in (r.0, inr r.1)
+    go (Ok Last) p z = let r = last_line ended p z in (r.0, inr r.1)
 
 -- the data of a record: as many bytes as it counts, in the flash
 pub record Placed (cells l : List ℕ) (a n : ℕ) : Type 0 where
@@ -109,7 +89,7 @@ pub record Placed (cells l : List ℕ) (a n : ℕ) : Type 0 where
   pub bytes : Bytes (data_of l)
   pub room : (n ≡ 0 → ⊥) → a + n ≤ length cells
 
-pub in_place : (cells l : List ℕ) (a n : ℕ) → judged_line (length cells) l ≡ Data a n → Placed cells l a n
+pub in_place : (cells l : List ℕ) (a n : ℕ) → judged_line (length cells) l ≡ Ok (Data a n) → Placed cells l a n
 unfolding data_of
 in_place cells l a n e =
     let h = held (length cells) l a n e in

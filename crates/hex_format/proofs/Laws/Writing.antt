@@ -12,7 +12,8 @@ use lib.ListN.{length, take, drop, set, length-append, length-drop, take-append-
 use lib.Seq.{take_at, drop_at, sets, length-sets, drop-set-lt, length-take-le, drop-drop}
 use Rattle.laws.proofs.Tests.{both}
 use Rattle.laws.proofs.Below.{same_below}
-use Rattle.hex_format.specs.declared.Line.TheVariants.{Data}
+use Rattle.std.specs.Prelude.{Ok}
+use Rattle.hex_format.specs.declared.Record.TheVariants.{Data}
 use Rattle.laws.specs.Bytes.{Bytes}
 use Rattle.hex_format.specs.Digits.{digit, all_digits, octet, octets, upper, text}
 use Rattle.hex_format.specs.Lines.{sum, is_end, count, digits, is_line, adds_up, kind, address, data_of, kinded, judged_line}
@@ -148,7 +149,7 @@ lines_of s r =
     rw (append_assoc t (10 ∷ []) r) (lines_cut (58 ∷ t) r ((λ e. absurd (omega arith)), text_plain (s ++ (checksum s ∷ []))))
 
 -- a data line, judged and taken
-pub data_judged : (flash a : ℕ) (bs : List ℕ) → length bs ≡ 16 → a + 16 ≤ flash → flash ≤ 65536 → Bytes bs → judged_line flash (data_line a bs) ≡ Data a 16
+pub data_judged : (flash a : ℕ) (bs : List ℕ) → length bs ≡ 16 → a + 16 ≤ flash → flash ≤ 65536 → Bytes bs → judged_line flash (data_line a bs) ≡ Ok (Data a 16)
 unfolding data_line line_of kinded
 data_judged flash a bs long fits small all =
     let h : a / 256 < 256 = omega arith in

@@ -1,15 +1,16 @@
 -- Laws of a line at the front of a file: what the code finds there is the file's first line.
-use Rattle.std.proofs.Common.{◌≡◌, ℕ, zero, suc, ◌+◌, ◌-◌, ◌*◌, ◌%◌, ◌<◌, ◌≤◌, Bool, true, false, cond, ◌&&◌, eqb, ltb, List, [], ◌∷◌, ◌++◌, length, get_or, take, drop, sym, refl, ap, ◌∙◌, arith, length-append, length-drop, take-append-drop, drop_of_length-le, length-take-le, get_or-drop, take_all, get_or-take, ltb-true, eq-eqb, ne_eqb, eqb-true}
+use Rattle.std.proofs.Common.{◌≡◌, ℕ, zero, suc, ◌+◌, ◌-◌, ◌*◌, ◌%◌, ◌<◌, ◌≤◌, Bool, true, false, cond, ◌&&◌, eqb, ltb, List, [], ◌∷◌, ◌++◌, length, get_or, take, drop, sym, refl, ap, ◌∙◌, arith, length-drop, take-append-drop, drop_of_length-le, length-take-le, get_or-drop, take_all, get_or-take, ltb-true, eq-eqb, ne_eqb, eqb-true}
 use native.Mathlib.Decide.{dec_lt}
 use lib.ListN.{get_or-append}
 use lib.Seq.{take-append-le, drop-append-le}
 use Rattle.laws.proofs.Tests.{both, by_test}
-use Rattle.hex_format.specs.declared.Line.TheVariants.{Bad}
+use Rattle.std.specs.Prelude.{Err}
+use Rattle.numbers.specs.declared.Refusal.TheVariants.{BadLine, BadChecksum}
 use Rattle.hex_format.specs.Digits.{digit, all_digits, octets}
 use Rattle.hex_format.specs.Lines.{colon, lf, cr, is_end, count, digits, is_line, sum, adds_up, address, kind, data_of, kinded, judged_line}
 use Rattle.hex_format.specs.Reading.{joined_line, lines}
 use Rattle.hex_format.proofs.Laws.Lines.{long_line}
-use Rattle.hex_line.specs.Code.Shape.{first_line, weighed, line_end, ended_by, shaped, judgement, judgement_at}
+use Rattle.hex_line.specs.Code.Shape.{first_line, line_end, ended_by, shaped, judgement, judgement_at}
 
 -- a file's first line is cut off its front
 pub lines_first : (b : ℕ) (s : List ℕ) → lines (b ∷ s) ≡ first_line (b ∷ s) ∷ lines (drop (length (first_line (b ∷ s))) (b ∷ s))
@@ -292,14 +293,14 @@ shaped_is s = by_test (is_line (first_line s)) (λ e. rw e (first_shaped s e)) (
         (λ p. rw p)
 
 -- the line end, test by test
-pub end_none : (s : List ℕ) → length s ≡ 0 → 0 ≡ line_end s
+pub end_none : (s : List ℕ) → length s < 1 → line_end s ≡ 0
 unfolding line_end
 end_none [] h = refl
 end_none (a ∷ s) h = absurd (omega arith)
 
-pub end_lf : (s : List ℕ) → (length s ≡ 0 → ⊥) → get_or s 0 0 ≡ lf → 1 ≡ line_end s
+pub end_lf : (s : List ℕ) → 1 ≤ length s → get_or s 0 0 ≡ lf → line_end s ≡ 1
 unfolding line_end
-end_lf [] h e = absurd (h refl)
+end_lf [] h e = absurd (omega arith)
 end_lf (a ∷ s) h e = rw (eq-eqb a lf e)
 
 pub end_small : (s : List ℕ) → line_end s ≤ 2
@@ -312,41 +313,34 @@ end_small (a ∷ s) = pick (eqb a lf) (eqb a cr && eqb (get_or s 0 0) lf)
     pick false true = omega arith
     pick false false = omega arith
 
-no_lf : (t : Bool) → ◌≡◌ {A = ℕ} 0 (cond (t && false) 2 0)
+no_lf : (t : Bool) → ◌≡◌ {A = ℕ} (cond (t && false) 2 0) 0
 no_lf true = refl
 no_lf false = refl
 
-pub end_short : (s : List ℕ) → length s ≡ 1 → (get_or s 0 0 ≡ lf → ⊥) → 0 ≡ line_end s
+pub end_short : (s : List ℕ) → length s < 2 → (get_or s 0 0 ≡ lf → ⊥) → line_end s ≡ 0
 unfolding line_end
 end_short [] h e = refl
 end_short (a ∷ []) h e = rw (ne_eqb a lf e) (no_lf (eqb a cr))
 end_short (a ∷ b ∷ s) h e = absurd (omega arith)
 
-pub end_cr_lf : (s : List ℕ) → (length s ≡ 0 → ⊥) → get_or s 0 0 ≡ cr → get_or s 1 0 ≡ lf → 2 ≡ line_end s
+pub end_cr_lf : (s : List ℕ) → 2 ≤ length s → get_or s 0 0 ≡ cr → get_or s 1 0 ≡ lf → line_end s ≡ 2
 unfolding line_end
-end_cr_lf [] h e f = absurd (h refl)
+end_cr_lf [] h e f = absurd (omega arith)
 end_cr_lf (a ∷ []) h e f = absurd (omega arith)
 end_cr_lf (a ∷ b ∷ s) h e f = rw (e, f)
 
-pub end_cr_other : (s : List ℕ) → get_or s 0 0 ≡ cr → (get_or s 1 0 ≡ lf → ⊥) → 0 ≡ line_end s
+pub end_cr_other : (s : List ℕ) → (get_or s 0 0 ≡ lf → ⊥) → (get_or s 1 0 ≡ lf → ⊥) → line_end s ≡ 0
 unfolding line_end
 end_cr_other [] e f = refl
-end_cr_other (a ∷ []) e f = rw e
-end_cr_other (a ∷ b ∷ s) e f = rw (e, ne_eqb b lf f)
+end_cr_other (a ∷ []) e f = rw (ne_eqb a lf e) (no_lf (eqb a cr))
+end_cr_other (a ∷ b ∷ s) e f = rw (ne_eqb a lf e, ne_eqb b lf f) (no_lf (eqb a cr))
 
-pub end_two : (s : List ℕ) → (get_or s 0 0 ≡ lf → ⊥) → (line_end s ≡ 0 → ⊥) → line_end s ≡ 2
-unfolding line_end
-end_two [] e n = absurd (n refl)
-end_two (a ∷ s) e n = rw (ne_eqb a lf e) (pick (eqb a cr && eqb (get_or s 0 0) lf) (rw (ne_eqb a lf e) at n))
-  where
-    pick : (t : Bool) → (◌≡◌ {A = ℕ} (cond t 2 0) 0 → ⊥) → ◌≡◌ {A = ℕ} (cond t 2 0) 2
-    pick true n = refl
-    pick false n = absurd (n refl)
-
-pub end_other : (s : List ℕ) → (get_or s 0 0 ≡ lf → ⊥) → (get_or s 0 0 ≡ cr → ⊥) → 0 ≡ line_end s
+pub end_other : (s : List ℕ) → (get_or s 0 0 ≡ lf → ⊥) → (get_or s 0 0 ≡ cr → ⊥) → line_end s ≡ 0
 unfolding line_end
 end_other [] e f = refl
 end_other (a ∷ s) e f = rw (ne_eqb a lf e, ne_eqb a cr f)
+
+pub ruleset line_ends = (end_none, end_lf, end_short, end_cr_lf, end_cr_other, end_other)
 
 -- the shape, test by test
 same_both : (t : Bool) → ◌≡◌ {A = ℕ} 0 (cond t 0 0)
@@ -365,28 +359,20 @@ pub shaped_other : (s : List ℕ) → (get_or s 0 0 ≡ colon → ⊥) → 0 ≡
 unfolding shaped
 shaped_other s e = rw (ne_eqb (get_or s 0 0) colon e)
 
-weighed_bad : (s : List ℕ) → 256 ≤ weighed s → all_digits s ≡ false
-unfolding weighed
-weighed_bad s h = by_test (all_digits s) (λ e. absurd (let f : 256 ≤ sum (octets s) % 256 = rw e at h in omega arith)) (λ e. e)
-
-pub weighed_sum : (s : List ℕ) → weighed s < 256 → (all_digits s ≡ true) × (weighed s ≡ sum (octets s) % 256)
-unfolding weighed
-weighed_sum s h = by_test (all_digits s) (λ e. (e, rw e)) (λ e. absurd (let f : 256 < 256 = rw e at h in omega arith))
-
 second_false : (t : Bool) → t && false ≡ false
 second_false true = refl
 second_false false = refl
 
-pub shaped_bad : (s : List ℕ) → 256 ≤ weighed (digits s) → 0 ≡ shaped s
+pub shaped_bad : (s : List ℕ) → all_digits (digits s) ≡ false → 0 ≡ shaped s
 unfolding shaped
-shaped_bad s h = rw (weighed_bad (digits s) h, second_false (eqb (get_or s 0 0) colon))
+shaped_bad s h = rw (h, second_false (eqb (get_or s 0 0) colon))
 
-pub shaped_good : (s : List ℕ) (k : ℕ) → get_or s 0 0 ≡ colon → weighed (digits s) < 256 → k ≡ line_end (drop (2 * count s + 11) s) → (k ≡ 0 → ⊥)
+pub shaped_good : (s : List ℕ) (k : ℕ) → get_or s 0 0 ≡ colon → all_digits (digits s) ≡ true → k ≡ line_end (drop (2 * count s + 11) s) → (k ≡ 0 → ⊥)
     → 2 * count s + 11 + k ≡ shaped s
 unfolding shaped ended_by
 shaped_good s zero c h e n = absurd (n refl)
 shaped_good s (suc k) c h e n =
-    rw (eq-eqb (get_or s 0 0) colon c, (weighed_sum (digits s) h).0) (ap (ended_by (2 * count s + 11)) e)
+    rw (eq-eqb (get_or s 0 0) colon c, h) (ap (ended_by (2 * count s + 11)) e)
 
 -- a line's parts as the code cuts them
 pub digits_part : (s : List ℕ) (n : ℕ) → n ≡ count s → take (2 * n + 11 - 1) (drop 1 s) ≡ digits s
@@ -400,15 +386,7 @@ rest_part s n e =
 is_shaped : (s : List ℕ) → (shaped s ≡ 0 → ⊥) → is_line (first_line s) ≡ true
 is_shaped s n = by_test (is_line (first_line s)) (λ e. e) (λ e. absurd (n (shaped_is s ∙ rw e)))
 
-pub shaped_long : (s : List ℕ) → (shaped s ≡ 0 → ⊥) → 2 * count s + 11 < length s
-shaped_long s n =
-    let e = is_shaped s n in
-    let h = first_long s e in
-    let c = first_count s e in
-    let l = ap length (first_front s) ∙ length-append (first_line s) (rest s) in
-    omega arith
-
-pub judge_shape : (flash : ℕ) (s : List ℕ) → shaped s ≡ 0 → judgement (Bad 20) 0 ≡ judgement_at flash s
+pub judge_shape : (flash : ℕ) (s : List ℕ) → shaped s ≡ 0 → judgement (Err BadLine) 0 ≡ judgement_at flash s
 unfolding judgement_at judged_line
 judge_shape flash s z =
     let n : is_line (first_line s) ≡ false =
@@ -416,7 +394,7 @@ judge_shape flash s z =
     rw n
 
 module _ (flash : ℕ) (s : List ℕ) (n : shaped s ≡ 0 → ⊥) where
-  pub judge_sum : (sum (octets (digits s)) % 256 ≡ 0 → ⊥) → judgement (Bad 21) (shaped s) ≡ judgement_at flash s
+  pub judge_sum : (sum (octets (digits s)) % 256 ≡ 0 → ⊥) → judgement (Err BadChecksum) (shaped s) ≡ judgement_at flash s
   unfolding judgement_at judged_line adds_up
   judge_sum z =
       let e = is_shaped s n in

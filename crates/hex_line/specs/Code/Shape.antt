@@ -1,9 +1,8 @@
 -- A line as the code finds it, at the front of what is left of a file. For the code alone: `lines_first` and
 -- `shaped_is` of Shape in proofs/Laws/ join it to the lines of hex_format.
-use Rattle.std.specs.Prelude.{ℕ, zero, suc, ◌+◌, ◌*◌, ◌%◌, cond, ◌&&◌, List, [], ◌∷◌, length, drop, ◌==◌, slice_index}
-use Rattle.hex_format.specs.declared.Line.{Line}
-use Rattle.hex_format.specs.Digits.{octets, all_digits}
-use Rattle.hex_format.specs.Lines.{colon, lf, cr, count, digits, is_line, sum, judged_line}
+use Rattle.std.specs.Prelude.{ℕ, zero, suc, ◌+◌, ◌*◌, cond, ◌&&◌, List, [], ◌∷◌, length, drop, ◌==◌, slice_index}
+use Rattle.hex_format.specs.Digits.{all_digits}
+use Rattle.hex_format.specs.Lines.{colon, lf, cr, count, digits, is_line, Line, judged_line}
 
 -- the first line of a file, up to its LF
 unfoldable pub first_line : List ℕ → List ℕ
@@ -20,10 +19,6 @@ judgement line bytes = record { line = line; bytes = bytes }
 
 unfoldable pub judgement_at : (flash : ℕ) → List ℕ → Judgement
 judgement_at flash s = judgement (judged_line flash (first_line s)) (cond (is_line (first_line s)) (length (first_line s)) 0)
-
--- the low byte of the sum of the digits' bytes; 256 where a character is no digit
-unfoldable pub weighed : List ℕ → ℕ
-weighed s = cond (all_digits s) (sum (octets s) % 256) 256
 
 -- the length of the line end at the front, or 0
 unfoldable pub line_end : List ℕ → ℕ

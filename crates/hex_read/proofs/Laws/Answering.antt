@@ -1,5 +1,5 @@
 -- Laws of the answer: the pages from the first touched one to the last, or a number.
-use mathlib.Core.Path.{◌≡◌, sym, ◌∙◌}
+use mathlib.Core.Path.{◌≡◌, refl, sym, ap, ◌∙◌}
 use mathlib.Core.Bool.{true, false}
 use mathlib.Core.List.{List, [], ◌++◌}
 use Prim.Native.Nat.{ℕ, ◌+◌, ◌-◌, ◌*◌, ◌/◌, ◌≤◌, ◌<◌}
@@ -8,11 +8,16 @@ use borrow.Author.Tests.{lt-ltb, le-ltb, ne_eqb}
 use lib.ListN.{length, take, drop, replicate, length-drop, length-replicate}
 use lib.Seq.{length-take-le}
 use Rattle.laws.proofs.Tests.{by_test}
+use Rattle.std.specs.Prelude.{Result, Ok, Err, IsErrAnd, unwrap_or}
+use Rattle.numbers.specs.Numbers.{refusal_number}
 use Rattle.hex_format.specs.Reading.{lines, unset, all_unset, first_set, bytes, LinesTaken, lines_taken, reading_done, image_in_buffer, copied, cut_out, read_answer}
 use Rattle.hex_format.proofs.Laws.Cells.{first_there, past_there, past_zero, past_within, set_from, set_below, bytes_length}
 use Rattle.hex_format.proofs.Laws.Steps.{stays, walk_zero}
-use Rattle.hex_format.proofs.Laws.Pages.{page_start, page_end, page_within}
+use Rattle.hex_format.proofs.Laws.Pages.{page_start, page_end, page_within, page_number}
+use Rattle.hex_read.specs.declared.walk.Fault.{Fault}
+use Rattle.hex_read.specs.declared.read.Filled.{Filled}
 use Rattle.hex_read.specs.Code.Walk.{Walks}
+use Rattle.hex_read.specs.Code.Read.{reading_of}
 use Rattle.hex_read.specs.Code.Fill.{final, Window}
 
 module _ (size room number line low high : ℕ) (old : List ℕ) (w : LinesTaken) (e : Walks number line low high w) where
@@ -106,3 +111,27 @@ module _ (size count number line low high : ℕ) (file : List ℕ) (e : Walks nu
             omega (arith, e.past z);
         inside = omega arith;
       }
+
+-- all that the code's numbers need of the window
+pub record Cut (size count low high : ℕ) : Type 0 where
+  pub order : low < high
+  pub past : high ≤ size * count
+  pub stop : (high - 1) / size * size + size ≤ size * count
+  pub start : low / size * size ≤ (high - 1) / size * size + size
+  pub number : low / size ≤ low
+
+pub cut : (size count low high : ℕ) (file : List ℕ) → Walks 0 0 low high (lines_taken 0 false (replicate (size * count) unset) (lines file))
+    → (high ≡ 0 → ⊥) → 0 < size → Cut size count low high
+cut size count low high file e some pos = record {
+  order = window_order size count 0 0 low high file e refl some pos;
+  past = window_past size count 0 0 low high file e refl some pos;
+  stop = window_stop size count 0 0 low high file e refl some pos;
+  start = window_start size count 0 0 low high file e refl some pos;
+  number = page_number low size pos;
+}
+
+-- a refusal that is handed on
+pub reading_err : (r : Result Filled Fault) (f : Fault) (buffer : List ℕ) → IsErrAnd r (λ y. y ≡ f)
+    → reading_of r buffer ≡ reading_done (refusal_number f.refusal) (unwrap_or f.line 0) 0 0 buffer
+reading_err (Ok x) f buffer p = absurd p
+reading_err (Err y) f buffer p = ap (λ (x : Fault). reading_done (refusal_number x.refusal) (unwrap_or x.line 0) 0 0 buffer) p

@@ -7,20 +7,21 @@ use Prim.Native.Nat.{ℕ, zero, suc, ◌+◌, ◌-◌, ◌*◌, ◌≤◌, ◌<�
 use native.Mathlib.Omega.{arith}
 use native.Mathlib.Decide.{dec_le, dec_lt}
 use lib.ListN.{length, get_or, take, drop, replicate, length-drop, length-replicate, get_or-replicate, drop_of_length-le}
-use lib.Seq.{sets, length-sets, get_or-drop, ext_get_or}
+use lib.Seq.{sets, length-sets, ext_get_or}
+use Rattle.std.specs.Prelude.{Option, None, Some, MatchOption, unwrap_or}
 use Rattle.laws.specs.Bytes.{Bytes}
 use Rattle.hex_format.specs.Digits.{octets}
-use Rattle.hex_format.specs.Lines.{lf, is_line, count, address, data_of}
+use Rattle.hex_format.specs.Lines.{is_line, count, address, data_of}
 use Rattle.hex_format.specs.Reading.{lines, unset, cell_byte, bytes, LineTaken, line_taken, LinesTaken, ended_with, lines_taken}
 use Rattle.hex_format.proofs.Laws.Lines.{closes}
 use Rattle.hex_format.proofs.Laws.Cells.{cell, sets_before, sets_in, sets_after, stored_set, window_long, window_at, byte_is, byte_below, unset_at, unset_fresh}
 use Rattle.hex_format.proofs.Laws.Steps.{accepted, Stored, Ended, Placed, in_place, walk_accepts, walk_rest, stays, walk_zero}
-use Rattle.hex_line.specs.Code.Shape.{first_line}
-use Rattle.hex_line.proofs.Laws.Shape.{first_long, first_count, first_address, first_data, first_end, end_lf, end_two}
+use Rattle.hex_line.specs.Code.Shape.{first_line, line_end}
+use Rattle.hex_line.proofs.Laws.Shape.{first_long, first_count, first_address, first_data, first_end}
 use Rattle.hex_read.specs.Code.Fill.{final, Window, filled}
-use Rattle.hex_read.proofs.Laws.Judging.{cuts, first_within, accepted_shape}
+use Rattle.hex_read.proofs.Laws.Judging.{tail_is, cuts, first_within, accepted_shape}
 
--- the length of a record's line, by the character behind its digits
+-- the length of a record's line, by its line end
 module _ (s : List ℕ) (e : is_line (first_line s) ≡ true) where
   pub front_long : 2 * count s + 11 < length (first_line s)
   front_long = let c = first_count s e in let h = first_long s e in omega arith
@@ -28,22 +29,19 @@ module _ (s : List ℕ) (e : is_line (first_line s) ≡ true) where
   pub front_within : 2 * count s + 11 < length s
   front_within = let h = front_long in let w = first_within s in omega arith
 
-  at_end : get_or (drop (2 * count s + 11) s) 0 0 ≡ get_or s (2 * count s + 11) 0
-  at_end = get_or-drop (2 * count s + 11) s 0 0 ∙ ap (λ k. get_or s k 0) (omega arith)
-
-  pub front_lf : get_or s (2 * count s + 11) 0 ≡ lf → 2 * count s + 11 + 1 ≡ length (first_line s)
-  front_lf p =
+  -- the digits and the line end that the code finds behind them are the line
+  pub front_end : (n : ℕ) (o : Option ℕ) → n ≡ count s
+      → (let r = take (length s - (2 * n + 11)) (drop (2 * n + 11) s) in MatchOption o (line_end r ≡ 0) (λ k. (k ≡ line_end r) × (0 < k)))
+      → 2 * n + 11 + unwrap_or o 0 ≡ length (first_line s)
+  front_end n None c p =
       let h = front_long in
-      let w = front_within in
-      let l = end_lf (drop (2 * count s + 11) s) (λ z. let d = length-drop (2 * count s + 11) s in omega arith) (at_end ∙ p) in
       let f = first_end s e in
+      let q : line_end (drop (2 * count s + 11) s) ≡ 0 = rw (tail_is (2 * n + 11) s, c) at p in
       omega arith
-
-  pub front_cr : (get_or s (2 * count s + 11) 0 ≡ lf → ⊥) → 2 * count s + 11 + 2 ≡ length (first_line s)
-  front_cr n =
+  front_end n (Some k) c p =
       let h = front_long in
       let f = first_end s e in
-      let l = end_two (drop (2 * count s + 11) s) (λ p. n (sym at_end ∙ p)) (λ z. omega arith) in
+      let q : k ≡ line_end (drop (2 * count s + 11) s) = rw (tail_is (2 * n + 11) s, c) at p.0 in
       omega arith
 
 -- the window of a fresh flash, and of cells with data stored

@@ -6,23 +6,28 @@ use mathlib.Core.Logic.{⊎_elim}
 use Prim.Native.Nat.{ℕ, suc, ◌+◌, ◌-◌, ◌≤◌, ◌<◌}
 use native.Mathlib.Omega.{arith}
 use native.Mathlib.Decide.{dec_le, dec_lt}
-use borrow.Author.Tests.{le-leb, lt-leb, eq-eqb, ne_eqb, eqb-true}
-use lib.Dec.{eqb, leb}
+use borrow.Author.Tests.{eq-eqb, ne_eqb, eqb-true}
+use lib.Dec.{eqb}
 use lib.ListN.{length, get_or, take, drop, replicate, length-drop, length-append, length-replicate, drop_of_length-le}
 use lib.Seq.{sets, length-sets, take_all, drop-cons, drop-drop}
 use Rattle.laws.proofs.Tests.{by_test}
-use Rattle.hex_format.specs.declared.Line.{Line}
-use Rattle.hex_format.specs.declared.Line.TheVariants.{Bad, Data, Last}
+use Rattle.std.specs.Prelude.{Result, Ok, Err, min, max, IsErrAnd}
+use Rattle.numbers.specs.Numbers.{refusal_number}
+use Rattle.numbers.specs.declared.Refusal.{Refusal}
+use Rattle.numbers.specs.declared.Refusal.TheVariants.{SetTwice, NoEndRecord}
+use Rattle.numbers.proofs.Refused.{refused}
+use Rattle.hex_format.specs.declared.Record.TheVariants.{Data, Last}
 use Rattle.laws.specs.Bytes.{Bytes}
-use Rattle.hex_format.specs.Lines.{is_line, judged_line, data_of}
+use Rattle.hex_format.specs.Lines.{is_line, Line, judged_line, data_of}
 use Rattle.hex_format.specs.Reading.{lines, unset, all_unset, first_set, past_set, LineTaken, took, placed, taken_as, line_taken, ended_with, lines_taken}
 use Rattle.hex_format.proofs.Laws.Lines.{held, closes, long_line}
 use Rattle.hex_format.proofs.Laws.Cells.{cell, unset_at, unset_fresh, first_fresh, past_fresh, run_unset, run_set, stored_set, kept, first_before, first_is, first_there, first_length, past_after, past_is, past_there, past_zero}
 use Rattle.hex_format.proofs.Laws.Steps.{step_on, step_stop, accepted, Stored, Ended, in_place}
 use Rattle.hex_line.specs.Code.Shape.{first_line, judgement, Judgement, judgement_at}
 use Rattle.hex_line.proofs.Laws.Shape.{lines_first, first_front, rest}
+use Rattle.hex_read.specs.declared.walk.Taken.{Taken}
 use Rattle.hex_read.specs.Code.Map.{marked_at, Run, Clash}
-use Rattle.hex_read.specs.Code.Walk.{MapFollows, Within, Takes, TakesData, TakesLine, Walks}
+use Rattle.hex_read.specs.Code.Walk.{MapFollows, Within, TakesOn, Takes, TakesLine, Walks}
 use Rattle.hex_read.proofs.Laws.Marking.{clear_marked}
 
 -- a cell's mark
@@ -61,7 +66,7 @@ module _ (old new : List ℕ) (low high : ℕ) (cells : List ℕ) (f : MapFollow
       go (yes y) (no z) = outside (λ g h. z h)
       go (no y) z = outside (λ g h. y g)
 
-  new_first : cond (leb low a) low a ≡ first_set (sets cells a vs)
+  new_first : min low a ≡ first_set (sets cells a vs)
   new_first = go (dec_le low a)
     where
       e : low ≡ first_set cells
@@ -80,13 +85,15 @@ module _ (old new : List ℕ) (low high : ℕ) (cells : List ℕ) (f : MapFollow
       at_low (yes y) h z = there y (sym (kept cells a vs fits all low (λ i j. omega arith)) ∙ z)
       at_low (no y) h z = stored_set cells a vs fits all low (omega arith) (omega arith) z
 
-      go : Dec (low ≤ a) → cond (leb low a) low a ≡ first_set (sets cells a vs)
-      go (yes y) = rw (le-leb low a y) (first_is (sets cells a vs) low (λ k h. before k h (omega arith)) (at_low (dec_lt low a) y))
+      go : Dec (low ≤ a) → min low a ≡ first_set (sets cells a vs)
+      go (yes y) =
+          let m : min low a ≡ low = omega arith in
+          m ∙ first_is (sets cells a vs) low (λ k h. before k h (omega arith)) (at_low (dec_lt low a) y)
       go (no y) =
-          rw (lt-leb low a (omega arith))
-          (first_is (sets cells a vs) a (λ k h. before k (omega arith) h) (stored_set cells a vs fits all a (omega arith) (omega arith)))
+          let m : min low a ≡ a = omega arith in
+          m ∙ first_is (sets cells a vs) a (λ k h. before k (omega arith) h) (stored_set cells a vs fits all a (omega arith) (omega arith))
 
-  new_past : cond (leb high (a + length vs)) (a + length vs) high ≡ past_set (sets cells a vs)
+  new_past : max high (a + length vs) ≡ past_set (sets cells a vs)
   new_past = go (dec_le high (a + length vs))
     where
       behind : (i : ℕ) → a + length vs ≤ i → high ≤ i → cell (sets cells a vs) i ≡ unset
@@ -98,78 +105,103 @@ module _ (old new : List ℕ) (low high : ℕ) (cells : List ℕ) (f : MapFollow
       there : 0 < high → cell cells (high - 1) ≡ unset → ⊥
       there h = rw f.past (past_there cells (somewhere h)).1
 
-      go : Dec (high ≤ a + length vs) → cond (leb high (a + length vs)) (a + length vs) high ≡ past_set (sets cells a vs)
+      go : Dec (high ≤ a + length vs) → max high (a + length vs) ≡ past_set (sets cells a vs)
       go (yes y) =
           let k = a + length vs - 1 in
-          rw (le-leb high (a + length vs) y)
-          (omega arith
+          let m : max high (a + length vs) ≡ suc k = omega arith in
+          m
           ∙ past_is (sets cells a vs) k (λ i h. behind i (omega arith) (omega arith))
-          (stored_set cells a vs fits all k (omega arith) (omega arith)))
+          (stored_set cells a vs fits all k (omega arith) (omega arith))
       go (no y) =
           let k = high - 1 in
-          let s : suc k ≡ high = omega arith in
-          rw (lt-leb high (a + length vs) (omega arith))
-          (sym s
+          let m : max high (a + length vs) ≡ suc k = omega arith in
+          m
           ∙ past_is (sets cells a vs) k (λ i h. behind i (omega arith) (omega arith))
-          (λ z. there (omega arith) (sym (kept cells a vs fits all k (λ u v. omega arith)) ∙ z)))
+          (λ z. there (omega arith) (sym (kept cells a vs fits all k (λ u v. omega arith)) ∙ z))
 
-  pub follows_data : MapFollows new (cond (leb low a) low a) (cond (leb high (a + length vs)) (a + length vs) high) (sets cells a vs)
+  pub follows_data : MapFollows new (min low a) (max high (a + length vs)) (sets cells a vs)
   follows_data = record { marks = new_marks; first = new_first; past = new_past }
 
--- a record with data: marked, or an address of it was marked before
-pub data_runs : (old new : List ℕ) (a n : ℕ) (ended : Bool) (low high : ℕ) → Run old new a n
-    → TakesData old new a n ended low high (cond ended 24 0) ended (cond (leb low a) low a) (cond (leb high (a + n)) (a + n) high)
-unfolding placed
-data_runs old new a n ended low high r cells vs f fits long all some =
-    let t : Run old new a (length vs) = rw long r in
-    let p : a + length vs ≤ length cells = rw long fits in
-    let u : all_unset (take n (drop a cells)) ≡ true = run_unset a n cells fits (λ k g h. free old new low high cells f a vs t p all (omega arith) k g (rw long h)) in
-    let d = follows_data old new low high cells f a vs t p all (omega arith) in
-    rw u (go ended (rw long at d))
-  where
-    go : (ended : Bool) → MapFollows new (cond (leb low a) low a) (cond (leb high (a + n)) (a + n) high) (sets cells a vs)
-        → Takes new (cond ended 24 0) ended (cond (leb low a) low a) (cond (leb high (a + n)) (a + n) high) (cond ended (took 24 ended cells) (took 0 ended (sets cells a vs)))
-    go true d = record { same_number = refl; same_end = refl; follows = λ z. absurd (omega arith) }
-    go false d = record { same_number = refl; same_end = refl; follows = λ z. d }
+-- what comes of a line that is right but for its place
+unfoldable pub late : (ended : Bool) → Taken → Result Taken Refusal
+late true s = Err NoEndRecord
+late false s = Ok s
 
-pub data_clashes : (old new : List ℕ) (a n : ℕ) (ended : Bool) (low high : ℕ) → Clash old a n
-    → TakesData old new a n ended low high 23 ended low high
-unfolding placed
-data_clashes old new a n ended low high x cells vs f fits long all some =
-    let c : cell cells x.k ≡ unset → ⊥ = mark_taken (cell cells x.k) (λ z. x.set (f.marks x.k (omega (arith, x.below)) ∙ z)) in
-    let u : all_unset (take n (drop a cells)) ≡ false = run_set a n cells x.k x.from x.below c in
-    rw u (record { same_number = refl; same_end = refl; follows = λ z. absurd (omega arith) })
+pub late_true : (map : List ℕ) (ended : Bool) (s : Taken) (t : LineTaken) → ended ≡ true → Takes map (late ended s) t → 24 ≡ t.number
+unfolding late
+late_true map true s t e k = k
+late_true map false s t e k = absurd (let y : ◌≡◌ {A = ℕ} 0 1 = cc in omega arith)
 
--- a line that has been judged
-pub bad_takes : (map : List ℕ) (number : ℕ) (ended : Bool) (low high : ℕ) → TakesLine map map (Bad number) ended low high number ended low high
+pub late_false : (map : List ℕ) (ended : Bool) (s : Taken) (t : LineTaken) → ended ≡ false → Takes map (late ended s) t → TakesOn map s t
+unfolding late
+late_false map false s t e k = k
+late_false map true s t e k = absurd (let y : ◌≡◌ {A = ℕ} 0 1 = cc in omega arith)
+
+-- a refusal that is handed on
+pub takes_err : (map : List ℕ) (r : Result Taken Refusal) (e : Refusal) (t : LineTaken) → IsErrAnd r (λ y. y ≡ e)
+    → refusal_number e ≡ t.number → Takes map r t
+takes_err map (Ok s) e t p k = absurd p
+takes_err map (Err y) e t p k = ap refusal_number p ∙ k
+
+-- a line that has been judged: refused by itself, without data, the end record
+pub bad_takes : (map : List ℕ) (e : Refusal) (s : Taken) → TakesLine map map (Err e) s (Err e)
 unfolding line_taken taken_as
-bad_takes map number ended low high cells l e f = rw (← e) (record { same_number = refl; same_end = refl; follows = λ z. f })
+bad_takes map e s cells l q f = rw (← q) refl
 
-pub none_takes : (map : List ℕ) (a : ℕ) (ended : Bool) (low high : ℕ) → TakesLine map map (Data a 0) ended low high (cond ended 24 0) ended low high
-unfolding line_taken taken_as placed all_unset
-none_takes map a ended low high cells l e f =
+pub none_takes : (map : List ℕ) (a : ℕ) (s : Taken) → TakesLine map map (Ok (Data a 0)) s (late s.ended s)
+unfolding line_taken taken_as placed all_unset late
+none_takes map a s cells l e f =
     let p = in_place cells l a 0 (sym e) in
-    rw (← e) (go ended (empty (data_of l) p.long))
+    rw (← e) (go s.ended (empty (data_of l) p.long))
   where
     empty : (d : List ℕ) → length d ≡ 0 → sets cells a d ≡ cells
     empty [] h = refl
     empty (x ∷ d) h = absurd (omega arith)
 
     go : (ended : Bool) → sets cells a (data_of l) ≡ cells
-        → Takes map (cond ended 24 0) ended low high (cond ended (took 24 ended cells) (took 0 ended (sets cells a (data_of l))))
-    go true s = record { same_number = refl; same_end = refl; follows = λ z. absurd (omega arith) }
-    go false s = rw s (record { same_number = refl; same_end = refl; follows = λ z. f })
+        → Takes map (late ended (record { ended = ended; low = s.low; high = s.high }))
+        (cond ended (took 24 ended cells) (took 0 ended (sets cells a (data_of l))))
+    go true z = refl
+    go false z = rw z (record { right = refl; same_end = refl; follows = f })
 
-pub last_takes : (map : List ℕ) (ended : Bool) (low high : ℕ) → TakesLine map map Last ended low high (cond ended 24 0) true low high
-unfolding line_taken taken_as
-last_takes map ended low high cells l e f = rw (← e) (record { same_number = refl; same_end = refl; follows = λ z. f })
+pub last_takes : (map : List ℕ) (s : Taken)
+    → TakesLine map map (Ok Last) s (late s.ended (record { ended = true; low = s.low; high = s.high }))
+unfolding line_taken taken_as late
+last_takes map s cells l e f = rw (← e) (go s.ended)
+  where
+    go : (ended : Bool) → Takes map (late ended (record { ended = true; low = s.low; high = s.high })) (took (cond ended 24 0) true cells)
+    go true = refl
+    go false = record { right = refl; same_end = refl; follows = f }
 
-pub data_takes : (old new : List ℕ) (a n : ℕ) (ended : Bool) (low high number : ℕ) (next : Bool) (lower higher : ℕ) → (n ≡ 0 → ⊥)
-    → TakesData old new a n ended low high number next lower higher → TakesLine old new (Data a n) ended low high number next lower higher
-unfolding line_taken taken_as
-data_takes old new a n ended low high number next lower higher some t cells l e f =
+-- a record with data: marked, or an address of it was marked before
+pub data_runs : (old new : List ℕ) (a n : ℕ) (s : Taken) → (n ≡ 0 → ⊥) → Run old new a n
+    → TakesLine old new (Ok (Data a n)) s (late s.ended (record { ended = s.ended; low = min s.low a; high = max s.high (a + n) }))
+unfolding line_taken taken_as placed late
+data_runs old new a n s some r cells l e f =
     let p = in_place cells l a n (sym e) in
-    rw (← e) (t cells (data_of l) f (p.room some) p.long p.bytes some)
+    let vs = data_of l in
+    let t : Run old new a (length vs) = rw p.long r in
+    let q : a + length vs ≤ length cells = rw p.long (p.room some) in
+    let g : 0 < length vs = omega (arith, p.long) in
+    let u : all_unset (take n (drop a cells)) ≡ true =
+    run_unset a n cells (p.room some) (λ k i j. free old new s.low s.high cells f a vs t q p.bytes g k i (rw p.long j)) in
+    let d = follows_data old new s.low s.high cells f a vs t q p.bytes g in
+    rw (← e, u) (go s.ended (rw p.long at d))
+  where
+    go : (ended : Bool) → MapFollows new (min s.low a) (max s.high (a + n)) (sets cells a (data_of l))
+        → Takes new (late ended (record { ended = ended; low = min s.low a; high = max s.high (a + n) }))
+        (cond ended (took 24 ended cells) (took 0 ended (sets cells a (data_of l))))
+    go true d = refl
+    go false d = record { right = refl; same_end = refl; follows = d }
+
+pub data_clashes : (old new : List ℕ) (a n : ℕ) (s : Taken) → (n ≡ 0 → ⊥) → Clash old a n → TakesLine old new (Ok (Data a n)) s (Err SetTwice)
+unfolding line_taken taken_as placed
+data_clashes old new a n s some x cells l e f =
+    let p = in_place cells l a n (sym e) in
+    let c : cell cells x.k ≡ unset → ⊥ =
+    mark_taken (cell cells x.k) (λ z. x.set (f.marks x.k (omega (arith, x.below, p.room some)) ∙ z)) in
+    let u : all_unset (take n (drop a cells)) ≡ false = run_set a n cells x.k x.from x.below c in
+    rw (← e, u) refl
 
 -- the file from a place on, as the code cuts it
 pub tail_is : (at : ℕ) (f : List ℕ) → take (length f - at) (drop at f) ≡ drop at f
@@ -203,15 +235,16 @@ accepted_size ended cells l z =
     (accepted ended cells l z).1
 
 -- with the file read to a place, the code's state stands for that of the fold
-pub record Walking (map file : List ℕ) (flash at line : ℕ) (ended : Bool) (low high : ℕ) : Type 0 where
+pub record Walking (map file : List ℕ) (flash at line : ℕ) (s : Taken) : Type 0 where
   pub within : at ≤ length file
   pub counted : line ≤ at
   pub cells : List ℕ
   pub size : length cells ≡ flash
-  pub follows : MapFollows map low high cells
-  pub goes : lines_taken 0 false (replicate flash unset) (lines file) ≡ lines_taken line ended cells (lines (drop at file))
+  pub follows : MapFollows map s.low s.high cells
+  pub goes : lines_taken 0 false (replicate flash unset) (lines file) ≡ lines_taken line s.ended cells (lines (drop at file))
 
-pub walk_starts : (n flash : ℕ) (file map : List ℕ) → map ≡ replicate n 0 → Walking map file flash 0 0 false flash 0
+pub walk_starts : (n flash : ℕ) (file map : List ℕ) → map ≡ replicate n 0
+    → Walking map file flash 0 0 (record { ended = false; low = flash; high = 0 })
 walk_starts n flash file map e =
     record {
       within = omega arith;
@@ -229,44 +262,46 @@ judged_within flash s line bytes most j h a n e some =
     let r = (held flash (first_line s) a n (sym p ∙ e)).room some in
     omega arith
 
-module _ (map file : List ℕ) (flash at line : ℕ) (ended : Bool) (low high : ℕ) (w : Walking map file flash at line ended low high)
-    (h : at < length file) (found : Line) (bytes : ℕ) (j : judgement found bytes ≡ judgement_at flash (drop at file))
-    (new : List ℕ) (number : ℕ) (next : Bool) (lower higher : ℕ)
-    (t : TakesLine map new found ended low high number next lower higher) where
+module _ (map file : List ℕ) (flash at line : ℕ) (s : Taken) (w : Walking map file flash at line s) (h : at < length file)
+    (found : Line) (bytes : ℕ) (j : judgement found bytes ≡ judgement_at flash (drop at file)) (new : List ℕ) where
   abbrev l : List ℕ
   l = first_line (drop at file)
+
+  abbrev t : LineTaken
+  t = line_taken s.ended w.cells (first_line (drop at file))
 
   is_judged : found ≡ judged_line (length w.cells) l
   unfolding judgement_at
   is_judged = ap (λ (x : Judgement). x.line) j ∙ ap (λ n. judged_line n l) (sym w.size)
 
-  takes : Takes new number next lower higher (line_taken ended w.cells l)
-  takes = t w.cells l is_judged w.follows
-
-  same : (x : LineTaken) → Takes new number next lower higher x → x ≡ took number next x.cells
-  same x s = rw (s.same_number, s.same_end)
-
   cut : lines (drop at file) ≡ l ∷ lines (drop (at + length l) file)
   cut = cuts at file h
 
-  pub walk_stops : (number ≡ 0 → ⊥) → Walks number (line + 1) 0 0 (lines_taken 0 false (replicate flash unset) (lines file))
-  walk_stops n =
-      let e : lines_taken 0 false (replicate flash unset) (lines file) ≡ ended_with number (line + 1) (line_taken ended w.cells l).cells =
-      w.goes
-      ∙ ap (lines_taken line ended w.cells) cut
-      ∙ step_stop line number ended next w.cells (line_taken ended w.cells l).cells l (lines (drop (at + length l) file)) (same (line_taken ended w.cells l) takes) n in
-      rw e (record { same_number = refl; same_line = refl; first = λ z. absurd (n z); past = λ z. absurd (n z) })
+  numbered : (n : ℕ) → n ≡ t.number → t ≡ took n t.ended t.cells
+  numbered n e = rw e
 
-  module _ (z : number ≡ 0) where
-    right : (line_taken ended w.cells l).number ≡ 0
-    right = sym takes.same_number ∙ z
+  pub walk_stops : (e : Refusal) → TakesLine map new found s (Err e)
+      → Walks (refusal_number e) (line + 1) 0 0 (lines_taken 0 false (replicate flash unset) (lines file))
+  walk_stops e k =
+      let z = refused e in
+      let n : refusal_number e ≡ t.number = k w.cells l is_judged w.follows in
+      let f : lines_taken 0 false (replicate flash unset) (lines file) ≡ ended_with (refusal_number e) (line + 1) t.cells =
+      w.goes
+      ∙ ap (lines_taken line s.ended w.cells) cut
+      ∙ step_stop line (refusal_number e) s.ended t.ended w.cells t.cells l (lines (drop (at + length l) file)) (numbered (refusal_number e) n)
+      (λ q. omega arith) in
+      rw f (record { same_number = refl; same_line = refl; first = λ q. absurd (omega arith); past = λ q. absurd (omega arith) })
+
+  module _ (next : Taken) (k : TakesLine map new found s (Ok next)) where
+    takes : TakesOn new next t
+    takes = k w.cells l is_judged w.follows
 
     pub goes_by : bytes ≡ length l
     unfolding judgement_at
-    goes_by = ap (λ (x : Judgement). x.bytes) j ∙ rw (accepted_shape ended w.cells l right)
+    goes_by = ap (λ (x : Judgement). x.bytes) j ∙ rw (accepted_shape s.ended w.cells l takes.right)
 
     pub by_some : 11 < length l
-    by_some = let s = long_line l (accepted_shape ended w.cells l right) in omega arith
+    by_some = let s = long_line l (accepted_shape s.ended w.cells l takes.right) in omega arith
 
     pub by_within : at + bytes ≤ length file
     by_within =
@@ -275,28 +310,38 @@ module _ (map file : List ℕ) (flash at line : ℕ) (ended : Bool) (low high : 
         let d = length-drop at file in
         omega arith
 
-    pub walk_on : Walking new file flash (at + bytes) (line + 1) next lower higher
+    pub walk_on : Walking new file flash (at + bytes) (line + 1) next
     walk_on =
         let b = goes_by in
-        let s = by_some in
+        let m = by_some in
         record {
           within = by_within;
           counted = let c = w.counted in omega arith;
-          cells = (line_taken ended w.cells l).cells;
-          size = accepted_size ended w.cells l right ∙ w.size;
-          follows = takes.follows z;
+          cells = t.cells;
+          size = accepted_size s.ended w.cells l takes.right ∙ w.size;
+          follows = takes.follows;
           goes =
               w.goes
-              ∙ ap (lines_taken line ended w.cells) cut
-              ∙ step_on line ended next w.cells (line_taken ended w.cells l).cells l (lines (drop (at + length l) file))
-              (same (line_taken ended w.cells l) takes ∙ ap (λ n. took n next (line_taken ended w.cells l).cells) z)
-              ∙ ap (λ n. lines_taken (line + 1) next (line_taken ended w.cells l).cells (lines (drop (at + n) file))) (sym b);
+              ∙ ap (lines_taken line s.ended w.cells) cut
+              ∙ step_on line s.ended next.ended w.cells t.cells l (lines (drop (at + length l) file))
+              (numbered 0 (sym takes.right) ∙ ap (λ n. took 0 n t.cells) (sym takes.same_end))
+              ∙ ap (λ n. lines_taken (line + 1) next.ended t.cells (lines (drop (at + n) file))) (sym b);
         }
 
-pub walk_ends : (map file : List ℕ) (flash at line : ℕ) (ended : Bool) (low high : ℕ) → Walking map file flash at line ended low high → length file ≤ at
-    → Walks (cond ended 0 24) 0 low high (lines_taken 0 false (replicate flash unset) (lines file))
-unfolding lines_taken lines
-walk_ends map file flash at line ended low high w h =
-    let e : lines_taken 0 false (replicate flash unset) (lines file) ≡ ended_with (cond ended 0 24) 0 w.cells =
-    w.goes ∙ ap (λ s. lines_taken line ended w.cells (lines s)) (drop_of_length-le file {i = at} h) in
-    rw e (record { same_number = refl; same_line = refl; first = λ z. w.follows.first; past = λ z. w.follows.past })
+module _ (map file : List ℕ) (flash at line : ℕ) (s : Taken) (w : Walking map file flash at line s) (h : length file ≤ at) where
+  ends : lines_taken 0 false (replicate flash unset) (lines file) ≡ ended_with (cond s.ended 0 24) 0 w.cells
+  unfolding lines_taken lines
+  ends = w.goes ∙ ap (λ x. lines_taken line s.ended w.cells (lines x)) (drop_of_length-le file {i = at} h)
+
+  pub walk_ends : s.ended ≡ true → Walks 0 0 s.low s.high (lines_taken 0 false (replicate flash unset) (lines file))
+  walk_ends t =
+      let e : lines_taken 0 false (replicate flash unset) (lines file) ≡ ended_with 0 0 w.cells =
+      ends ∙ ap (λ (b : Bool). ended_with (cond b 0 24) 0 w.cells) t in
+      rw e (record { same_number = refl; same_line = refl; first = λ z. w.follows.first; past = λ z. w.follows.past })
+
+  -- without an end record
+  pub walk_unended : s.ended ≡ false → Walks 24 0 0 0 (lines_taken 0 false (replicate flash unset) (lines file))
+  walk_unended t =
+      let e : lines_taken 0 false (replicate flash unset) (lines file) ≡ ended_with 24 0 w.cells =
+      ends ∙ ap (λ (b : Bool). ended_with (cond b 0 24) 0 w.cells) t in
+      rw e (record { same_number = refl; same_line = refl; first = λ z. absurd (omega arith); past = λ z. absurd (omega arith) })

@@ -1,11 +1,17 @@
 -- Laws of the loops that write digits, a record, a line and the lines of a file.
-use Rattle.std.proofs.Common.{◌≡◌, ℕ, zero, suc, ◌+◌, ◌*◌, ◌/◌, ◌%◌, ◌<◌, ◌≤◌, List, [], ◌∷◌, ◌++◌, length, get_or, take, drop, set, sym, refl, ap, ◌∙◌, append_assoc, append-nil, add-one, arith, length-append, length-drop, length-set, drop_of_length-le, length-take-le, drop-cons, drop-drop, take_at, drop_at}
+use Rattle.std.proofs.Common.{◌≡◌, ℕ, zero, suc, ◌+◌, ◌*◌, ◌/◌, ◌%◌, ◌<◌, ◌≤◌, List, [], ◌∷◌, ◌++◌, length, get_or, take, drop, set, sym, refl, ap, ◌∙◌, append_assoc, append-nil, arith, length-append, length-drop, length-set, drop_of_length-le, length-take-le, drop-cons, drop-drop, take_at, drop_at}
+use Rattle.std.specs.Prelude.{Result, Ok, Err, IsErrAnd}
+use Rattle.numbers.specs.Numbers.{refusal_number}
+use Rattle.numbers.specs.declared.Refusal.{Refusal}
 use lib.Seq.{set_at}
 use borrow.Rule.Slice.PartMut.{put_mid}
+use Rattle.std.specs.List.{fold}
 use Rattle.hex_format.specs.Lines.{sum}
+use Rattle.hex_format.proofs.Laws.Lines.{low_byte}
 use Rattle.hex_write.specs.Code.Firsts.{firsts}
 use Rattle.hex_format.specs.Digits.{upper, text}
-use Rattle.hex_format.specs.Writing.{line_of, data_line, last_line, data_lines, checksum}
+use Rattle.hex_format.specs.Writing.{line_of, data_line, last_line, data_lines, checksum, writing_done}
+use Rattle.hex_write.specs.Code.Write.{writing_of}
 
 pub text_long : (s : List ℕ) → length (text s) ≡ 2 * length s
 unfolding text
@@ -24,9 +30,11 @@ text_low [] i h = absurd (omega arith)
 text_low (b ∷ s) zero h = refl
 text_low (b ∷ s) (suc i) h = let p : 2 * suc i + 1 ≡ suc (suc (2 * i + 1)) = omega arith in rw p (text_low s i (omega arith))
 
-pub sum_more : (s : List ℕ) (i : ℕ) → i < length s → sum (drop i s) ≡ get_or s i 0 + sum (drop (i + 1) s)
+-- the bytes folded by wrapping add are the low byte of their sum
+pub fold_is : (s : List ℕ) (t : ℕ) → fold (λ x b. (x + b) % 256) t s % 256 ≡ (t + sum s) % 256
 unfolding sum
-sum_more s i h = rw (add-one i, drop-cons s i 0 h)
+fold_is [] t = omega arith
+fold_is (b ∷ s) t = fold_is s ((t + b) % 256) ∙ low_byte t b (sum s)
 
 -- a record's bytes as they are put
 abbrev pub head : (out : List ℕ) (h w : ℕ) → List ℕ
@@ -129,3 +137,9 @@ pub file_long : (n a : ℕ) (im : List ℕ) → 16 * n ≤ length im → length 
 unfolding last_line line_of text upper checksum sum
 file_long n a im h =
     ap length (sym (file_is n a im)) ∙ length-append (firsts n a im) last_line ∙ ap (λ k. k + 12) (firsts_long n a im h)
+
+-- a refusal that is handed on
+pub writing_err : (r : Result ℕ Refusal) (e : Refusal) (buffer : List ℕ) → IsErrAnd r (λ y. y ≡ e)
+    → writing_of r buffer ≡ writing_done (refusal_number e) 0 buffer
+writing_err (Ok n) e buffer p = absurd p
+writing_err (Err y) e buffer p = ap (λ (x : Refusal). writing_done (refusal_number x) 0 buffer) p

@@ -1,6 +1,6 @@
 -- What is written into a record.
 use mathlib.Core.Path.{◌≡◌, refl, sym, ap, ◌∙◌}
-use mathlib.Core.Bool.{Bool, true, false, cond}
+use mathlib.Core.Bool.{cond}
 use mathlib.Core.List.{List, [], ◌∷◌, ◌++◌, append-nil}
 use Prim.Native.Nat.{ℕ, zero, suc, ◌+◌, ◌-◌, ◌≤◌, ◌<◌}
 use native.Mathlib.Numerals.{add-one}
@@ -8,32 +8,21 @@ use native.Mathlib.Omega.{arith}
 use lib.Dec.{eqb}
 use lib.ListN.{length, take, drop, get_or, set, length-take, length-drop, drop_of_length-le}
 use lib.Seq.{take_all, take-suc, drop-cons, set_at, get_or-append-add, get_or-drop, get_or-take, length-take-le, append_snoc}
-use borrow.Author.Tests.{eq-eqb, ne_eqb}
-use borrow.Rule.Slice.PartMut.{mid_of, put_mid}
+use borrow.Rule.Slice.PartMut.{put_mid}
 use Rattle.radio_job.specs.declared.JobPoint.{JobPoint}
 use Rattle.radio_job.specs.Image.{merged}
 use Rattle.radio_job.proofs.Laws.Image.{merged_long}
 use Rattle.radio_record.specs.Record.{mask_of, point_bytes}
-use Rattle.radio_record.proofs.Laws.Record.{point_bytes_long}
-use Rattle.radio_advance.specs.Code.Kept.{merged_held, held_after, held_at}
+use Rattle.radio_advance.specs.Code.Kept.{merged_held, held_at}
 
 -- The last eight bytes of a record, put in place.
-pub put_numbers : (n : ℕ) (q : JobPoint) (h t p : List ℕ) → length h ≡ 520 → t ≡ point_bytes n q
-    → p ≡ t → put_mid 512 (length h - 512) h p ≡ held_at n q h
+pub put_numbers : (n : ℕ) (q : JobPoint) (h t p : List ℕ) → length h ≡ 520 → t ≡ point_bytes n q → p ≡ t → put_mid 512 8 h p ≡ held_at n q h
 unfolding held_at
 put_numbers n q h t p l e k =
     let d = length-drop 512 h in
-    let b : length (drop 512 h) ≤ length h - 512 = omega arith in
-    ap (λ (x : List ℕ). take 512 h ++ (p ++ x)) (drop_of_length-le (drop 512 h) {i = length h - 512} b)
+    let b : length (drop 512 h) ≤ 8 = omega arith in
+    ap (λ (x : List ℕ). take 512 h ++ (p ++ x)) (drop_of_length-le (drop 512 h) {i = 8} b)
     ∙ ap (λ (x : List ℕ). take 512 h ++ x) (append-nil p ∙ k ∙ e)
-
--- There is room for these eight bytes, and for no more.
-pub numbers_room : (n : ℕ) (q : JobPoint) (h t : List ℕ) → length h ≡ 520 → t ≡ point_bytes n q → length (mid_of 512 (length h - 512) h) ≡ length t
-numbers_room n q h t l e =
-    let w : length t ≡ 8 = ap length e ∙ point_bytes_long n q in
-    let d = length-drop 512 h in
-    let m = length-take (length h - 512) (drop 512 h) in
-    omega arith
 
 -- The old configuration merged byte by byte.
 merged_at : (ms ds os : List ℕ) (i : ℕ) → i < length ms → i < length ds → i < length os
@@ -103,16 +92,3 @@ module _ (h old : List ℕ) (l : length h ≡ 520) (lo : length old ≡ 256) whe
   merge_done now i z e =
       let w = all_long in
       e ∙ ap (λ (k : ℕ). take k all ++ drop k h) z ∙ ap (λ (x : List ℕ). x ++ drop 256 h) (take_all 256 all (omega arith))
-
--- the page after a reply: merged where the old configuration was awaited and has come
-pub not_awaited : (t : Bool) (h r : List ℕ) → t ≡ false → h ≡ held_after t h r
-unfolding held_after
-not_awaited t h r e = rw e
-
-pub other_length : (t : Bool) (h r : List ℕ) → t ≡ true → (length r ≡ 256 → ⊥) → h ≡ held_after t h r
-unfolding held_after
-other_length t h r e n = rw (e, ne_eqb (length r) 256 n)
-
-pub has_come : (t : Bool) (h r now : List ℕ) → t ≡ true → length r ≡ 256 → now ≡ merged_held h r → now ≡ held_after t h r
-unfolding held_after
-has_come t h r now e l q = q ∙ rw (e, eq-eqb (length r) 256 l)

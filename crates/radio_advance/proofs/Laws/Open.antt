@@ -1,5 +1,5 @@
 -- An opening, by what it writes.
-use mathlib.Core.Path.{◌≡◌, refl, sym, ap, ◌∙◌}
+use mathlib.Core.Path.{◌≡◌, refl, sym, ap, subst, ◌∙◌}
 use mathlib.Core.Bool.{true}
 use mathlib.Core.List.{List, ◌++◌, append_assoc}
 use Prim.Native.Nat.{ℕ, ◌≤◌, ◌<◌}
@@ -163,3 +163,7 @@ module _ (h im m d out : List ℕ) where
           opens r now a q =
               rw accepted
               (ap (λ (x : RadioAdvanced). record { number = 0; send = x.send; expect = x.expect }) (a ∙ said_answer) ∙ as_opened, (three, q ∙ said_out))
+
+-- a record lent on as an array is the same
+pub lent_on : (h held im m d out : List ℕ) (r : RadioOpened) (then now : List ℕ) → h ≡ held → Answers h im m d out r then now → Answers held im m d out r then now
+lent_on h held im m d out r then now e a = subst (λ (x : List ℕ). Answers x im m d out r then now) e a

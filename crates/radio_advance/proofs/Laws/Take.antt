@@ -1,8 +1,9 @@
 -- A call that takes a reply, by the laws of its parts.
-use mathlib.Core.Path.{◌≡◌, refl, sym, ap, ◌∙◌}
+use mathlib.Core.Path.{◌≡◌, refl, sym, ap, subst, ◌∙◌}
 use mathlib.Core.Bool.{Bool, true, false, cond, ◌&&◌}
 use mathlib.Core.List.{List, ◌++◌, append_assoc}
 use mathlib.Core.Option.{Option, some, none}
+use Rattle.std.specs.Prelude.{Option as OptionOf, Some, None, Ok, Err, is_ok}
 use Prim.Native.Nat.{ℕ, ◌≤◌, ◌<◌}
 use native.Mathlib.Omega.{arith}
 use lib.Dec.{eqb}
@@ -18,16 +19,15 @@ use Rattle.radio_job.specs.declared.JobPoint.TheVariants.{AsksConfiguration, Tak
 use Rattle.radio_job.specs.declared.JobPoint.TheVariants.{ErasesConfiguration, SetsConfiguration, SetsByte0, AsksPage}
 use Rattle.radio_job.specs.declared.JobPoint.TheVariants.{TakesPage, SetsByte1, Finished}
 use Rattle.radio_job.specs.Image.{merged, image_fits}
-use Rattle.radio_job.specs.Job.{Message, JobExchange, take_reply, confirmed, fetched}
+use Rattle.radio_job.specs.Job.{Message, JobExchange, Standing, take_reply, confirmed, fetched}
 use Rattle.radio_job.specs.State.{JobState, point_leaves, job_left, point_fits}
-use Rattle.radio_job.specs.Advance.{length_ending, reply_ending, page_kept, job_advanced_by, job_advanced}
+use Rattle.radio_job.specs.Advance.{length_ending, reply_ending, next_point, page_kept, job_advanced_by, job_advanced}
 use Rattle.radio_job.proofs.Laws.Image.{merged_long, sized}
-use Rattle.radio_job.proofs.Laws.Fits.{fitting, next_fits, ends_fit}
+use Rattle.radio_job.proofs.Laws.Fits.{fitting, EndFits, next_fits, ends_fit}
 use Rattle.radio_job.proofs.Laws.Advance.{advances}
 use Rattle.radio_record.specs.declared.JobKept.{JobKept}
-use Rattle.radio_record.specs.declared.JobKept.TheVariants.{Keeps, KeepsNone}
 use Rattle.radio_record.specs.Record.{mask_of, point_bytes, packed_job, job_kept, kept_state, unpacked_job}
-use Rattle.radio_record.proofs.Laws.Record.{point_bytes_long}
+use Rattle.radio_record.proofs.Laws.Record.{point_bytes_long, not_520_bytes}
 use Rattle.radio_record.proofs.Laws.Claims.{packed_long, kept_record}
 use Rattle.radio_calls.specs.declared.RadioAdvanced.{RadioAdvanced}
 use Rattle.radio_calls.specs.Calls.{RadioCall, job_takes, room_number, later_number, job_refusal, job_untouched, takes_number}
@@ -47,7 +47,12 @@ module _ (p : JobPoint) (im r : List ℕ) (i : image_fits (length im) ≡ true) 
   after_fits =
       let z = sized (length im) i in
       ap (point_fits (length im)) after_is
-      ∙ by_test (eqb (reply_ending p im r).number 0) (λ t. rw t (next_fits p (length im) z.some f)) (λ t. rw t (ends_fit p im r f t))
+      ∙ by_fits (reply_ending p im r) (next_fits p (length im) z.some f) (ends_fit p im r f)
+    where
+      by_fits : (v : Standing) → point_fits (length im) (next_point p (length im)) ≡ true → EndFits (length im) v
+          → point_fits (length im) (point_by v p (length im)) ≡ true
+      by_fits (Ok _) a b = a
+      by_fits (Err e) a b = b
 
 -- Lengths stay.
 module _ (h : List ℕ) (l : length h ≡ 520) where
@@ -109,11 +114,11 @@ module _ (h : List ℕ) (l : length h ≡ 520) where
   state n p = record { page = take 256 h; mask = mask_of h; bytes = n; point = p }
 
   same_page : (p : JobPoint) (r im : List ℕ) → page_kept p (mask_of h) (take 256 h) r ≡ take 256 h → takes_old p ≡ false
-      → cond (eqb (reply_ending p im r).number 0) (page_kept p (mask_of h) (take 256 h) r) (take 256 h) ≡ take 256 (held_after (takes_old p) h r)
+      → cond (is_ok (reply_ending p im r)) (page_kept p (mask_of h) (take 256 h) r) (take 256 h) ≡ take 256 (held_after (takes_old p) h r)
   unfolding held_after
-  same_page p r im e f = rw f (by_test (eqb (reply_ending p im r).number 0) (λ t. rw t e) (λ t. rw t))
+  same_page p r im e f = rw f (by_test (is_ok (reply_ending p im r)) (λ t. rw t e) (λ t. rw t))
 
-  page_taken : (r : List ℕ) → cond (eqb (length_ending 256 r).number 0) (merged (mask_of h) (take 256 h) r) (take 256 h) ≡ take 256 (held_after true h r)
+  page_taken : (r : List ℕ) → cond (is_ok (length_ending 256 r)) (merged (mask_of h) (take 256 h) r) (take 256 h) ≡ take 256 (held_after true h r)
   unfolding held_after merged_held length_ending
   page_taken r =
       by_test (eqb (length r) 256)
@@ -121,7 +126,7 @@ module _ (h : List ℕ) (l : length h ≡ 520) where
       (λ t. rw t)
 
   page_cond : (p : JobPoint) (im r : List ℕ)
-      → cond (eqb (reply_ending p im r).number 0) (page_kept p (mask_of h) (take 256 h) r) (take 256 h) ≡ take 256 (held_after (takes_old p) h r)
+      → cond (is_ok (reply_ending p im r)) (page_kept p (mask_of h) (take 256 h) r) (take 256 h) ≡ take 256 (held_after (takes_old p) h r)
   page_cond AsksConfiguration im r = same_page AsksConfiguration r im refl refl
   page_cond TakesConfiguration im r = page_taken r
   page_cond ErasesArea im r = same_page ErasesArea r im refl refl
@@ -145,14 +150,15 @@ module _ (h : List ℕ) (l : length h ≡ 520) where
       ∙ ap (λ (k : ℕ). record { page = take 256 (held_after (takes_old p) h r); mask = mask_of h; bytes = n; point = point_by (reply_ending p im r) p k }) (sym e)
       ∙ ap (λ (q : JobPoint). record { page = take 256 (held_after (takes_old p) h r); mask = mask_of h; bytes = n; point = q }) (sym (after_is p im r i f))
     where
-      parts : (v : Ending) → job_advanced_by v (state n p) r
+      parts : (v : Standing) → job_advanced_by v (state n p) r
           ≡ record {
-            page = cond (eqb v.number 0) (page_kept p (mask_of h) (take 256 h) r) (take 256 h);
+            page = cond (is_ok v) (page_kept p (mask_of h) (take 256 h) r) (take 256 h);
             mask = mask_of h;
             bytes = n;
             point = point_by v p n;
           }
-      parts v = by_test (eqb v.number 0) (λ t. rw t) (λ t. rw t)
+      parts (Ok _) = refl
+      parts (Err e) = refl
 
   -- and its record
   pub record_is : (n : ℕ) (p q : JobPoint) (r : List ℕ)
@@ -180,18 +186,15 @@ says_left SetsByte1 im m c = refl
 says_left (Finished e) im m c = refl
 
 -- A reply taken on by page, point and message, in this order.
-module _ (p next : JobPoint) (t : Bool) (h h₁ h₂ im q : List ℕ) (l : length h ≡ 520) (i : image_fits (length im) ≡ true)
-    (f : point_fits (length im) p ≡ true) (n : next ≡ job_point_after p im q) (o : t ≡ takes_old p) (e₁ : h₁ ≡ held_after t h q)
+module _ (p next : JobPoint) (h h₁ h₂ im q : List ℕ) (l : length h ≡ 520) (i : image_fits (length im) ≡ true)
+    (f : point_fits (length im) p ≡ true) (n : next ≡ job_point_after p im q) (e₁ : h₁ ≡ held_after (takes_old p) h q)
     (e₂ : h₂ ≡ held_at (length im) next h₁) where
   abbrev merges : List ℕ
   merges = held_after (takes_old p) h q
 
-  first : h₁ ≡ merges
-  first = e₁ ∙ ap (λ (x : Bool). held_after x h q) o
-
   second : h₂ ≡ held_next p h im q
   unfolding held_next
-  second = e₂ ∙ ap (λ (x : List ℕ). held_at (length im) next x) first ∙ ap (λ (x : JobPoint). held_at (length im) x merges) n
+  second = e₂ ∙ ap (λ (x : List ℕ). held_at (length im) next x) e₁ ∙ ap (λ (x : JobPoint). held_at (length im) x merges) n
 
   second_long : length h₂ ≡ 520
   unfolding held_next
@@ -222,14 +225,14 @@ module _ (p next : JobPoint) (t : Bool) (h h₁ h₂ im q : List ℕ) (l : lengt
     taken_on r now a b = (a ∙ said_answer, (second, b ∙ said_out))
 
 -- What a record keeps, as the calls read it.
-kept_none : (h : List ℕ) → job_kept h ≡ KeepsNone → unpacked_job h ≡ none
+kept_none : (h : List ℕ) → job_kept h ≡ None → unpacked_job h ≡ none
 unfolding unpacked_job
-kept_none h e = ap (λ (k : JobKept). kept_state k h) e
+kept_none h e = ap (λ (k : OptionOf JobKept). kept_state k h) e
 
-kept_some : (h : List ℕ) (n : ℕ) (p : JobPoint) → job_kept h ≡ Keeps n p
+kept_some : (h : List ℕ) (n : ℕ) (p : JobPoint) → job_kept h ≡ Some (record { bytes = n; point = p })
     → unpacked_job h ≡ some (record { page = take 256 h; mask = mask_of h; bytes = n; point = p })
 unfolding unpacked_job
-kept_some h n p e = ap (λ (k : JobKept). kept_state k h) e
+kept_some h n p e = ap (λ (k : OptionOf JobKept). kept_state k h) e
 
 -- what is known of a record that keeps a job
 pub record Kept (h : List ℕ) (n : ℕ) (p : JobPoint) : Type 0 where
@@ -237,7 +240,7 @@ pub record Kept (h : List ℕ) (n : ℕ) (p : JobPoint) : Type 0 where
   pub image : image_fits n ≡ true
   pub point : point_fits n p ≡ true
 
-pub kept : (h : List ℕ) (n : ℕ) (p : JobPoint) → job_kept h ≡ Keeps n p → Kept h n p
+pub kept : (h : List ℕ) (n : ℕ) (p : JobPoint) → job_kept h ≡ Some (record { bytes = n; point = p }) → Kept h n p
 kept h n p e =
     let j = kept_record h n p e in
     let s : JobState = record { page = take 256 h; mask = mask_of h; bytes = n; point = p } in
@@ -250,7 +253,7 @@ pub record KeptWith (h im : List ℕ) (p : JobPoint) : Type 0 where
   pub image : image_fits (length im) ≡ true
   pub point : point_fits (length im) p ≡ true
 
-pub kept_with : (h im : List ℕ) (n : ℕ) (p : JobPoint) → job_kept h ≡ Keeps n p → length im ≡ n → KeptWith h im p
+pub kept_with : (h im : List ℕ) (n : ℕ) (p : JobPoint) → job_kept h ≡ Some (record { bytes = n; point = p }) → length im ≡ n → KeptWith h im p
 kept_with h im n p k e =
     let f = kept h n p k in
     record { long = f.long; image = ap image_fits e ∙ f.image; point = ap (λ (i : ℕ). point_fits i p) e ∙ f.point }
@@ -268,14 +271,18 @@ module _ (h im q out : List ℕ) where
   refuses n r e z a = rw (e, ne_eqb n 0 z) (a, (refl, refl))
 
   -- a record that keeps no job
-  record_number : job_kept h ≡ KeepsNone → job_refusal call ≡ 6
+  record_number : job_kept h ≡ None → job_refusal call ≡ 6
   unfolding job_refusal
   record_number k = ap (λ (u : Option JobState). later_number u (length im) (length out)) (kept_none h k)
 
-  pub refuses_record : job_kept h ≡ KeepsNone → (r : RadioAdvanced) → r ≡ takes_number 6 → Answers r h out
+  -- or that has another length
+  pub refuses_other : (length h ≡ 520 → ⊥) → (r : RadioAdvanced) → r ≡ takes_number 6 → Answers r h out
+  refuses_other l r a = refuses 6 r (record_number (sym (not_520_bytes h l))) (λ z. omega arith) a
+
+  pub refuses_record : job_kept h ≡ None → (r : RadioAdvanced) → r ≡ takes_number 6 → Answers r h out
   refuses_record k r a = refuses 6 r (record_number k) (λ z. omega arith) a
 
-  module _ (n : ℕ) (p : JobPoint) (k : job_kept h ≡ Keeps n p) where
+  module _ (n : ℕ) (p : JobPoint) (k : job_kept h ≡ Some (record { bytes = n; point = p })) where
     later : job_refusal call ≡ cond (eqb (length im) n) (room_number (length out)) 7
     unfolding job_refusal
     later = ap (λ (u : Option JobState). later_number u (length im) (length out)) (kept_some h n p k)
@@ -327,3 +334,7 @@ module _ (h im q out : List ℕ) where
           → held ≡ held_next p h im q → now ≡ message_put (says_next p h im q) out → Answers r held now
       accepts r held now a b c =
           (a ∙ sym (ap (λ x. x.answer) done_is), (b ∙ sym (ap (λ x. x.held) done_is), c ∙ sym (ap (λ x. x.out) done_is)))
+
+-- a record lent on as an array is the same
+pub lent_on : (h held im q out : List ℕ) (r : RadioAdvanced) (then now : List ℕ) → h ≡ held → Answers h im q out r then now → Answers held im q out r then now
+lent_on h held im q out r then now e a = subst (λ (x : List ℕ). Answers x im q out r then now) e a

@@ -4,9 +4,7 @@ use Rattle.std.specs.Prelude.{Bool, true, false, cond, ◌&&◌, List, ◌++◌,
 use Rattle.exchange.specs.Exchange.{Said}
 use Rattle.radio_job.specs.declared.Ending.{Ending}
 use Rattle.radio_job.specs.declared.JobPoint.{JobPoint}
-use Rattle.radio_job.specs.declared.JobPoint.TheVariants.{AsksConfiguration, TakesConfiguration, ErasesArea, FeedsPage}
-use Rattle.radio_job.specs.declared.JobPoint.TheVariants.{ErasesConfiguration, SetsConfiguration, SetsByte0, AsksPage}
-use Rattle.radio_job.specs.declared.JobPoint.TheVariants.{TakesPage, SetsByte1, Finished}
+use Rattle.radio_job.specs.declared.JobPoint.TheVariants.{TakesConfiguration}
 use Rattle.radio_job.specs.Image.{merged}
 use Rattle.radio_job.specs.Job.{Message}
 use Rattle.radio_point.specs.Code.After.{job_point_after}
@@ -15,17 +13,8 @@ use Rattle.radio_say.specs.Code.Say.{point_says}
 
 -- whether a point takes the old configuration
 abbrev pub takes_old : JobPoint → Bool
-takes_old AsksConfiguration = false
 takes_old TakesConfiguration = true
-takes_old ErasesArea = false
-takes_old (FeedsPage p) = false
-takes_old ErasesConfiguration = false
-takes_old SetsConfiguration = false
-takes_old SetsByte0 = false
-takes_old (AsksPage p) = false
-takes_old (TakesPage p) = false
-takes_old SetsByte1 = false
-takes_old (Finished e) = false
+takes_old _ = false
 
 -- a record with the old configuration merged into its page
 unfoldable pub merged_held : (held old : List ℕ) → List ℕ

@@ -1,7 +1,7 @@
 -- A page of the padded image: bytes of the image, and 0xFF behind them.
 use mathlib.Core.Path.{◌≡◌, sym, ap, ◌∙◌}
 use mathlib.Core.List.{List, ◌++◌, append-nil}
-use Prim.Native.Nat.{ℕ, zero, suc, ◌*◌, ◌-◌, ◌≤◌, ◌<◌}
+use Prim.Native.Nat.{ℕ, zero, suc, ◌+◌, ◌*◌, ◌-◌, min, ◌≤◌, ◌<◌}
 use native.Mathlib.Omega.{arith}
 use lib.Dec.{ltb}
 use lib.ListN.{length, take, drop, replicate, length-append, length-drop, length-replicate}
@@ -10,7 +10,6 @@ use borrow.Author.Tests.{eq-eqb, ne_eqb, lt-ltb, le-ltb, ltb-true, ltb-false}
 use Rattle.laws.proofs.Tests.{by_test}
 use Rattle.radio_job.specs.Image.{page_count, padded, image_page}
 use Rattle.radio_image.specs.Page.{image_page_put}
-use Rattle.radio_image.specs.Code.Stop.{page_stop}
 
 -- the buffers that are left as they were
 pub other_buffer : (im : List ℕ) (p : ℕ) (out : List ℕ) → (length out ≡ 256 → ⊥) → out ≡ image_page_put im p out
@@ -57,36 +56,33 @@ module _ (im : List ℕ) (p : ℕ) (h : p < page_count im) where
       ap (λ (t : List ℕ). take 256 t) split ∙ take_all 256 (drop start im ++ behind) k ∙ ap (λ (n : ℕ). drop start im ++ replicate n 0xFF) z
 
   -- the bytes up to the page's end, and behind them what was 0xFF
-  pub page_parts : (n : ℕ) → n ≡ page_stop start (length im) - start
-      → take n (drop start im) ++ drop n (replicate 256 0xFF) ≡ image_page im p
-  unfolding page_stop
-  page_parts n =
+  page_parts : (n : ℕ) → n ≡ min (length im) (start + 256) - start → take n (drop start im) ++ drop n (replicate 256 0xFF) ≡ image_page im p
+  page_parts n e =
       let d = length-drop start im in
       by_test (ltb (length im - start) 256)
-      (λ t. rw t (λ e.
+      (λ t.
       let l = ltb-true (length im - start) 256 t in
       let a : length (drop start im) ≤ n = omega arith in
       let b : 256 - n ≡ 256 - (length im - start) = omega arith in
       ap (λ (x : List ℕ). x ++ drop n (replicate 256 0xFF)) (take_all n (drop start im) a)
       ∙ ap (λ (x : List ℕ). drop start im ++ x) (drop_replicate n 256 0xFF ∙ ap (λ (k : ℕ). replicate k 0xFF) b)
-      ∙ sym (last_page l)))
-      (λ t. rw t (λ e.
+      ∙ sym (last_page l))
+      (λ t.
       let l = ltb-false (length im - start) 256 t in
       let a : n ≡ 256 = omega arith in
       ap (λ (k : ℕ). take k (drop start im) ++ drop k (replicate 256 0xFF)) a
       ∙ append-nil (take 256 (drop start im))
-      ∙ sym (whole_page l)))
+      ∙ sym (whole_page l))
 
   -- the buffer after it was filled and the image's bytes were copied into it
   pub put_is : (out bytes now : List ℕ) (stop : ℕ) → length out ≡ 256 → bytes ≡ replicate (length out) 0xFF
-      → stop ≡ page_stop (p * 256) (length im) → stop ≤ length im
-      → now ≡ take (stop - p * 256) (drop (p * 256) im) → now ++ drop (stop - p * 256) bytes ≡ image_page_put im p out
+      → stop ≡ min (length im) (p * 256 + 256) → now ≡ take (stop - p * 256) (drop (p * 256) im) → now ++ drop (stop - p * 256) bytes ≡ image_page_put im p out
   unfolding image_page_put
-  put_is out bytes now stop l b e m q =
+  put_is out bytes now stop l b e q =
       let z : p * 256 ≡ start = omega arith in
       let n = stop - start in
       let src = take n (drop start im) in
-      let f : n ≡ page_stop start (length im) - start = ap (λ (x : ℕ). x - start) (e ∙ ap (λ (x : ℕ). page_stop x (length im)) z) in
+      let f : n ≡ min (length im) (start + 256) - start = omega arith in
       let w : bytes ≡ replicate 256 0xFF = b ∙ ap (λ (x : ℕ). replicate x 0xFF) l in
       let v : now ++ drop (stop - p * 256) bytes ≡ src ++ drop n (replicate 256 0xFF) =
       ap (λ (x : List ℕ). x ++ drop (stop - p * 256) bytes) q

@@ -1,13 +1,14 @@
 -- The state after a reply leaves to say what the reply leaves of the exchange.
-use mathlib.Core.Path.{◌≡◌, sym, ap, ◌∙◌}
+use mathlib.Core.Path.{◌≡◌, refl, sym, ap, ◌∙◌}
 use mathlib.Core.Bool.{true, false, cond}
 use mathlib.Core.List.{List, [], ◌∷◌}
 use Prim.Native.Nat.{ℕ, suc, ◌+◌, ◌≤◌, ◌<◌}
 use native.Mathlib.Numerals.{add-one}
 use native.Mathlib.Omega.{arith}
 use lib.Dec.{eqb, ltb}
+use Rattle.std.specs.Prelude.{Ok, Err}
 use lib.ListN.{length, drop}
-use borrow.Author.Tests.{ltb-true, ltb-false, eqb-true}
+use borrow.Author.Tests.{ltb-true, ltb-false}
 use Rattle.laws.proofs.Tests.{by_test}
 use Rattle.exchange.specs.Exchange.{ended, after}
 use Rattle.radio_command.specs.Command.{read_command}
@@ -17,9 +18,9 @@ use Rattle.radio_job.specs.declared.JobPoint.TheVariants.{AsksConfiguration, Tak
 use Rattle.radio_job.specs.declared.JobPoint.TheVariants.{ErasesConfiguration, SetsConfiguration, SetsByte0, AsksPage, TakesPage}
 use Rattle.radio_job.specs.declared.JobPoint.TheVariants.{SetsByte1, Finished}
 use Rattle.radio_job.specs.Image.{page_count, image_pages, image_page}
-use Rattle.radio_job.specs.Job.{JobExchange, unless, take_reply, say, answer_ending, confirmed, fetched, fed_pages, page_ending}
+use Rattle.radio_job.specs.Job.{JobExchange, Standing, unless, take_reply, say, answer_ending, confirmed, fetched, fed_pages, page_ending}
 use Rattle.radio_job.specs.Job.{pages_compared, protects, sets_byte_0, restores, ends_bad, ends_done}
-use Rattle.radio_job.specs.State.{JobState, point_leaves, job_left, ending_fits, point_fits}
+use Rattle.radio_job.specs.State.{JobState, point_leaves, job_left, point_fits}
 use Rattle.radio_job.specs.Advance.{length_ending, last_ending, reply_ending, next_point, page_kept, job_advanced_by}
 use Rattle.radio_job.specs.Advance.{job_advanced}
 use Rattle.radio_job.proofs.Laws.Image.{image_next, image_last}
@@ -33,7 +34,7 @@ say_after : (m : List ℕ) (n : ℕ) (k : List ℕ → JobExchange) (r : List �
 unfolding after
 say_after m n k r = by_test (eqb (length r) n) (λ e. rw e) (λ e. rw e)
 
-no_answer : (r : List ℕ) → eqb (length r) 8 ≡ false → answer_ending r ≡ ends_bad
+no_answer : (r : List ℕ) → eqb (length r) 8 ≡ false → answer_ending r ≡ Err ends_bad
 unfolding answer_ending read_command
 no_answer r e = rw e
 
@@ -63,10 +64,11 @@ unfolding fetched
 fetched_after p k r = confirmed_after _ (say [] 256 k) r
 
 -- what a state leaves after a reply: the next point's, unless the reply ends the job
-left_unless : (im : List ℕ) (v : Ending) (s : JobState) (r : List ℕ)
+left_unless : (im : List ℕ) (v : Standing) (s : JobState) (r : List ℕ)
     → job_left im (job_advanced_by v s r) ≡ unless v (point_leaves (next_point s.point s.bytes) im s.mask (page_kept s.point s.mask s.page r))
 unfolding job_left
-left_unless im v s r = by_test (eqb v.number 0) (λ e. rw e) (λ e. rw e)
+left_unless im (Ok _) s r = refl
+left_unless im (Err e) s r = refl
 
 -- one fact for each way that a page may be followed
 module _ (im m c r : List ℕ) (p : ℕ) (h : p < page_count im) where
@@ -124,19 +126,16 @@ restores_after ps c r = confirmed_after _ _ r
 -- the last message: the job is done, unless its reply ends it otherwise
 protects_moves : (c r : List ℕ) → unless (last_ending (answer_ending r)) (ended ends_done) ≡ then_after (protects c) r
 unfolding protects
-protects_moves c r = by_test (eqb (answer_ending r).number 0) (λ e. rw e) (λ e. rw (e, e)) ∙ sym (confirmed_after _ (ended ends_done) r)
+protects_moves c r = last_or_ended (answer_ending r) ∙ sym (confirmed_after _ (ended ends_done) r)
+  where
+    last_or_ended : (v : Standing) → unless (last_ending v) (ended ends_done) ≡ unless v (ended ends_done)
+    last_or_ended (Ok _) = refl
+    last_or_ended (Err e) = refl
 
 -- an ended job stays ended
-fits_ended : (n : ℕ) (e : Ending) → ending_fits n e ≡ true → eqb e.number 0 ≡ false
-unfolding ending_fits
-fits_ended n e f = by_test (eqb e.number 0) (λ z. absurd (false_true (rw (eqb-true e.number 0 z) at f))) (λ z. z)
-  where
-    false_true : false ≡ true → ⊥
-    false_true p = let z : ◌≡◌ {A = ℕ} 0 1 = cc in omega arith
-
-finished_stays : (n : ℕ) (e : Ending) (r : List ℕ) → ending_fits n e ≡ true → unless e (ended e) ≡ then_after (ended e) r
+finished_stays : (e : Ending) (r : List ℕ) → ended e ≡ then_after (ended e) r
 unfolding after
-finished_stays n e r f = rw (fits_ended n e f)
+finished_stays e r = refl
 
 -- The law, point by point.
 pub point_moves : (p : JobPoint) (im m c r : List ℕ) → point_fits (length im) p ≡ true
@@ -151,7 +150,7 @@ point_moves SetsByte0 im m c r f = sym (confirmed_after _ _ r)
 point_moves (AsksPage p) im m c r f = asks im m c r p (ltb-true p (page_count im) f)
 point_moves (TakesPage p) im m c r f = takes im m c r p (ltb-true p (page_count im) f)
 point_moves SetsByte1 im m c r f = protects_moves c r
-point_moves (Finished e) im m c r f = finished_stays (length im) e r f
+point_moves (Finished e) im m c r f = finished_stays e r
 
 pub advances : (im : List ℕ) (s : JobState) (r : List ℕ) → point_fits s.bytes s.point ≡ true → length im ≡ s.bytes
     → job_left im (job_advanced im s r) ≡ then_after (job_left im s) r

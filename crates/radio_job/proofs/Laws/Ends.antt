@@ -5,14 +5,18 @@ use Prim.Native.Nat.{ℕ, zero, suc, ◌+◌, ◌*◌, ◌≤◌}
 use native.Mathlib.Omega.{arith}
 use lib.Dec.{eqb}
 use lib.ListN.{length}
-use borrow.Author.Tests.{eqb-false}
+use Rattle.std.specs.Prelude.{Option, Some, None, Ok, Err, IfErr}
 use Rattle.laws.proofs.Tests.{by_test}
 use Rattle.exchange.specs.Exchange.{ended, ask, after, fed}
 use Rattle.exchange.proofs.Laws.Exchange.{fed_ended}
+use Rattle.radio_command.specs.declared.CommandName.{CommandName}
+use Rattle.radio_command.specs.declared.CommandName.TheVariants.{InfOk, InfError}
+use Rattle.radio_command.specs.declared.RadioCommand.{RadioCommand}
+use Rattle.radio_command.specs.Command.{read_command}
 use Rattle.radio_job.specs.declared.Ending.{Ending}
 use Rattle.radio_job.specs.Image.{page_count, image_pages, padded}
 use Rattle.radio_job.specs.Job.{JobExchange, take_reply, ends_bad, unless, answer_ending, confirmed, fetched, fed_pages}
-use Rattle.radio_job.specs.Job.{page_ending, pages_compared}
+use Rattle.radio_job.specs.Job.{Standing, name_ending, read_ending, same_bytes, page_ending, pages_compared}
 use Rattle.radio_job.specs.Job.{protects, restores, job}
 use Rattle.radio_job.specs.Claims.{EndsIn, JobEnds}
 use Rattle.radio_job.proofs.Laws.Image.{pages_many}
@@ -23,12 +27,34 @@ pub record HasEnded (e : JobExchange) : Type 0 where
   pub is : e ≡ ended ending
   pub number : ending.number ≡ 0 → ⊥
 
-unless_in : (v : Ending) (n : ℕ) (rest : JobExchange) → EndsIn n rest → EndsIn n (unless v rest)
-unless_in v n rest e = by_test (eqb v.number 0) (λ t. rw t e) (λ t. rw t (eqb-false v.number 0 t))
+-- an end after a reply is by a number
+abbrev ByNumber : Standing → Type 0
+ByNumber v = IfErr v (λ e. e.number ≡ 0 → ⊥)
+
+name_numbered : (x : CommandName) (c : ℕ) → ByNumber (name_ending x c)
+name_numbered InfOk c = tt
+name_numbered InfError c = λ q. let y : ◌≡◌ {A = ℕ} 42 0 = q in omega arith
+name_numbered _ c = λ q. let y : ◌≡◌ {A = ℕ} 28 0 = q in omega arith
+
+read_numbered : (x : Option RadioCommand) → ByNumber (read_ending x)
+read_numbered (Some c) = name_numbered c.name c.p0
+read_numbered None = λ q. let y : ◌≡◌ {A = ℕ} 28 0 = q in omega arith
+
+answer_numbered : (r : List ℕ) → ByNumber (answer_ending r)
+unfolding answer_ending
+answer_numbered r = read_numbered (read_command r)
+
+page_numbered : (i : ℕ) (p r : List ℕ) → ByNumber (page_ending i p r)
+unfolding page_ending
+page_numbered i p r = by_test (same_bytes r p) (λ t. rw t tt) (λ t. rw t (λ q. let y : ◌≡◌ {A = ℕ} 43 0 = q in omega arith))
+
+unless_in : (v : Standing) (n : ℕ) (rest : JobExchange) → ByNumber v → EndsIn n rest → EndsIn n (unless v rest)
+unless_in (Ok _) n rest b e = e
+unless_in (Err x) n rest b e = b
 
 confirmed_in : (m : List ℕ) (n : ℕ) (rest : JobExchange) → EndsIn n rest → EndsIn (suc n) (confirmed m rest)
 unfolding confirmed
-confirmed_in m n rest e = λ r. unless_in (answer_ending r) n rest e
+confirmed_in m n rest e = λ r. unless_in (answer_ending r) n rest (answer_numbered r) e
 
 fetched_in : (p n : ℕ) (k : List ℕ → JobExchange) → ((r : List ℕ) → EndsIn n (k r)) → EndsIn (suc (suc n)) (fetched p k)
 unfolding fetched
@@ -61,7 +87,7 @@ compared_in : (ps : List (List ℕ)) (i n : ℕ) (rest : JobExchange) → EndsIn
 unfolding pages_compared
 compared_in [] i n rest e = e
 compared_in (p ∷ ps) i n rest e =
-    fetched_in i (two_each ps n) _ (λ r. unless_in (page_ending i p r) (two_each ps n) _ (compared_in ps (suc i) n rest e))
+    fetched_in i (two_each ps n) _ (λ r. unless_in (page_ending i p r) (two_each ps n) _ (page_numbered i p r) (compared_in ps (suc i) n rest e))
 
 protects_in : (c : List ℕ) → EndsIn 1 (protects c)
 unfolding protects

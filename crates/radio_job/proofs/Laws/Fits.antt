@@ -1,5 +1,6 @@
 -- A state that fits leads to states that fit.
-use mathlib.Core.Path.{◌≡◌, refl, sym, ap, ◌∙◌}
+use mathlib.Core.Path.{◌≡◌, refl, sym, ap, subst, ◌∙◌}
+use Rattle.std.specs.Prelude.{Option, Some, None, Ok, Err, IfErr, IsOk}
 use mathlib.Core.Bool.{true, false}
 use mathlib.Core.List.{List, [], ◌∷◌}
 use Prim.Native.Nat.{ℕ, suc, ◌+◌, ◌*◌, ◌%◌, ◌≤◌, ◌<◌}
@@ -9,24 +10,19 @@ use lib.ListN.{length}
 use borrow.Author.Tests.{ltb-true, eqb-true, lt-ltb, eq-eqb}
 use Rattle.laws.proofs.Tests.{by_test, both}
 use Rattle.radio_command.specs.declared.CommandName.{CommandName}
-use Rattle.radio_command.specs.declared.CommandName.TheVariants.{RdSwVersion, InfSwVersion, RdFlashByte, WrFlashByte, RdFlashPage}
-use Rattle.radio_command.specs.declared.CommandName.TheVariants.{WrFlashPage, RdPrgArea, WrPrgArea, InfOk, InfError, WrBlankChk, WrBist}
-use Rattle.radio_command.specs.declared.CommandName.TheVariants.{WrPrgXram}
-use Rattle.radio_command.specs.declared.CommandRead.{CommandRead}
-use Rattle.radio_command.specs.declared.CommandRead.TheVariants.{Is, Refused}
+use Rattle.radio_command.specs.declared.CommandName.TheVariants.{InfOk, InfError}
+use Rattle.radio_command.specs.declared.RadioCommand.{RadioCommand}
 use Rattle.radio_command.specs.Command.{read_command}
-use Rattle.radio_job.specs.declared.Ending.{Ending}
 use Rattle.radio_job.specs.declared.JobPoint.{JobPoint}
 use Rattle.radio_job.specs.declared.JobPoint.TheVariants.{AsksConfiguration, TakesConfiguration, ErasesArea, FeedsPage}
 use Rattle.radio_job.specs.declared.JobPoint.TheVariants.{ErasesConfiguration, SetsConfiguration, SetsByte0, AsksPage, TakesPage}
 use Rattle.radio_job.specs.declared.JobPoint.TheVariants.{SetsByte1, Finished}
 use Rattle.radio_job.specs.Image.{JobInput, input_refusal, mask_fits, image_fits, pages_for, page_count, image_page}
-use Rattle.radio_job.specs.Job.{ends_bad, ends_done, name_ending, read_ending, answer_ending, same_bytes}
+use Rattle.radio_job.specs.Job.{Standing, ends_bad, ends_done, name_ending, read_ending, answer_ending, same_bytes}
 use Rattle.radio_job.specs.Job.{shared}
 use Rattle.radio_job.specs.Job.{page_ending}
 use Rattle.radio_job.specs.State.{JobState, opened_job, ending_fits, point_fits, state_fits}
-use Rattle.radio_job.specs.Advance.{length_ending, last_ending, reply_ending, next_point, page_kept}
-use Rattle.radio_job.specs.Advance.{job_advanced}
+use Rattle.radio_job.specs.Advance.{length_ending, last_ending, reply_ending, next_point, page_kept, job_advanced_by, job_advanced}
 use Rattle.radio_job.proofs.Laws.Image.{image_page_long, merged_long, mask_long, sized, accepted_input}
 
 pub false_true : false ≡ true → ⊥
@@ -55,21 +51,14 @@ unfolding state_fits
 fit s f = rw (eq-eqb (length s.page) 256 f.page, f.masked, f.image, f.point)
 
 -- the ends fit
-name_fits : (n : ℕ) (x : CommandName) (c : ℕ) → eqb (name_ending x c).number 0 ≡ false → ending_fits n (name_ending x c) ≡ true
+abbrev pub EndFits : (bytes : ℕ) → Standing → Type 0
+EndFits n v = IfErr v (λ e. ending_fits n e ≡ true)
+
+name_fits : (n : ℕ) (x : CommandName) (c : ℕ) → EndFits n (name_ending x c)
 unfolding ending_fits
-name_fits n InfOk c e = absurd (true_false e)
-name_fits n InfError c e = let l : c % 256 < 256 = omega arith in rw (lt-ltb (c % 256) 256 l)
-name_fits n RdSwVersion c e = refl
-name_fits n InfSwVersion c e = refl
-name_fits n RdFlashByte c e = refl
-name_fits n WrFlashByte c e = refl
-name_fits n RdFlashPage c e = refl
-name_fits n WrFlashPage c e = refl
-name_fits n RdPrgArea c e = refl
-name_fits n WrPrgArea c e = refl
-name_fits n WrBlankChk c e = refl
-name_fits n WrBist c e = refl
-name_fits n WrPrgXram c e = refl
+name_fits n InfOk c = tt
+name_fits n InfError c = let l : c % 256 < 256 = omega arith in rw (lt-ltb (c % 256) 256 l)
+name_fits n _ c = refl
 
 bad_fits : (n : ℕ) → ending_fits n ends_bad ≡ true
 unfolding ending_fits
@@ -79,20 +68,21 @@ done_fits : (n : ℕ) → ending_fits n ends_done ≡ true
 unfolding ending_fits
 done_fits n = refl
 
-read_fits : (n : ℕ) (x : CommandRead) → eqb (read_ending x).number 0 ≡ false → ending_fits n (read_ending x) ≡ true
-read_fits n (Is c) e = name_fits n c.name c.p0 e
-read_fits n Refused e = bad_fits n
+read_fits : (n : ℕ) (x : Option RadioCommand) → EndFits n (read_ending x)
+read_fits n (Some c) = name_fits n c.name c.p0
+read_fits n None = bad_fits n
 
-answer_fits : (n : ℕ) (r : List ℕ) → eqb (answer_ending r).number 0 ≡ false → ending_fits n (answer_ending r) ≡ true
+answer_fits : (n : ℕ) (r : List ℕ) → EndFits n (answer_ending r)
 unfolding answer_ending
-answer_fits n r e = read_fits n (read_command r) e
+answer_fits n r = read_fits n (read_command r)
 
-last_fits : (n : ℕ) (v : Ending) → (eqb v.number 0 ≡ false → ending_fits n v ≡ true) → ending_fits n (last_ending v) ≡ true
-last_fits n v f = by_test (eqb v.number 0) (λ e. rw e (done_fits n)) (λ e. rw e (f e))
+last_fits : (n : ℕ) (v : Standing) → EndFits n v → EndFits n (last_ending v)
+last_fits n (Ok _) f = done_fits n
+last_fits n (Err e) f = f
 
-length_fits : (n k : ℕ) (r : List ℕ) → eqb (length_ending k r).number 0 ≡ false → ending_fits n (length_ending k r) ≡ true
+length_fits : (n k : ℕ) (r : List ℕ) → EndFits n (length_ending k r)
 unfolding length_ending
-length_fits n k r = by_test (eqb (length r) k) (λ e. rw e (λ f. absurd (true_false f))) (λ e. rw e (λ f. bad_fits n))
+length_fits n k r = by_test (eqb (length r) k) (λ e. rw e tt) (λ e. rw e (bad_fits n))
 
 -- pages of one length that differ share fewer bytes
 pub shares_less : (xs ys : List ℕ) → length xs ≡ length ys → same_bytes xs ys ≡ false → shared xs ys < length ys
@@ -103,7 +93,7 @@ shares_less (x ∷ xs) [] l e = absurd (let z : suc (length xs) ≡ 0 = l in ome
 shares_less (x ∷ xs) (y ∷ ys) l e =
     let z : suc (length xs) ≡ suc (length ys) = l in
     by_test (eqb x y)
-    (λ t. let i = shares_less xs ys (omega arith) (rw t at e) in let j : suc (shared xs ys) < suc (length ys) = omega arith in rw t j)
+    (λ t. let i = shares_less xs ys (omega arith) (rw t at e) in let j : 1 + shared xs ys < suc (length ys) = omega arith in rw t j)
     (λ t. let j : 0 < suc (length ys) = omega arith in rw t j)
 
 -- pages that are the same share all
@@ -112,45 +102,39 @@ unfolding same_bytes shared
 shares_all [] [] e = refl
 shares_all [] (y ∷ ys) e = absurd (false_true e)
 shares_all (x ∷ xs) [] e = absurd (false_true e)
-shares_all (x ∷ xs) (y ∷ ys) e = let b = both (eqb x y) (same_bytes xs ys) e in rw b.0 (ap suc (shares_all xs ys b.1))
+shares_all (x ∷ xs) (y ∷ ys) e = let b = both (eqb x y) (same_bytes xs ys) e in let i = shares_all xs ys b.1 in let z : 1 + shared xs ys ≡ suc (length ys) = omega arith in rw b.0 z
 
-page_fits : (im : List ℕ) (p : ℕ) (r : List ℕ) → p < page_count im → length r ≡ 256
-    → eqb (page_ending p (image_page im p) r).number 0 ≡ false → ending_fits (length im) (page_ending p (image_page im p) r) ≡ true
+page_fits : (im : List ℕ) (p : ℕ) (r : List ℕ) → p < page_count im → length r ≡ 256 → EndFits (length im) (page_ending p (image_page im p) r)
 unfolding page_ending ending_fits
 page_fits im p r h l =
     let q = image_page_long im p h in
     by_test (same_bytes r (image_page im p))
-    (λ e. rw e (λ f. absurd (true_false f)))
+    (λ e. rw e tt)
     (λ e.
     let k = shares_less r (image_page im p) (l ∙ sym q) e in
     let z : 256 * p + shared r (image_page im p) < 256 * page_count im = omega arith in
-    rw e (λ f. lt-ltb _ _ z))
+    rw e (lt-ltb _ _ z))
 
-takes_fits : (im : List ℕ) (p : ℕ) (r : List ℕ) → p < page_count im
-    → eqb (reply_ending (TakesPage p) im r).number 0 ≡ false → ending_fits (length im) (reply_ending (TakesPage p) im r) ≡ true
+takes_fits : (im : List ℕ) (p : ℕ) (r : List ℕ) → p < page_count im → EndFits (length im) (reply_ending (TakesPage p) im r)
 takes_fits im p r h =
-    by_test (eqb (length r) 256)
-    (λ e. rw e (page_fits im p r h (eqb-true (length r) 256 e)))
-    (λ e. rw e (λ f. bad_fits (length im)))
+    by_test (eqb (length r) 256) (λ e. rw e (page_fits im p r h (eqb-true (length r) 256 e))) (λ e. rw e (bad_fits (length im)))
 
-feeds_fits : (im : List ℕ) (p : ℕ) (r : List ℕ)
-    → eqb (reply_ending (FeedsPage p) im r).number 0 ≡ false → ending_fits (length im) (reply_ending (FeedsPage p) im r) ≡ true
+feeds_fits : (im : List ℕ) (p : ℕ) (r : List ℕ) → EndFits (length im) (reply_ending (FeedsPage p) im r)
 feeds_fits im p r =
     by_test (ltb (p + 1) (page_count im)) (λ e. rw e (length_fits (length im) 0 r)) (λ e. rw e (answer_fits (length im) r))
 
-pub ends_fit : (p : JobPoint) (im r : List ℕ) → point_fits (length im) p ≡ true
-    → eqb (reply_ending p im r).number 0 ≡ false → ending_fits (length im) (reply_ending p im r) ≡ true
-ends_fit AsksConfiguration im r f e = answer_fits (length im) r e
-ends_fit TakesConfiguration im r f e = length_fits (length im) 256 r e
-ends_fit ErasesArea im r f e = answer_fits (length im) r e
-ends_fit (FeedsPage p) im r f e = feeds_fits im p r e
-ends_fit ErasesConfiguration im r f e = answer_fits (length im) r e
-ends_fit SetsConfiguration im r f e = answer_fits (length im) r e
-ends_fit SetsByte0 im r f e = answer_fits (length im) r e
-ends_fit (AsksPage p) im r f e = answer_fits (length im) r e
-ends_fit (TakesPage p) im r f e = takes_fits im p r (ltb-true p (page_count im) f) e
-ends_fit SetsByte1 im r f e = last_fits (length im) (answer_ending r) (answer_fits (length im) r)
-ends_fit (Finished x) im r f e = f
+pub ends_fit : (p : JobPoint) (im r : List ℕ) → point_fits (length im) p ≡ true → EndFits (length im) (reply_ending p im r)
+ends_fit AsksConfiguration im r f = answer_fits (length im) r
+ends_fit TakesConfiguration im r f = length_fits (length im) 256 r
+ends_fit ErasesArea im r f = answer_fits (length im) r
+ends_fit (FeedsPage p) im r f = feeds_fits im p r
+ends_fit ErasesConfiguration im r f = answer_fits (length im) r
+ends_fit SetsConfiguration im r f = answer_fits (length im) r
+ends_fit SetsByte0 im r f = answer_fits (length im) r
+ends_fit (AsksPage p) im r f = answer_fits (length im) r
+ends_fit (TakesPage p) im r f = takes_fits im p r (ltb-true p (page_count im) f)
+ends_fit SetsByte1 im r f = last_fits (length im) (answer_ending r) (answer_fits (length im) r)
+ends_fit (Finished x) im r f = f
 
 -- the next point fits
 pub next_fits : (p : JobPoint) (n : ℕ) → 1 ≤ n → point_fits n p ≡ true → point_fits n (next_point p n) ≡ true
@@ -167,23 +151,18 @@ next_fits SetsByte1 n h f = done_fits n
 next_fits (Finished x) n h f = f
 
 -- the page that is kept has 256 bytes
-heard_long : (r : List ℕ) → eqb (length_ending 256 r).number 0 ≡ true → length r ≡ 256
+heard_long : (r : List ℕ) → IsOk (length_ending 256 r) → length r ≡ 256
 unfolding length_ending
 heard_long r = by_test (eqb (length r) 256) (λ e f. eqb-true (length r) 256 e) (λ e. rw e (λ f. absurd (false_true f)))
 
-next_long : (p : JobPoint) (im m c r : List ℕ) → length m ≡ 256 → length c ≡ 256
-    → eqb (reply_ending p im r).number 0 ≡ true → length (page_kept p m c r) ≡ 256
-next_long AsksConfiguration im m c r a b e = b
+next_long : (p : JobPoint) (im m c r : List ℕ) → length m ≡ 256 → length c ≡ 256 → IsOk (reply_ending p im r) → length (page_kept p m c r) ≡ 256
 next_long TakesConfiguration im m c r a b e = merged_long 256 m c r a b (heard_long r e)
-next_long ErasesArea im m c r a b e = b
-next_long (FeedsPage p) im m c r a b e = b
-next_long ErasesConfiguration im m c r a b e = b
-next_long SetsConfiguration im m c r a b e = b
-next_long SetsByte0 im m c r a b e = b
-next_long (AsksPage p) im m c r a b e = b
-next_long (TakesPage p) im m c r a b e = b
-next_long SetsByte1 im m c r a b e = b
-next_long (Finished x) im m c r a b e = b
+next_long _ im m c r a b e = b
+
+advanced_fits : (s : JobState) (r : List ℕ) (v : Standing) → Fitting s → 1 ≤ s.bytes
+    → (IsOk v → length (page_kept s.point s.mask s.page r) ≡ 256) → EndFits s.bytes v → state_fits (job_advanced_by v s r) ≡ true
+advanced_fits s r (Ok _) f h a b = fit _ (record { page = a refl; masked = f.masked; image = f.image; point = next_fits s.point s.bytes h f.point })
+advanced_fits s r (Err e) f h a b = fit _ (record { page = f.page; masked = f.masked; image = f.image; point = b })
 
 pub stays_fit : (im : List ℕ) (s : JobState) (r : List ℕ) → state_fits s ≡ true → length im ≡ s.bytes → state_fits (job_advanced im s r) ≡ true
 unfolding job_advanced
@@ -192,13 +171,21 @@ stays_fit im s r e l =
     let z = sized s.bytes f.image in
     let v = reply_ending s.point im r in
     let at : point_fits (length im) s.point ≡ true = ap (λ (n : ℕ). point_fits n s.point) l ∙ f.point in
-    by_test (eqb v.number 0)
-    (λ t. rw t (fit _ (record { page = next_long s.point im s.mask s.page r (mask_long s.mask f.masked) f.page t; masked = f.masked; image = f.image; point = next_fits s.point s.bytes z.some f.point })))
-    (λ t. rw t (fit _ (record { page = f.page; masked = f.masked; image = f.image; point = ap (λ (n : ℕ). ending_fits n v) (sym l) ∙ ends_fit s.point im r at t })))
+    let w : EndFits s.bytes v = subst (λ (n : ℕ). EndFits n v) l (ends_fit s.point im r at) in
+    advanced_fits s r v f z.some (next_long s.point im s.mask s.page r (mask_long s.mask f.masked) f.page) w
+
+-- only page and point change
+pub keeps_mask : (v : Standing) (s : JobState) (r : List ℕ) → (job_advanced_by v s r).mask ≡ s.mask
+keeps_mask (Ok _) s r = refl
+keeps_mask (Err e) s r = refl
+
+keeps_long : (v : Standing) (s : JobState) (r : List ℕ) → (job_advanced_by v s r).bytes ≡ s.bytes
+keeps_long (Ok _) s r = refl
+keeps_long (Err e) s r = refl
 
 pub stays_long : (im : List ℕ) (s : JobState) (r : List ℕ) → (job_advanced im s r).bytes ≡ s.bytes
 unfolding job_advanced
-stays_long im s r = by_test (eqb (reply_ending s.point im r).number 0) (λ t. rw t) (λ t. rw t)
+stays_long im s r = keeps_long (reply_ending s.point im r) s r
 
 -- the state of an accepted opening fits
 pub opened_fits : (g : JobInput) → input_refusal g ≡ 0 → state_fits (opened_job g) ≡ true

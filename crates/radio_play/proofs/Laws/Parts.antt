@@ -18,7 +18,7 @@ use Rattle.radio_target.specs.Model.{commanded, response, message_refusal}
 use Rattle.radio_target.specs.State.{fresh_state}
 use Rattle.radio_job.specs.declared.Ending.{Ending}
 use Rattle.radio_job.specs.Image.{page_count, image_pages, image_page}
-use Rattle.radio_job.specs.Job.{JobExchange, say, unless, answer_ending, confirmed, fetched, command_message, fed_pages, same_bytes}
+use Rattle.radio_job.specs.Job.{JobExchange, Standing, say, unless, answer_ending, confirmed, fetched, command_message, fed_pages, same_bytes}
 use Rattle.radio_job.specs.Job.{page_ending, pages_compared, protects, restores, ends_done}
 use Rattle.radio_job.proofs.Laws.Image.{image_next, image_last, image_page_long}
 use Rattle.radio_play.specs.Run.{JobRun, then_run, run_job}
@@ -39,7 +39,7 @@ last_fed p rest i f w l h =
     let b : i + 1 ≤ 128 = omega arith in
     let r : message_refusal (Takes i 1) f p 256 ≡ 0 = rw (eq-eqb (length f) 33024 w, le-leb (i + 1) 128 b, eq-eqb (length p) 256 l) in
     said p 8 (λ r. unless (answer_ending r) rest) (Takes i 1) f r refl
-    ∙ ap (λ (v : Ending). then_run (page_set i p f) (run_at (unless v rest) Waits (page_set i p f))) (answer_read (inf_ok 0))
+    ∙ ap (λ (v : Standing). then_run (page_set i p f) (run_at (unless v rest) Waits (page_set i p f))) (answer_read (inf_ok 0))
 
 next_fed : (p : List ℕ) (rest : JobExchange) (i n : ℕ) (f : List ℕ) → length f ≡ 33024 → length p ≡ 256 → i + suc (suc n) ≤ 128
     → run_at (say p 0 (λ _. rest)) (Takes i (suc (suc n))) f ≡ then_run (page_set i p f) (run_at rest (Takes (suc i) (suc n)) (page_set i p f))

@@ -8,7 +8,7 @@ use lib.Dec.{eqb}
 use lib.ListN.{length, drop, get_or, length-take, length-drop}
 use borrow.Author.Tests.{eq-eqb, le-leb}
 use Rattle.radio_command.specs.declared.CommandName.TheVariants.{RdFlashPage, WrPrgArea}
-use Rattle.radio_command.specs.declared.CommandRead.TheVariants.{Is}
+use Rattle.std.specs.Prelude.{Option, Some}
 use Rattle.radio_command.specs.declared.RadioCommand.{RadioCommand}
 use Rattle.radio_command.specs.Command.{name_of, command_sum, built}
 use Rattle.radio_command.proofs.Laws.Claims.{built_reads}
@@ -16,15 +16,13 @@ use Rattle.radio_flash.specs.declared.FlashChange.TheVariants.{Nothing}
 use Rattle.radio_flash.specs.Flash.{flash_page, is_protected, changed}
 use Rattle.radio_target.specs.declared.ModulePoint.{ModulePoint}
 use Rattle.radio_target.specs.declared.ModulePoint.TheVariants.{Waits, Takes, Loads, Sends}
-use Rattle.radio_target.specs.declared.PointFound.{PointFound}
-use Rattle.radio_target.specs.declared.PointFound.TheVariants.{At}
 use Rattle.radio_target.specs.declared.Deed.{Deed}
 use Rattle.radio_target.specs.Deeds.{radio_command, inf_ok, answers_error, performs, rd_flash_page, wr_prg_area}
 use Rattle.radio_target.specs.Model.{commanded, response, message_refusal}
 use Rattle.radio_target.specs.State.{module_state, module_point, fresh_state, RadioStepped, radio_taken, radio_stepped, found_stepped}
 use Rattle.radio_job.specs.declared.Ending.{Ending}
 use Rattle.radio_job.specs.Image.{page_count}
-use Rattle.radio_job.specs.Job.{JobExchange, say, unless, read_ending, answer_ending, confirmed, fetched, command_message, job, ends_error}
+use Rattle.radio_job.specs.Job.{JobExchange, Standing, say, unless, read_ending, answer_ending, confirmed, fetched, command_message, job, ends_error}
 use Rattle.radio_play.specs.Run.{JobRun, then_run, run_ends, run_job}
 use Rattle.radio_play.specs.Claims.{JobProtected}
 
@@ -32,7 +30,7 @@ use Rattle.radio_play.specs.Claims.{JobProtected}
 abbrev pub run_at : JobExchange → ModulePoint → (flash : List ℕ) → JobRun
 run_at e p f = run_job e (module_state p) f
 
-state_back : (p : ModulePoint) → module_point (module_state p) ≡ At p
+state_back : (p : ModulePoint) → module_point (module_state p) ≡ Some p
 unfolding module_point module_state
 state_back Waits = refl
 state_back (Takes p n) = refl
@@ -42,7 +40,7 @@ state_back (Sends p n) = refl
 stepped_is : (p : ModulePoint) (f m : List ℕ) → message_refusal p f m 256 ≡ 0 → radio_stepped (module_state p) f m 256 ≡ radio_taken (response p f m)
 unfolding radio_stepped
 stepped_is p f m r =
-    ap (λ (x : PointFound). found_stepped x (module_state p) f m 256) (state_back p) ∙ rw (eq-eqb (message_refusal p f m 256) 0 r)
+    ap (λ (x : Option ModulePoint). found_stepped x (module_state p) f m 256) (state_back p) ∙ rw (eq-eqb (message_refusal p f m 256) 0 r)
 
 -- a message that the module takes, and whose reply is as long as expected
 pub said : (m : List ℕ) (n : ℕ) (k : List ℕ → JobExchange) (p : ModulePoint) (f : List ℕ)
@@ -59,25 +57,25 @@ taken : (c : RadioCommand) (f : List ℕ) → length f ≡ 33024 → message_ref
 unfolding message_refusal built
 taken c f w = rw (eq-eqb (length f) 33024 w)
 
-pub answer_read : (c : RadioCommand) → answer_ending (built c) ≡ read_ending (Is c)
+pub answer_read : (c : RadioCommand) → answer_ending (built c) ≡ read_ending (Some c)
 unfolding answer_ending
 answer_read c = ap read_ending (built_reads c)
 
 -- a command's answer is judged as the deed has it
 after_answer : (c : RadioCommand) (rest : JobExchange) (f : List ℕ) (d : Deed) → length f ≡ 33024 → commanded (built c) f ≡ d
-    → run_at (confirmed (built c) rest) Waits f ≡ then_run (changed d.change f) (run_at (unless (read_ending (Is d.answer)) rest) d.point (changed d.change f))
+    → run_at (confirmed (built c) rest) Waits f ≡ then_run (changed d.change f) (run_at (unless (read_ending (Some d.answer)) rest) d.point (changed d.change f))
 unfolding confirmed built
 after_answer c rest f d w e =
     said (built c) 8 (λ r. unless (answer_ending r) rest) Waits f (taken c f w) refl
     ∙ ap (λ (z : Deed). then_run (changed z.change f) (run_at (unless (answer_ending (built z.answer)) rest) z.point (changed z.change f))) e
-    ∙ ap (λ (v : Ending). then_run (changed d.change f) (run_at (unless v rest) d.point (changed d.change f))) (answer_read d.answer)
+    ∙ ap (λ (v : Standing). then_run (changed d.change f) (run_at (unless v rest) d.point (changed d.change f))) (answer_read d.answer)
 
 -- a command that the module takes goes on, one that it refuses ends the job
 pub goes_on : (c : RadioCommand) (rest : JobExchange) (f : List ℕ) (d : Deed) → length f ≡ 33024 → commanded (built c) f ≡ d
     → (code : ℕ) → d.answer ≡ inf_ok code → run_at (confirmed (built c) rest) Waits f ≡ then_run (changed d.change f) (run_at rest d.point (changed d.change f))
 goes_on c rest f d w e code a =
     after_answer c rest f d w e
-    ∙ ap (λ (y : RadioCommand). then_run (changed d.change f) (run_at (unless (read_ending (Is y)) rest) d.point (changed d.change f))) a
+    ∙ ap (λ (y : RadioCommand). then_run (changed d.change f) (run_at (unless (read_ending (Some y)) rest) d.point (changed d.change f))) a
 
 pub stops_there : (c : RadioCommand) (rest : JobExchange) (f : List ℕ) (x : ℕ) → length f ≡ 33024 → commanded (built c) f ≡ answers_error x
     → run_at (confirmed (built c) rest) Waits f ≡ then_run f (run_ends (ends_error (x % 256)) fresh_state f)

@@ -2,23 +2,20 @@
 use mathlib.Core.Path.{◌≡◌, sym, ap, ◌∙◌}
 use mathlib.Core.Bool.{true, false}
 use mathlib.Core.List.{List, [], ◌∷◌}
-use Prim.Native.Nat.{ℕ, suc, ◌+◌, ◌*◌, ◌/◌, ◌≤◌, ◌<◌}
+use Prim.Native.Nat.{ℕ, suc, ◌+◌, ◌*◌, ◌≤◌, ◌<◌}
 use native.Mathlib.Omega.{arith}
-use lib.Dec.{eqb, ltb}
+use lib.Dec.{eqb}
+use Rattle.std.specs.Prelude.{Ok, Err}
 use lib.ListN.{length}
-use borrow.Author.Tests.{eq-eqb, ne_eqb, lt-ltb, le-ltb, ltb-true, ltb-false}
+use borrow.Author.Tests.{eq-eqb, eqb-true, lt-ltb}
 use Rattle.laws.proofs.Tests.{by_test}
-use Rattle.radio_job.specs.declared.Ending.{Ending}
-use Rattle.radio_job.specs.declared.JobPoint.{JobPoint}
 use Rattle.radio_job.specs.declared.JobPoint.TheVariants.{TakesPage}
-use Rattle.radio_job.specs.Image.{image_fits, page_count, image_page}
-use Rattle.radio_job.specs.Job.{same_bytes, shared, still_runs, ends_bad, page_ending}
-use Rattle.radio_job.specs.State.{point_fits}
-use Rattle.radio_job.specs.Advance.{reply_ending}
+use Rattle.radio_job.specs.Image.{page_count, image_page}
+use Rattle.radio_job.specs.Job.{same_bytes, shared, goes_on, page_ending}
+use Rattle.radio_job.specs.Advance.{length_ending, reply_ending}
 use Rattle.radio_job.proofs.Laws.Image.{image_page_long}
 use Rattle.radio_job.proofs.Laws.Fits.{shares_all, shares_less}
 use Rattle.radio_image.specs.Page.{image_page_put}
-use Rattle.radio_point.specs.Code.After.{point_by, job_point_after}
 
 -- lists of one length are the same where they share all
 pub same_shared : (n : ℕ) (xs ys : List ℕ) → length xs ≡ n → length ys ≡ n → shared xs ys ≡ n → same_bytes xs ys ≡ true
@@ -33,8 +30,9 @@ unfolding image_page_put
 put_page_is im p out l h = rw (eq-eqb (length out) 256 l, lt-ltb p (page_count im) h)
 
 -- A page read back, by the bytes that it shares with the image's.
-pub short_page : (p : ℕ) (im r : List ℕ) (e : Ending) → (length r ≡ 256 → ⊥) → e ≡ ends_bad → e ≡ reply_ending (TakesPage p) im r
-short_page p im r e n q = q ∙ rw (ne_eqb (length r) 256 n)
+pub whole_page : (r : List ℕ) → length_ending 256 r ≡ Ok tt → length r ≡ 256
+unfolding length_ending
+whole_page r = by_test (eqb (length r) 256) (λ t q. eqb-true (length r) 256 t) (λ t. rw t (λ q. absurd (let z : ◌≡◌ {A = ℕ} 0 1 = cc in omega arith)))
 
 module _ (p : ℕ) (im r w w₀ : List ℕ) (at : ℕ) (h : p < page_count im) (l : length r ≡ 256) (is : w ≡ image_page_put im p w₀) (l₀ : length w₀ ≡ 256) (e : at ≡ shared r w) where
   wanted : w ≡ image_page im p
@@ -43,16 +41,16 @@ module _ (p : ℕ) (im r w w₀ : List ℕ) (at : ℕ) (h : p < page_count im) (
   shares : at ≡ shared r (image_page im p)
   shares = e ∙ ap (λ (x : List ℕ). shared r x) wanted
 
-  pub page_agrees : at ≡ 256 → (v : Ending) → v ≡ still_runs → v ≡ reply_ending (TakesPage p) im r
+  pub page_agrees : at ≡ 256 → goes_on ≡ reply_ending (TakesPage p) im r
   unfolding page_ending
-  page_agrees q v k =
-      k ∙ rw (eq-eqb (length r) 256 l, same_shared 256 r (image_page im p) l (image_page_long im p h) (sym shares ∙ q))
+  page_agrees q =
+      rw (eq-eqb (length r) 256 l, same_shared 256 r (image_page im p) l (image_page_long im p h) (sym shares ∙ q))
 
-  pub page_disagrees : (at ≡ 256 → ⊥) → record { number = 43; code = 0; offset = 256 * p + at } ≡ reply_ending (TakesPage p) im r
+  pub page_disagrees : (at ≡ 256 → ⊥) → Err (record { number = 43; code = 0; offset = 256 * p + at }) ≡ reply_ending (TakesPage p) im r
   unfolding page_ending
   page_disagrees q =
       rw (eq-eqb (length r) 256 l, other_shared 256 r (image_page im p) (image_page_long im p h) (λ z. q (shares ∙ z)))
-      (ap (λ (o : ℕ). record { number = 43; code = 0; offset = 256 * p + o }) shares)
+      (ap (λ (o : ℕ). Err (record { number = 43; code = 0; offset = 256 * p + o })) shares)
 
 -- no more bytes are shared than there are
 pub shares_most : (xs ys : List ℕ) → shared xs ys ≤ length xs
@@ -61,29 +59,8 @@ shares_most [] ys = omega arith
 shares_most (x ∷ xs) [] = let z : 0 ≤ suc (length xs) = omega arith in z
 shares_most (x ∷ xs) (y ∷ ys) =
     by_test (eqb x y)
-    (λ t. let i = shares_most xs ys in let z : suc (shared xs ys) ≤ suc (length xs) = omega arith in rw t z)
+    (λ t. let i = shares_most xs ys in let z : 1 + shared xs ys ≤ suc (length xs) = omega arith in rw t z)
     (λ t. let z : 0 ≤ suc (length xs) = omega arith in rw t z)
 
 pub shares_at : (r w : List ℕ) (at : ℕ) → at ≡ shared r w → at ≤ length r
 shares_at r w at e = let m = shares_most r w in omega arith
-
--- an offset lies in so many pages where its page does
-pub offset_within : (o n : ℕ) → ltb (o / 256) n ≡ ltb o (256 * n)
-offset_within o n =
-    by_test (ltb (o / 256) n)
-    (λ t. let l = ltb-true (o / 256) n t in rw t (sym (lt-ltb o (256 * n) (omega arith))))
-    (λ t. let l = ltb-false (o / 256) n t in rw t (sym (le-ltb o (256 * n) (omega arith))))
-
--- a point of another job stays
-pub stays_image : (p : JobPoint) (im r : List ℕ) → image_fits (length im) ≡ false → p ≡ job_point_after p im r
-unfolding job_point_after
-stays_image p im r e = rw e
-
-pub stays_point : (p : JobPoint) (im r : List ℕ) → image_fits (length im) ≡ true → point_fits (length im) p ≡ false → p ≡ job_point_after p im r
-unfolding job_point_after
-stays_point p im r e f = rw (e, f)
-
-pub goes_by : (p q : JobPoint) (im r : List ℕ) → image_fits (length im) ≡ true → point_fits (length im) p ≡ true
-    → q ≡ point_by (reply_ending p im r) p (length im) → q ≡ job_point_after p im r
-unfolding job_point_after
-goes_by p q im r e f a = a ∙ rw (e, f)

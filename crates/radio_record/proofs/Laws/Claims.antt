@@ -1,14 +1,15 @@
 -- The claims of specs/Claims: packing and unpacking a job.
 use mathlib.Core.Path.{◌≡◌, refl, sym, ap, ◌∙◌}
 use mathlib.Core.Bool.{true, ◌&&◌}
-use mathlib.Core.List.{List, [], ◌∷◌, ◌++◌}
+use mathlib.Core.List.{List, ◌++◌}
 use mathlib.Core.Option.{some, none}
+use Rattle.std.specs.Prelude.{Option, Some, None}
 use Prim.Native.Nat.{ℕ, ◌+◌, ◌*◌, ◌≤◌, ◌<◌}
 use native.Mathlib.Omega.{arith}
 use lib.Dec.{eqb, ltb}
 use lib.ListN.{length, take, drop, get_or, length-append, length-take, take-append-drop}
 use lib.Seq.{take_at, drop_at, drop-drop, get_or-append-add}
-use borrow.Author.Tests.{eqb-true, ltb-true, eq-eqb, ne_eqb}
+use borrow.Author.Tests.{eqb-true, ltb-true, ne_eqb}
 use Rattle.laws.proofs.Tests.{by_test, both}
 use Rattle.numbers.specs.Numbers.{done}
 use Rattle.radio_command.specs.Numbers.{bad_message, error_answer, page_differs}
@@ -21,16 +22,13 @@ use Rattle.radio_job.specs.Image.{mask_fits, image_fits, pages_for}
 use Rattle.radio_job.specs.Job.{same_bytes}
 use Rattle.radio_job.specs.State.{JobState, ending_fits, point_fits, state_fits}
 use Rattle.radio_job.proofs.Laws.Image.{mask_long, sized}
-use Rattle.radio_job.proofs.Laws.Fits.{fitting, fit, false_true}
+use Rattle.radio_job.proofs.Laws.Fits.{fitting, fit}
 use Rattle.radio_record.specs.declared.JobFields.{JobFields}
 use Rattle.radio_record.specs.declared.JobKept.{JobKept}
-use Rattle.radio_record.specs.declared.JobKept.TheVariants.{Keeps, KeepsNone}
-use Rattle.radio_record.specs.declared.PointRead.{PointRead}
-use Rattle.radio_record.specs.declared.PointRead.TheVariants.{Point, NoPoint}
 use Rattle.radio_record.specs.Record.{field_low, field_high, kept_byte, kept_pair, fields_laid, point_bytes, packed_job, job_fields_read}
 use Rattle.radio_record.specs.Record.{point_read, numbers_checked, mask_of, kept_at, job_kept, kept_state, unpacked_job}
 use Rattle.radio_record.specs.Claims.{JobRecord, PackedLong, JobUnpackedExactly, JobRefusedExactly}
-use Rattle.radio_record.proofs.Laws.Record.{point_bytes_long, kept_checked}
+use Rattle.radio_record.proofs.Laws.Record.{point_bytes_long, same_self, same_equal, kept_checked}
 
 -- numbers of one and of two bytes, read back
 low_back : (x : ℕ) → x < 256 → field_low x ≡ x
@@ -85,7 +83,7 @@ told_fields t = record { stage = kept_byte t 2; page = kept_byte t 3; number = k
 page_back : (n p : ℕ) → n ≤ 32256 → ltb p (pages_for n) ≡ true → field_low p ≡ p
 page_back n p h f = let l = ltb-true p (pages_for n) f in low_back p (omega arith)
 
-point_back : (n : ℕ) (p : JobPoint) → n ≤ 32256 → point_fits n p ≡ true → point_read (told_fields (point_bytes n p)) ≡ Point p
+point_back : (n : ℕ) (p : JobPoint) → n ≤ 32256 → point_fits n p ≡ true → point_read (told_fields (point_bytes n p)) ≡ Some p
 unfolding point_read point_bytes fields_laid
 point_back n AsksConfiguration h f = refl
 point_back n TakesConfiguration h f = refl
@@ -102,23 +100,6 @@ point_back n (Finished e) h f =
     let x = s.some in
     let z : e.number ≡ 0 → ⊥ = λ q. omega arith in
     rw (low_back e.number s.number, low_back e.code s.code, pair_back e.offset s.offset, ne_eqb e.number 0 z)
-
--- a list is the same as itself, and lists that are the same are equal
-same_self : (xs : List ℕ) → same_bytes xs xs ≡ true
-unfolding same_bytes
-same_self [] = refl
-same_self (x ∷ xs) = rw (eq-eqb x x refl) (same_self xs)
-
-same_equal : (xs ys : List ℕ) → same_bytes xs ys ≡ true → xs ≡ ys
-unfolding same_bytes
-same_equal [] [] e = refl
-same_equal [] (y ∷ ys) e = absurd (false_true e)
-same_equal (x ∷ xs) [] e = absurd (false_true e)
-same_equal (x ∷ xs) (y ∷ ys) e =
-    let b = both (eqb x y) (same_bytes xs ys) e in
-    let p = eqb-true x y b.0 in
-    let q = same_equal xs ys b.1 in
-    rw (p, q)
 
 -- The parts of a record.
 module _ (page mask t : List ℕ) (a : length page ≡ 256) (b : length mask ≡ 256) where
@@ -161,7 +142,7 @@ unfolding packed_job
 packed_long s e =
     let f = fitting s e in whole_long s.page s.mask _ f.page (mask_long s.mask f.masked) (point_bytes_long s.bytes s.point)
 
-numbers_pass : (n : ℕ) (p : JobPoint) → image_fits n ≡ true → point_fits n p ≡ true → Keeps n p ≡ numbers_checked n p (point_bytes n p)
+numbers_pass : (n : ℕ) (p : JobPoint) → image_fits n ≡ true → point_fits n p ≡ true → Some (record { bytes = n; point = p }) ≡ numbers_checked n p (point_bytes n p)
 unfolding numbers_checked
 numbers_pass n p e f = rw (e, f, same_self (point_bytes n p))
 
@@ -176,15 +157,16 @@ packed_back s e =
     let t = point_bytes n s.point in
     let r = s.page ++ (s.mask ++ t) in
     let l = whole_long s.page s.mask t f.page m (point_bytes_long n s.point) in
-    let reads : point_read (job_fields_read r) ≡ Point s.point =
+    let reads : point_read (job_fields_read r) ≡ Some s.point =
     ap point_read (fields_behind s.page s.mask t f.page m) ∙ point_back n s.point few f.point in
     let told : kept_pair r 512 ≡ n = pair_behind s.page s.mask t f.page m ∙ length_back n s.point few in
     let last = behind_mask s.page s.mask t f.page m in
     let masks = mask_part s.page s.mask t f.page m in
     let pages = page_part s.page s.mask t f.page m in
-    let kept : Keeps n s.point ≡ job_kept r =
-    kept_checked r l s.point reads s.mask (sym masks) f.masked n t (Keeps n s.point) (sym told) (sym last) (numbers_pass n s.point f.image f.point) in
-    ap (λ (k : JobKept). kept_state k r) (sym kept)
+    let now : Option JobKept = Some (record { bytes = n; point = s.point }) in
+    let kept : now ≡ job_kept r =
+    kept_checked r l s.point reads s.mask (sym masks) f.masked n t now (sym told) (sym last) (numbers_pass n s.point f.image f.point) in
+    ap (λ (k : Option JobKept). kept_state k r) (sym kept)
     ∙ (λ i. some (record { page = pages i; mask = masks i; bytes = n; point = s.point }))
 
 -- What a record that keeps a job is.
@@ -195,14 +177,19 @@ record KeptFacts (r : List ℕ) (n : ℕ) (p : JobPoint) : Type 0 where
   point : point_fits n p ≡ true
   told : point_bytes n p ≡ drop 512 r
 
-none_keeps : (n : ℕ) (p : JobPoint) → KeepsNone ≡ Keeps n p → ⊥
+abbrev keeps : (n : ℕ) (p : JobPoint) → Option JobKept
+keeps n p = Some (record { bytes = n; point = p })
+
+none_keeps : (n : ℕ) (p : JobPoint) → None ≡ keeps n p → ⊥
 none_keeps n p e = let z : ◌≡◌ {A = ℕ} 0 1 = cc in omega arith
 
-keeps_both : (n m : ℕ) (p q : JobPoint) → Keeps n p ≡ Keeps m q → (n ≡ m) × (p ≡ q)
-keeps_both n m p q e = (cc, cc)
+keeps_both : (n m : ℕ) (p q : JobPoint) → keeps n p ≡ keeps m q → (n ≡ m) × (p ≡ q)
+keeps_both n m p q e =
+    let k : ◌≡◌ {A = JobKept} (record { bytes = n; point = p }) (record { bytes = m; point = q }) = cc in
+    (ap (λ (x : JobKept). x.bytes) k, ap (λ (x : JobKept). x.point) k)
 
 numbers_facts : (r : List ℕ) (m n : ℕ) (q p : JobPoint) → length r ≡ 520 → mask_fits (mask_of r) ≡ true
-    → numbers_checked m q (drop 512 r) ≡ Keeps n p → KeptFacts r n p
+    → numbers_checked m q (drop 512 r) ≡ keeps n p → KeptFacts r n p
 unfolding numbers_checked
 numbers_facts r m n q p l f =
     by_test (image_fits m && (point_fits m q && same_bytes (point_bytes m q) (drop 512 r)))
@@ -219,14 +206,14 @@ numbers_facts r m n q p l f =
     }))
     (λ t. rw t (λ e. absurd (none_keeps n p e)))
 
-kept_facts_at : (x : PointRead) (r : List ℕ) (n : ℕ) (p : JobPoint) → length r ≡ 520 → kept_at x r ≡ Keeps n p → KeptFacts r n p
-kept_facts_at NoPoint r n p l = λ e. absurd (none_keeps n p e)
-kept_facts_at (Point q) r n p l =
+kept_facts_at : (x : Option JobPoint) (r : List ℕ) (n : ℕ) (p : JobPoint) → length r ≡ 520 → kept_at x r ≡ keeps n p → KeptFacts r n p
+kept_facts_at None r n p l = λ e. absurd (none_keeps n p e)
+kept_facts_at (Some q) r n p l =
     by_test (mask_fits (mask_of r))
     (λ t. rw t (λ e. numbers_facts r (kept_pair r 512) n q p l t e))
     (λ t. rw t (λ e. absurd (none_keeps n p e)))
 
-kept_facts : (r : List ℕ) (n : ℕ) (p : JobPoint) → job_kept r ≡ Keeps n p → KeptFacts r n p
+kept_facts : (r : List ℕ) (n : ℕ) (p : JobPoint) → job_kept r ≡ keeps n p → KeptFacts r n p
 unfolding job_kept
 kept_facts r n p =
     by_test (eqb (length r) 520)
@@ -234,7 +221,7 @@ kept_facts r n p =
     (λ t. rw t (λ e. absurd (none_keeps n p e)))
 
 -- A record that keeps numbers is the record of the job with them.
-pub kept_record : (r : List ℕ) (n : ℕ) (p : JobPoint) → job_kept r ≡ Keeps n p
+pub kept_record : (r : List ℕ) (n : ℕ) (p : JobPoint) → job_kept r ≡ keeps n p
     → JobRecord (record { page = take 256 r; mask = mask_of r; bytes = n; point = p }) r
 unfolding packed_job
 kept_record r n p e =
@@ -249,18 +236,18 @@ kept_record r n p e =
           ∙ take-append-drop 256 r;
     }
 
-unpacked_record : (k : JobKept) (s : JobState) (r : List ℕ) → job_kept r ≡ k → kept_state k r ≡ some s → JobRecord s r
-unpacked_record (Keeps n p) s r e q =
-    let z : record { page = take 256 r; mask = mask_of r; bytes = n; point = p } ≡ s = cc in rw z at (kept_record r n p e)
-unpacked_record KeepsNone s r e q = absurd (let z : ◌≡◌ {A = ℕ} 0 1 = cc in omega arith)
+unpacked_record : (k : Option JobKept) (s : JobState) (r : List ℕ) → job_kept r ≡ k → kept_state k r ≡ some s → JobRecord s r
+unpacked_record (Some k) s r e q =
+    let z : record { page = take 256 r; mask = mask_of r; bytes = k.bytes; point = k.point } ≡ s = cc in rw z at (kept_record r k.bytes k.point e)
+unpacked_record None s r e q = absurd (let z : ◌≡◌ {A = ℕ} 0 1 = cc in omega arith)
 
 pub unpacked_exactly : JobUnpackedExactly
 unfolding unpacked_job
 unpacked_exactly s r = (λ e. unpacked_record (job_kept r) s r refl e, λ j. ap unpacked_job (sym j.bytes) ∙ packed_back s j.fits)
 
-unpacked_none : (k : JobKept) (r : List ℕ) → job_kept r ≡ k → ((s : JobState) → JobRecord s r → ⊥) → kept_state k r ≡ none
-unpacked_none (Keeps n p) r e f = absurd (f _ (kept_record r n p e))
-unpacked_none KeepsNone r e f = refl
+unpacked_none : (k : Option JobKept) (r : List ℕ) → job_kept r ≡ k → ((s : JobState) → JobRecord s r → ⊥) → kept_state k r ≡ none
+unpacked_none (Some k) r e f = absurd (f _ (kept_record r k.bytes k.point e))
+unpacked_none None r e f = refl
 
 pub refused_exactly : JobRefusedExactly
 unfolding unpacked_job

@@ -1,14 +1,15 @@
 -- What a job says at each point, and a call's answer and buffer by it.
 use mathlib.Core.Path.{◌≡◌, refl, sym, ap, ◌∙◌}
-use mathlib.Core.Bool.{Bool, true, false}
+use mathlib.Core.Bool.{true, false, ◌&&◌}
 use mathlib.Core.List.{List, [], ◌∷◌, ◌++◌}
 use Prim.Native.Nat.{ℕ, suc, ◌+◌, ◌≤◌, ◌<◌}
 use native.Mathlib.Numerals.{add-one}
 use native.Mathlib.Omega.{arith}
-use lib.Dec.{ltb}
+use lib.Dec.{eqb, leb, ltb}
 use lib.ListN.{length, take, drop, get_or}
 use lib.Seq.{get_or-take}
 use borrow.Author.Tests.{ltb-true, ltb-false, lt-leb, le-leb, eq-eqb, ne_eqb}
+use Rattle.std.proofs.lemmas.List.{append_assoc, append-nil, drop_all, drop-append-le, take-append-drop, length-take-le}
 use Rattle.laws.proofs.Tests.{by_test}
 use Rattle.exchange.specs.Exchange.{Said, asks, ends, said}
 use Rattle.radio_command.specs.declared.CommandName.{CommandName}
@@ -19,12 +20,14 @@ use Rattle.radio_job.specs.declared.JobPoint.{JobPoint}
 use Rattle.radio_job.specs.declared.JobPoint.TheVariants.{AsksConfiguration, TakesConfiguration, ErasesArea, FeedsPage}
 use Rattle.radio_job.specs.declared.JobPoint.TheVariants.{ErasesConfiguration, SetsConfiguration, SetsByte0, AsksPage}
 use Rattle.radio_job.specs.declared.JobPoint.TheVariants.{TakesPage, SetsByte1, Finished}
-use Rattle.radio_job.specs.Image.{image_fits, page_count, image_pages, image_page}
+use Rattle.radio_job.specs.Image.{image_fits, pages_for, page_count, image_pages, image_page}
 use Rattle.radio_job.specs.Job.{Message, JobExchange, command_message, confirmed, fetched, fed_pages, pages_compared, protects, restores}
 use Rattle.radio_job.specs.State.{point_fits}
-use Rattle.radio_job.proofs.Laws.Image.{image_next, image_last}
+use Rattle.radio_job.proofs.Laws.Image.{image_next, image_last, image_page_long}
 use Rattle.radio_calls.specs.declared.RadioAdvanced.{RadioAdvanced}
 use Rattle.radio_calls.specs.Calls.{takes_answer, message_of, message_put}
+use Rattle.std.specs.Prelude.{Some, None}
+use Rattle.radio_point.specs.Code.After.{page_behind}
 use Rattle.radio_say.specs.Code.Say.{point_says, asks_for, may_say, say_answer, say_out}
 
 abbrev asking : (message : List ℕ) → (expect : ℕ) → Said Message Ending
@@ -114,9 +117,58 @@ speaks x r out now m n k e l a o = (
   o ∙ ap (λ (i : ℕ). m ++ drop i out) (sym l) ∙ sym (ap (λ (y : Said Message Ending). message_of y ++ drop (length (message_of y)) out) e),
 )
 
+-- whether a page is the last, by the page behind it
+pub page_more : (p n q : ℕ) → page_behind p n ≡ Some q → p + 1 < pages_for n
+page_more p n q = by_test (ltb (p + 1) (pages_for n)) (λ t e. ltb-true (p + 1) (pages_for n) t) (λ t. rw t (λ e. absurd (let z : ◌≡◌ {A = ℕ} 0 1 = cc in omega arith)))
+
+pub page_last : (p n : ℕ) → page_behind p n ≡ None → pages_for n ≤ p + 1
+page_last p n = by_test (ltb (p + 1) (pages_for n)) (λ t. rw t (λ e. absurd (let z : ◌≡◌ {A = ℕ} 0 1 = cc in omega arith))) (λ t e. ltb-false (p + 1) (pages_for n) t)
+
+-- a message of a whole page, in a buffer of one page
+pub speaks_page : (x : Said Message Ending) (r : RadioAdvanced) (out now m : List ℕ) (k : ℕ) → length out ≡ 256 → x ≡ asking m k → length m ≡ 256 → r ≡ asks_for 256 k
+    → now ≡ m → (r ≡ takes_answer x) × (now ≡ message_put x out)
+speaks_page x r out now m k b e l a o =
+    speaks x r out now m 256 k e l a (o ∙ sym (append-nil m) ∙ ap (λ (t : List ℕ). m ++ t) (sym (drop_all 256 out (omega arith))))
+
 pub command_long : (n : CommandName) (p0 p1 p2 : ℕ) → length (command_message n p0 p1 p2) ≡ 8
 unfolding built
 command_long n p0 p1 p2 = refl
+
+-- what is written into the first page of a longer buffer is written into the buffer
+pub put_first : (x : Said Message Ending) (out page : List ℕ) → length (message_of x) ≤ 256 → 256 ≤ length out → page ≡ message_put x (take 256 out)
+    → page ++ drop 256 out ≡ message_put x out
+unfolding message_put
+put_first x out page k b e =
+    let m = message_of x in
+    let n = length m in
+    let i = length-take-le 256 out b in
+    ap (λ (t : List ℕ). t ++ drop 256 out) e
+    ∙ append_assoc m (drop n (take 256 out)) (drop 256 out)
+    ∙ ap (λ (t : List ℕ). m ++ t)
+    (sym (drop-append-le n (take 256 out) (drop 256 out) (omega arith)) ∙ ap (λ (t : List ℕ). drop n t) (take-append-drop 256 out))
+
+-- no message is longer than a page
+of_long : (x : Said Message Ending) (m : List ℕ) (k n : ℕ) → x ≡ asking m k → length m ≡ n → n ≤ 256 → length (message_of x) ≤ 256
+of_long x m k n e l b = let a : length (message_of x) ≡ length m = ap (λ (y : Said Message Ending). length (message_of y)) e in omega arith
+
+pub says_short : (p : JobPoint) (im c : List ℕ) → length c ≡ 256 → point_fits (length im) p ≡ true → length (message_of (point_says p im c)) ≤ 256
+says_short AsksConfiguration im c l f = of_long _ _ 8 8 (says_asks_configuration im c) (command_long RdFlashPage 127 0 0) (omega arith)
+says_short TakesConfiguration im c l f = of_long _ [] 256 0 (says_takes_configuration im c) refl (omega arith)
+says_short ErasesArea im c l f = of_long _ _ 8 8 (says_erases_area im c) (command_long WrPrgArea (page_count im) 0 0) (omega arith)
+says_short (FeedsPage p) im c l f =
+    let h = ltb-true p (page_count im) f in
+    by_test (ltb (p + 1) (page_count im))
+    (λ t. of_long _ _ 0 256 (says_feeds_more p im c h (ltb-true (p + 1) (page_count im) t)) (image_page_long im p h) (omega arith))
+    (λ t. of_long _ _ 8 256 (says_feeds_last p im c h (ltb-false (p + 1) (page_count im) t)) (image_page_long im p h) (omega arith))
+says_short ErasesConfiguration im c l f = of_long _ _ 8 8 (says_erases_configuration im c) (command_long WrFlashPage 127 0 0) (omega arith)
+says_short SetsConfiguration im c l f = of_long _ c 8 256 (says_sets_configuration im c) l (omega arith)
+says_short SetsByte0 im c l f = of_long _ _ 8 8 (says_byte_0 im c) (command_long WrFlashByte 0x7F 0x00 (message_byte c 0)) (omega arith)
+says_short (AsksPage p) im c l f =
+    of_long _ _ 8 8 (says_asks_page p im c (ltb-true p (page_count im) f)) (command_long RdFlashPage p 0 0) (omega arith)
+says_short (TakesPage p) im c l f = of_long _ [] 256 0 (says_takes_page p im c) refl (omega arith)
+says_short SetsByte1 im c l f = of_long _ _ 8 8 (says_byte_1 im c) (command_long WrFlashByte 0x7F 0x01 (message_byte c 1)) (omega arith)
+says_short (Finished e) im c l f =
+    let a : length (message_of (point_says (Finished e) im c)) ≡ 0 = ap (λ (y : Said Message Ending). length (message_of y)) (says_finished e im c) in omega arith
 
 pub speaks_end : (x : Said Message Ending) (r : RadioAdvanced) (out : List ℕ) (e : Ending) → x ≡ ends e → r ≡ takes_answer (ends e)
     → (r ≡ takes_answer x) × (out ≡ message_put x out)
@@ -142,10 +194,6 @@ speaks_as x y r out now e a o = (a ∙ ap takes_answer (sym e), o ∙ ap (λ (z 
 pub page_byte : (h : List ℕ) (i : ℕ) → i < 256 → get_or h i 0 ≡ message_byte (take 256 h) i
 page_byte h i l = sym (get_or-take 256 h i 0 l)
 
--- the page of a record copied
-pub copies_page : (h out page : List ℕ) → page ≡ take 256 h → page ++ drop 256 out ≡ take 256 h ++ drop 256 out
-copies_page h out page e = ap (λ (x : List ℕ). x ++ drop 256 out) e
-
 -- Nothing is said without room, with another record, or at no point of the job.
 abbrev NothingSaid : (p : JobPoint) (im h out : List ℕ) (r : RadioAdvanced) → Type 0
 NothingSaid p im h out r = (r ≡ say_answer p im h out) × (out ≡ say_out p im h out)
@@ -159,19 +207,17 @@ module _ (p : JobPoint) (im h out : List ℕ) where
   unfolding may_say
   no_room l = rw (lt-leb 256 (length out) l)
 
-  module _ (l : 256 ≤ length out) where
-    pub no_record : (length h ≡ 520 → ⊥) → may_say p im h out ≡ false
-    unfolding may_say
-    no_record n = rw (le-leb 256 (length out) l, ne_eqb (length h) 520 n)
+  pub no_record : (length h ≡ 520 → ⊥) → may_say p im h out ≡ false
+  unfolding may_say
+  no_record n = by_test (leb 256 (length out)) (λ t. rw (t, ne_eqb (length h) 520 n)) (λ t. rw t)
 
-    module _ (k : length h ≡ 520) where
-      pub no_image : image_fits (length im) ≡ false → may_say p im h out ≡ false
-      unfolding may_say
-      no_image e = rw (le-leb 256 (length out) l, eq-eqb (length h) 520 k, e)
+  pub no_point : image_fits (length im) && point_fits (length im) p ≡ false → may_say p im h out ≡ false
+  unfolding may_say
+  no_point e = by_test (leb 256 (length out)) (λ t. by_test (eqb (length h) 520) (λ u. rw (t, u) e) (λ u. rw (t, u))) (λ t. rw t)
 
-      pub may_fits : image_fits (length im) ≡ true → (t : Bool) → t ≡ point_fits (length im) p → may_say p im h out ≡ t
-      unfolding may_say
-      may_fits e t q = rw (le-leb 256 (length out) l, eq-eqb (length h) 520 k, e) (sym q)
+  pub may_fits : 256 ≤ length out → length h ≡ 520 → image_fits (length im) ≡ true → point_fits (length im) p ≡ true → may_say p im h out ≡ true
+  unfolding may_say
+  may_fits l k e f = rw (le-leb 256 (length out) l, eq-eqb (length h) 520 k, e, f)
 
 pub says_so : (p : JobPoint) (im h out now : List ℕ) (r : RadioAdvanced) → may_say p im h out ≡ true → r ≡ takes_answer (point_says p im (take 256 h))
     → now ≡ message_put (point_says p im (take 256 h)) out → (r ≡ say_answer p im h out) × (now ≡ say_out p im h out)

@@ -1,7 +1,8 @@
 -- The claims of specs/Claims.antt, each proved under its name.
-use mathlib.Core.Path.{◌≡◌, refl, sym, ap, ◌∙◌}
+use mathlib.Core.Path.{◌≡◌, refl, sym, ◌∙◌}
 use mathlib.Core.Bool.{Bool, true, false, cond, ◌&&◌}
 use mathlib.Core.List.{List}
+use Rattle.std.proofs.Common.{Option, Some, None}
 use Prim.Native.Nat.{ℕ, suc, ◌-◌, ◌≤◌, ◌<◌}
 use native.Mathlib.Omega.{arith}
 use lib.Dec.{eqb, ltb, leb}
@@ -13,8 +14,6 @@ use Rattle.radio_flash.proofs.Laws.Flash.{page_set_long}
 use Rattle.radio_target.specs.declared.ModulePoint.{ModulePoint}
 use Rattle.radio_target.specs.declared.ModulePoint.TheVariants.{Waits, Takes, Loads, Sends}
 use Rattle.radio_target.specs.declared.RadioTarget.{RadioTarget}
-use Rattle.radio_target.specs.declared.PointFound.{PointFound}
-use Rattle.radio_target.specs.declared.PointFound.TheVariants.{At, Nowhere}
 use Rattle.radio_target.specs.Model.{is_point, is_taken, response, message_refusal}
 use Rattle.radio_target.specs.State.{module_state, module_point, radio_target, found_stepped, radio_stepped}
 use Rattle.radio_target.specs.Claims.{PointBack, PointState, StaysModule, NeverLost}
@@ -28,20 +27,15 @@ point_back (Takes p n) = refl
 point_back (Loads n) = refl
 point_back (Sends p n) = refl
 
--- the point in what a state has
-abbrev the_point : PointFound → ModulePoint
-the_point (At p) = p
-the_point Nowhere = Waits
-
 -- a state that has no point has none
-none : (p : ModulePoint) → Nowhere ≡ At p → ⊥
-none p e = let z : ◌≡◌ {A = ℕ} 0 1 = cc in omega arith
+none : (p : ModulePoint) → None ≡ Some p → ⊥
+none p e = cc
 
 -- a point that a state has, and that point's state
-has : (x p : ModulePoint) (t : RadioTarget) → At x ≡ At p → module_state x ≡ t → module_state p ≡ t
-has x p t e h = ap (λ z. module_state (the_point z)) (sym e) ∙ h
+has : (x p : ModulePoint) (t : RadioTarget) → Some x ≡ Some p → module_state x ≡ t → module_state p ≡ t
+has x p t e h = cc
 
-numbers_state : (k q n : ℕ) (p : ModulePoint) → module_point (radio_target k q n) ≡ At p → module_state p ≡ radio_target k q n
+numbers_state : (k q n : ℕ) (p : ModulePoint) → module_point (radio_target k q n) ≡ Some p → module_state p ≡ radio_target k q n
 unfolding module_state module_point
 numbers_state k q n p e =
     by_test (eqb k 0)
@@ -60,9 +54,6 @@ numbers_state k q n p e =
 
 pub point_state : PointState
 point_state t p e = numbers_state t.point t.page t.left p e
-
-both_hold : (a b : Bool) → a ≡ true → b ≡ true → a && b ≡ true
-both_hold a b x y = rw (x, y)
 
 pub stays_module : StaysModule
 unfolding built
@@ -83,7 +74,7 @@ stays_module (Loads n) f m room e =
     let b = leb-true n 4 g.1 in
     by_test (eqb n 1)
     (λ t. rw t (refl, (w.flash, omega arith)))
-    (λ t. let y = eqb-false n 1 t in rw t (both_hold (leb 1 (n - 1)) (leb (n - 1) 4) (le-leb 1 (n - 1) (omega (arith, a, y))) (le-leb (n - 1) 4 (omega (arith, b))), (w.flash, omega arith)))
+    (λ t. let y = eqb-false n 1 t in rw t (rw (le-leb 1 (n - 1) (omega (arith, a, y)), le-leb (n - 1) 4 (omega (arith, b))), (w.flash, omega arith)))
 stays_module (Sends p n) f m room e =
     let k = sends_fit f m room (Sends p n) p n refl e in
     let h : p < 129 = omega (arith, k.0, k.1.0) in
@@ -95,7 +86,7 @@ stays_module (Sends p n) f m room e =
 
 -- the number that a step gives at a point
 number_at : (p : ModulePoint) (t : RadioTarget) (f m : List ℕ) (room : ℕ)
-    → (found_stepped (At p) t f m room).number ≡ message_refusal p f m room
+    → (found_stepped (Some p) t f m room).number ≡ message_refusal p f m room
 number_at p t f m room =
     by_test (eqb (message_refusal p f m room) 0) (λ e. rw e (sym (eqb-true (message_refusal p f m room) 0 e))) (λ e. rw e)
 
@@ -110,17 +101,17 @@ there : (p : ModulePoint) (f m : List ℕ) (room : ℕ) → is_point p ≡ true 
 unfolding message_refusal
 there p f m room h w e = other_number (ltb room 256) (is_taken p m) (rw (eq-eqb (length f) 33024 w, h) at e)
 
-never_after : (q : PointFound) (t : RadioTarget) (f m : List ℕ) (room : ℕ) → (found_stepped q t f m room).number ≡ 0 → (n : List ℕ) (space : ℕ)
+never_after : (q : Option ModulePoint) (t : RadioTarget) (f m : List ℕ) (room : ℕ) → (found_stepped q t f m room).number ≡ 0 → (n : List ℕ) (space : ℕ)
     → (radio_stepped (found_stepped q t f m room).target (found_stepped q t f m room).flash n space).number ≡ 17 → ⊥
 unfolding radio_stepped
-never_after Nowhere t f m room e n space x = let z : ◌≡◌ {A = ℕ} 17 0 = e in omega arith
-never_after (At p) t f m room e n space x =
+never_after None t f m room e n space x = let z : ◌≡◌ {A = ℕ} 17 0 = e in omega arith
+never_after (Some p) t f m room e n space x =
     let z : message_refusal p f m room ≡ 0 = sym (number_at p t f m room) ∙ e in
     let s = stays_module p f m room z in
     let g = (response p f m).flash in
     let q = (response p f m).point in
     let y : (found_stepped (module_point (module_state q)) (module_state q) g n space).number ≡ 17 = rw (eq-eqb (message_refusal p f m room) 0 z) at x in
-    let u : (found_stepped (At q) (module_state q) g n space).number ≡ 17 = rw (point_back q) at y in
+    let u : (found_stepped (Some q) (module_state q) g n space).number ≡ 17 = rw (point_back q) at y in
     there q g n space s.0 s.1.0 (sym (number_at q (module_state q) g n space) ∙ u)
 
 pub never_lost : NeverLost

@@ -1,20 +1,20 @@
 -- What a command changes lies in pages 0 to 127; and after it there is still a module: its point is one that
 -- there is, its flash as long as before.
 use mathlib.Core.Path.{◌≡◌, refl}
-use mathlib.Core.Bool.{Bool, true, false, cond, ◌&&◌, ◌||◌}
+use mathlib.Core.Bool.{Bool, true, false, cond, ◌&&◌}
 use mathlib.Core.List.{List}
+use Rattle.std.proofs.Common.{Option, Some, None}
 use Prim.Native.Nat.{ℕ, ◌+◌, ◌≤◌, ◌<◌}
 use native.Mathlib.Omega.{arith}
 use lib.Dec.{eqb, ltb, leb}
 use lib.ListN.{length, get_or}
 use borrow.Author.Tests.{lt-ltb, ltb-false, eqb-false, le-leb}
+use Rattle.std.proofs.lemmas.Bool.Decides.{nat_tests}
 use Rattle.laws.proofs.Tests.{by_test}
 use Rattle.radio_command.specs.declared.CommandName.{CommandName}
 use Rattle.radio_command.specs.declared.CommandName.TheVariants.{RdSwVersion, InfSwVersion, RdFlashByte, WrFlashByte, RdFlashPage}
 use Rattle.radio_command.specs.declared.CommandName.TheVariants.{WrFlashPage, RdPrgArea, WrPrgArea, InfOk, InfError, WrBlankChk, WrBist}
 use Rattle.radio_command.specs.declared.CommandName.TheVariants.{WrPrgXram}
-use Rattle.radio_command.specs.declared.NameFound.{NameFound}
-use Rattle.radio_command.specs.declared.NameFound.TheVariants.{Of, Nothing}
 use Rattle.radio_command.specs.Command.{message_byte, name_of, command_sum}
 use Rattle.radio_target.specs.declared.ModulePoint.TheVariants.{Takes}
 use Rattle.radio_target.specs.declared.Deed.{Deed}
@@ -54,9 +54,9 @@ deed_lies WrBlankChk p0 p1 p2 f h = either (is_blank f) _ _ (λ _. refl) (λ _. 
 deed_lies WrBist p0 p1 p2 f h = refl
 deed_lies WrPrgXram p0 p1 p2 f h = either (is_protected f) _ _ (λ _. refl) (λ _. either (too_many p0 4) _ _ (λ _. refl) (λ _. refl))
 
-named_lies : (n : NameFound) (p0 p1 p2 : ℕ) (f : List ℕ) → p1 < 256 → Lies (deed_named n p0 p1 p2 f)
-named_lies (Of n) p0 p1 p2 f h = deed_lies n p0 p1 p2 f h
-named_lies Nothing p0 p1 p2 f h = refl
+named_lies : (n : Option CommandName) (p0 p1 p2 : ℕ) (f : List ℕ) → p1 < 256 → Lies (deed_named n p0 p1 p2 f)
+named_lies (Some n) p0 p1 p2 f h = deed_lies n p0 p1 p2 f h
+named_lies None p0 p1 p2 f h = refl
 
 pub commanded_lies : (m f : List ℕ) → message_byte m 5 < 256 → Lies (commanded m f)
 unfolding commanded
@@ -66,16 +66,11 @@ commanded_lies m f h =
 
 -- pages that there are
 pub spans : (p n k : ℕ) → 1 ≤ n → p + n ≤ k → leb 1 n && leb (p + n) k ≡ true
-spans p n k a b = rw (le-leb 1 n a, le-leb (p + n) k b)
+spans p n k a b = grind (arith, nat_tests)
 
 -- a number of pages that is not too many
 few : (n most : ℕ) → too_many n most ≡ false → (1 ≤ n) × (n ≤ most)
-few n most e = go (eqb n 0) (ltb most n) refl refl e
-  where
-    go : (a b : Bool) → eqb n 0 ≡ a → ltb most n ≡ b → a || b ≡ false → (1 ≤ n) × (n ≤ most)
-    go true b x y e = absurd (let z : ◌≡◌ {A = ℕ} 0 1 = cc in omega arith)
-    go false true x y e = absurd (let z : ◌≡◌ {A = ℕ} 0 1 = cc in omega arith)
-    go false false x y e = let u = eqb-false n 0 x in (omega (arith, u), ltb-false most n y)
+few n most e = grind (arith, nat_tests)
 
 module _ (f : List ℕ) (w : length f ≡ 33024) where
   abbrev Stays : Deed → Type 0
@@ -123,9 +118,9 @@ module _ (f : List ℕ) (w : length f ≡ 33024) where
       whichever (is_protected f) _ _ (λ _. still) (λ _. whichever (too_many p0 4) _ _ (λ _. still)
       (λ b. let x = few p0 4 b in (rw (le-leb 1 p0 x.0, le-leb p0 4 x.1), w)))
 
-  named_stays : (n : NameFound) (p0 p1 p2 : ℕ) → Stays (deed_named n p0 p1 p2 f)
-  named_stays (Of n) p0 p1 p2 = deed_stays n p0 p1 p2
-  named_stays Nothing p0 p1 p2 = still
+  named_stays : (n : Option CommandName) (p0 p1 p2 : ℕ) → Stays (deed_named n p0 p1 p2 f)
+  named_stays (Some n) p0 p1 p2 = deed_stays n p0 p1 p2
+  named_stays None p0 p1 p2 = still
 
 pub commanded_stays : (m f : List ℕ) → length f ≡ 33024 → (is_point (commanded m f).point ≡ true) × (length (changed (commanded m f).change f) ≡ 33024)
 unfolding commanded

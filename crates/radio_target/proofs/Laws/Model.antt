@@ -7,11 +7,9 @@ use native.Mathlib.Omega.{arith}
 use lib.Dec.{eqb, ltb, leb}
 use lib.ListN.{length, take, drop, length-take, length-drop}
 use borrow.Author.Tests.{eqb-true, ltb-false, leb-true}
+use Rattle.std.proofs.lemmas.Bool.Decides.{nat_tests}
 use Rattle.laws.proofs.Tests.{passes, both}
 use Rattle.radio_flash.specs.Flash.{flash_bytes, flash_page}
-use Rattle.radio_command.specs.declared.RadioCommand.{RadioCommand}
-use Rattle.radio_command.specs.Command.{built}
-use Rattle.radio_command.proofs.Laws.Claims.{copied}
 use Rattle.radio_target.specs.declared.ModulePoint.{ModulePoint}
 use Rattle.radio_target.specs.declared.ModulePoint.TheVariants.{Waits, Takes, Loads, Sends}
 use Rattle.radio_target.specs.declared.RadioTarget.{RadioTarget}
@@ -42,7 +40,7 @@ fits p f m room e =
 
 -- the bounds of a point's pages
 pub spanned : (p n k : ℕ) → leb 1 n && leb (p + n) k ≡ true → (1 ≤ n) × (p + n ≤ k)
-spanned p n k e = let g = both (leb 1 n) (leb (p + n) k) e in (leb-true 1 n g.0, leb-true (p + n) k g.1)
+spanned p n k e = grind (arith, nat_tests)
 
 -- a page of the flash is 256 bytes
 pub page_long : (p : ℕ) (f : List ℕ) → length f ≡ 33024 → p < 129 → length (flash_page p f) ≡ 256
@@ -64,11 +62,6 @@ page_copied p f out s w h q =
 
 pub page_told : (p : ℕ) (f : List ℕ) (t : RadioTarget) (r : RadioReplied) → length f ≡ 33024 → p < 129 → r ≡ replied_with 0 256 t → r ≡ replied_with 0 (length (flash_page p f)) t
 page_told p f t r w h e = rw (page_long p f w h) e
-
--- a command copied to a buffer's begin
-pub built_put : (c : RadioCommand) (b out : List ℕ) → b ≡ built c → b ++ drop 8 out ≡ reply_put (built c) out
-unfolding built
-built_put c b out e = copied c b out e
 
 -- what each point takes, and what it then knows
 module _ (f m : List ℕ) (room : ℕ) where

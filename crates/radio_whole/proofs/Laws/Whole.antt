@@ -21,7 +21,7 @@ use Rattle.radio_job.specs.Job.{Message, JobExchange, take_reply, confirmed, fet
 use Rattle.radio_job.specs.State.{JobState, opened_job, job_left}
 use Rattle.radio_job.specs.Advance.{job_advanced, reply_ending}
 use Rattle.radio_job.proofs.Laws.Ends.{job_ends, ends_fed}
-use Rattle.radio_job.proofs.Laws.Fits.{opened_fits}
+use Rattle.radio_job.proofs.Laws.Fits.{keeps_mask, opened_fits}
 use Rattle.radio_record.specs.Record.{packed_job, unpacked_job}
 use Rattle.radio_calls.specs.Calls.{RadioCall, job_opens, job_takes, later_number, first_number, job_refusal, job_does, message_put}
 use Rattle.radio_calls.specs.Calls.{job_untouched}
@@ -79,7 +79,7 @@ keeps_all (job_takes r im q out) h = rw (ne_eqb (job_refusal (job_takes r im q o
 -- a job keeps the mask of its opening
 mask_kept : (im : List ℕ) (s : JobState) (r : List ℕ) → (job_advanced im s r).mask ≡ s.mask
 unfolding job_advanced
-mask_kept im s r = by_test (eqb (reply_ending s.point im r).number 0) (λ e. rw e) (λ e. rw e)
+mask_kept im s r = keeps_mask (reply_ending s.point im r) s r
 
 mask_after : (im : List ℕ) (s : JobState) (rs : List (List ℕ)) → (after_replies job_machine im s rs).mask ≡ s.mask
 unfolding after_replies

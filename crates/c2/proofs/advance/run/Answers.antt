@@ -12,8 +12,7 @@ loop-i-init c =
 
 pub returns-then-not-is_running : goal.returns-then-not-is_running
 returns-then-not-is_running c =
-    let k = c.loop-i.invariant.0 in
-    let d = stops _ _ _ _ _ _ _ k (sym c.is_running.ensures ∙ c.if-not-is_running.true) in
+    let d = stops _ _ _ _ _ _ _ c.loop-i.invariant.0 (sym c.is_running.ensures ∙ c.if-not-is_running.true) in
     record { point_value = d.session; taken_value = d.taken; steps_after = d.out }
 
 pub loop-i-preserved : goal.loop-i-preserved

@@ -1,10 +1,11 @@
 -- The state of a target that exists says that target: its numbers fit their fields.
 use mathlib.Core.Path.{◌≡◌, refl}
-use mathlib.Core.Bool.{Bool, true, false, ◌&&◌, ◌||◌}
+use mathlib.Core.Bool.{Bool, true, ◌&&◌, ◌||◌}
 use mathlib.Core.List.{List}
 use Prim.Native.Nat.{ℕ, ◌+◌, ◌*◌, ◌%◌, ◌^◌, ◌<◌, ◌≤◌}
 use native.Mathlib.Nat.{mod-eq_of_lt, pow-le-pow_right}
 use native.Mathlib.Omega.{arith}
+use Rattle.std.proofs.lemmas.Bool.Decides.{nat_tests}
 use borrow.Author.Tests.{ltb-true, leb-true, eqb-true}
 use lib.Dec.{eqb, ltb, leb}
 use lib.ListN.{length}
@@ -35,11 +36,7 @@ use Rattle.c2_target_step.proofs.Laws.Known.{hearing_bytes, byte_says, block_say
 
 bit_back : (b : Bool) → eqb (bit b) 1 ≡ b
 unfolding bit
-bit_back true = refl
-bit_back false = refl
-
-pub not_so : {A : Type 0} → false ≡ true → A
-not_so e = absurd (let z : ◌≡◌ {A = ℕ} 0 1 = cc in omega arith)
+bit_back b = grind (arith, nat_tests)
 
 -- what a frame does at its STOP is read back
 effect_back : (e : Effect) → known_effect e ≡ true → effect_of (effect_code e) (effect_byte e) ≡ e
@@ -52,18 +49,14 @@ effect_back Read k = refl
 
 -- the bits after a WAIT fit a byte
 long_bits : (n : ℕ) → (eqb n 0 || (eqb n 16 || (eqb n 24 || eqb n 32))) ≡ true → n < 256
-long_bits n k =
-    by_test (eqb n 0) (λ e. let z = eqb-true n 0 e in omega arith)
-    (λ e. by_test (eqb n 16) (λ g. let z = eqb-true n 16 g in omega arith)
-    (λ g. by_test (eqb n 24) (λ h. let z = eqb-true n 24 h in omega arith)
-    (λ h. let z = eqb-true n 32 (rw (e, g, h) at k) in omega arith)))
+long_bits n k = grind (arith, nat_tests)
 
 waits_effect : (n : ℕ) (e : Effect) → after_its_wait n e ≡ true → (n < 256) × (known_effect e ≡ true)
 unfolding after_its_wait known_effect
 waits_effect n Nothing k = (long_bits n k, refl)
-waits_effect n (SetAddress a) k = not_so k
+waits_effect n (SetAddress a) k = cc
 waits_effect n (Write b) k = let h = both (eqb n 0) (is_byte b) k in let z = eqb-true n 0 h.0 in (omega arith, h.1)
-waits_effect n CountDown k = not_so k
+waits_effect n CountDown k = cc
 waits_effect n Read k = let z = eqb-true n 8 k in (omega arith, refl)
 
 -- bits that are sent fit a byte, and so does their value
@@ -87,8 +80,8 @@ sent_effect n v Nothing k =
     let a = leb-true n 32 h.0 in
     let b = eqb-true v 0 h.1 in
     record { left = omega arith; value = omega arith; effect = refl }
-sent_effect n v (SetAddress a) k = not_so k
-sent_effect n v (Write b) k = not_so k
+sent_effect n v (SetAddress a) k = cc
+sent_effect n v (Write b) k = cc
 sent_effect n v CountDown k = let h = sent_byte n v k in record { left = h.0; value = h.1; effect = refl }
 sent_effect n v Read k = let h = sent_byte n v k in record { left = h.0; value = h.1; effect = refl }
 

@@ -1,4 +1,3 @@
-use Prim.Native.Nat.{◌-◌}
 use Rattle.settings.specs.Registers.{no_pairs}
 use Rattle.c2_session.proofs.Laws.Run.{Knows, session_of}
 use Rattle.c2_target.specs.Delays.{setup}
@@ -8,10 +7,7 @@ use Rattle.c2_target_step.proofs.playing.play.Given as goal
 
 abbrev pub invariant-loop-n : goal.invariant-loop-n
 invariant-loop-n l = record {
-  sofar : Sofar l.t l.start l.image l.fn.flash l.delays l.budget l.flash (session_of l.start l.r) l.target l.n;
+  sofar : Sofar l.fn.t l.start l.image l.fn.flash l.fn.delays l.budget l.flash (session_of l.start l.r) l.target l.n;
   knows : Knows l.start l.image l.r;
-  lasts : Lasts (setup l.t no_pairs l.delays) l.target l.flash;
+  lasts : Lasts (setup l.fn.t no_pairs l.fn.delays) l.target l.flash;
 }
-
-abbrev pub decreases-loop-n : goal.decreases-loop-n
-decreases-loop-n l = l.budget - l.n

@@ -1,8 +1,8 @@
--- `hex_line::digit::octet` meets its contract.
+-- `hex_line::digit::octet` meets its contract: what is no digit counts as 0, which is 16 % 16.
 use Rattle.hex_format.specs.Digits.{octet}
-use Rattle.std.proofs.Common.{rules}
+use Rattle.std.proofs.Common.{arith}
 use Rattle.hex_line.proofs.digit.octet.Goals as goal
 
 pub returns : goal.returns
 unfolding octet
-returns c = search rules
+returns c = grind arith

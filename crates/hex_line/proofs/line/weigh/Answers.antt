@@ -1,24 +1,34 @@
 -- `hex_line::line::weigh` meets its contract: by the laws of Weighing.
-use Rattle.std.proofs.Common.{arith}
-use Rattle.hex_line.proofs.Laws.Weighing.{starts, goes_on, is_done, stops, stops_low}
+use Rattle.std.proofs.Common.{◌∙◌, arith}
+use Rattle.hex_line.proofs.Laws.Weighing.{goes_on, is_done, stops, stops_low}
 use Rattle.hex_line.proofs.line.weigh.Goals as goal
 
-pub loop-i-init : goal.loop-i-init
-loop-i-init c = starts c.args.s.now
+pub returns-in_err-high : goal.returns-in_err-high
+returns-in_err-high c =
+    let i = c.loop-pair.invariant in
+    let p = c.in-Some.ensures.steps.1 in
+    rw c.from_residual.ensures (stops _ _ _ _ i.1 c.in-Some.pair.now p.0 (p.1 ∙ i.0) c.in_err-high.ensures)
 
-pub returns-then-high-ge16 : goal.returns-then-high-ge16
-returns-then-high-ge16 c =
-    stops c.args.s.now c.loop-i.sum c.loop-i.i c.loop-i.invariant (omega arith) (rw c.digit-high.ensures at c.if-high-ge16.true)
+pub returns-in_err-low : goal.returns-in_err-low
+returns-in_err-low c =
+    let i = c.loop-pair.invariant in
+    let p = c.in-Some.ensures.steps.1 in
+    let d = c.in_ok-high.ensures in
+    rw c.from_residual-in_err-low.ensures
+    (stops_low _ _ _ _ i.1 c.in-Some.pair.now p.0 (p.1 ∙ i.0) (omega (arith, d.0, d.1)) c.in_err-low.ensures)
 
-pub returns-then-low-ge16 : goal.returns-then-low-ge16
-returns-then-low-ge16 c =
-    stops_low c.args.s.now c.loop-i.sum c.loop-i.i c.loop-i.invariant (omega arith) (rw c.digit-low.ensures at c.if-low-ge16.true)
-
-pub loop-i-preserved : goal.loop-i-preserved
-loop-i-preserved c =
-    rw (c.wrapping_add_u8-sum.ensures.value, c.digit-high.ensures, c.digit-low.ensures)
-    (goes_on c.args.s.now c.loop-i.sum c.loop-i.i c.loop-i.invariant (omega arith) (omega (arith, c.digit-high.ensures)) (omega (arith, c.digit-low.ensures)))
+pub loop-pair-preserved : goal.loop-pair-preserved
+loop-pair-preserved c =
+    let i = c.loop-pair.invariant in
+    let s = c.in-Some.ensures.steps in
+    let d = c.in_ok-high.ensures in
+    let e = c.in_ok-low.ensures in (
+      s.0 ∙ i.0,
+      rw (d.0, e.0)
+          (goes_on _ _ _ _ i.1 c.in-Some.pair.now s.1.0 (s.1.1 ∙ i.0) (omega (arith, d.0, d.1)) (omega (arith, e.0, e.1))),
+    )
 
 pub returns : goal.returns
 returns c =
-    is_done c.args.s.now c.loop-i.sum c.loop-i.i c.loop-i.invariant c.requires (omega arith)
+    let i = c.loop-pair.invariant in
+    is_done _ _ _ i.1 (omega (arith, c.in-None.ensures.steps.1.0, i.0))

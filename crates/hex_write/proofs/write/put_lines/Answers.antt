@@ -1,6 +1,6 @@
 -- `hex_write::write::put_lines` meets its contract.
 use Rattle.hex_format.specs.Writing.{line_of}
-use Rattle.std.proofs.Common.{◌≡◌, ◌+◌, ◌-◌, ◌*◌, ◌/◌, ◌%◌, ◌∷◌, length, take, drop, refl, ap, ◌∙◌, arith, length-append, length-drop, length-take-le, rules}
+use Rattle.std.proofs.Common.{◌≡◌, ◌+◌, ◌-◌, ◌*◌, ◌/◌, ◌%◌, ◌∷◌, length, take, drop, refl, ap, ◌∙◌, arith, length-append, length-drop, length-take-le}
 use borrow.Rule.Slice.PartMut.{put_mid}
 use Rattle.hex_write.proofs.Laws.Putting.{firsts_long, put_more, line_is}
 use Rattle.hex_write.specs.Code.Firsts.{firsts}
@@ -8,7 +8,7 @@ use Rattle.hex_write.proofs.write.put_lines.Goals as goal
 
 pub loop-r-init : goal.loop-r-init
 unfolding firsts
-loop-r-init c = (search rules, refl, refl, c.requires.0, c.requires.1, c.requires.2)
+loop-r-init c = (refl, refl)
 
 pub put_line-requires : goal.put_line-requires
 put_line-requires c =
@@ -31,11 +31,11 @@ loop-r-preserved c =
     let f : 44 * r + 44 - 44 * r ≡ 44 = omega arith in
     let n : length bs ≡ 16 = length-take-le 16 (drop (16 * r) im) (rw (length-drop (16 * r) im) (omega arith)) in
     let w = c.put_line.ensures ∙ ap (λ k. line_of (16 ∷ x / 256 ∷ x % 256 ∷ 0 ∷ take k (drop (16 * r) im))) e ∙ line_is x bs n in
-    let m = ap (λ k. put_mid (44 * r) k l.out c.put_line.new.out) f ∙ ap (λ o. put_mid (44 * r) 44 o c.put_line.new.out) l.invariant.1 ∙ put_more r a im d c.put_line.new.out (omega arith) w in
-    (omega arith, m, ap length m ∙ rw (length-append, firsts_long (r + 1) a im (omega arith), length-drop) (omega arith), l.invariant.3, l.invariant.4, l.invariant.5)
+    let m = ap (λ k. put_mid (44 * r) k l.out c.put_line.new.out) f ∙ ap (λ o. put_mid (44 * r) 44 o c.put_line.new.out) l.invariant.0 ∙ put_more r a im d c.put_line.new.out (omega arith) w in
+    (m, ap length m ∙ rw (length-append, firsts_long (r + 1) a im (omega arith), length-drop) (omega arith))
 
 pub returns : goal.returns
 returns c =
     let l = c.loop-r in
     let e : l.r ≡ c.args.n = omega arith in
-    l.invariant.1 ∙ rw e
+    l.invariant.0 ∙ rw e

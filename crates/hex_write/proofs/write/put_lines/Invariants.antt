@@ -1,9 +1,6 @@
-use Rattle.std.proofs.Common.{◌≡◌, ◌+◌, ◌-◌, ◌*◌, ◌≤◌, ◌++◌, length, drop}
+use Rattle.std.proofs.Common.{◌≡◌, ◌*◌, ◌++◌, length, drop}
 use Rattle.hex_write.specs.Code.Firsts.{firsts}
 use Rattle.hex_write.proofs.write.put_lines.Given as goal
 
 abbrev pub invariant-loop-r : goal.invariant-loop-r
-invariant-loop-r l = (l.r ≤ l.n) × (l.out ≡ firsts l.r l.a l.image ++ drop (44 * l.r) l.initial.out) × (length l.out ≡ length l.initial.out) × (length l.image ≡ 16 * l.n) × (length l.initial.out ≡ 44 * l.n + 12) × (l.a + 16 * l.n ≤ 65536)
-
-abbrev pub decreases-loop-r : goal.decreases-loop-r
-decreases-loop-r l = l.n - l.r
+invariant-loop-r l = (l.out ≡ firsts l.r l.a l.image ++ drop (44 * l.r) l.initial.out) × (length l.out ≡ length l.initial.out)

@@ -1,6 +1,12 @@
--- `radio_flash::blank::is_blank` meets its contract: by what the call gives of the part that it is lent.
-use Rattle.radio_flash.proofs.Laws.Flash.{short_blank}
+-- `radio_flash::blank::is_blank` meets its contract: the part that it looks at is what there is of the area.
+use Rattle.std.proofs.Common.{take, nat_eq, refl, rules}
+use Rattle.std.proofs.lemmas.List.{take_min}
+use Rattle.std.proofs.lemmas.List.Recursion.{and_is}
+use Rattle.radio_flash.specs.Flash.{is_erased}
 use Rattle.radio_flash.proofs.blank.is_blank.Goals as goal
 
-pub returns-then-flash-lt-AREA_BYTES : goal.returns-then-flash-lt-AREA_BYTES
-returns-then-flash-lt-AREA_BYTES c = short_blank _ _ c.if-flash-lt-AREA_BYTES.true c.is_erased.ensures
+pub returns : goal.returns
+unfolding is_erased
+returns c =
+    rw (← take_min 32768 c.args.flash.now, ← c.min.ensures)
+    (and_is is_erased (λ x. nat_eq x 0xFF) refl (λ _ _. refl) (take c.min.result c.args.flash.now) 0 _ (search rules) (search rules))

@@ -1,12 +1,14 @@
--- `radio_flash::changes::change` meets its contract: by the test on the way and what the call gives.
-use borrow.Author.Tests.{eq-eqb, ne_eqb}
+-- `radio_flash::changes::change` meets its contract: the bytes of the area are filled.
+use Rattle.std.proofs.Common.{◌≡◌, arith, length, length-take, take, ℕ}
 use Rattle.radio_flash.specs.Code.Changes.{change_made}
+use Rattle.radio_flash.specs.Flash.{mass_erased}
 use Rattle.radio_flash.proofs.changes.change.Goals as goal
 
-pub returns-then-flash-ne-FLASH_BYTES : goal.returns-then-flash-ne-FLASH_BYTES
-unfolding change_made
-returns-then-flash-ne-FLASH_BYTES c = rw (ne_eqb _ _ c.if-flash-ne-FLASH_BYTES.true)
+pub slice_bounds-fill-end-in-Area : goal.slice_bounds-fill-end-in-Area
+slice_bounds-fill-end-in-Area c = omega (arith, length-take {A = ℕ})
 
-pub returns : goal.returns
-unfolding change_made
-returns c = rw (eq-eqb _ _ c.if-flash-ne-FLASH_BYTES.false) c.make.ensures
+pub returns-in-Area : goal.returns-in-Area
+unfolding change_made mass_erased
+returns-in-Area c =
+    let l : length (take 32768 c.args.flash.now) ≡ 32768 = omega (arith, length-take {A = ℕ}) in
+    rw (c.in-Area.is, c.if-flash-ne-FLASH_BYTES.false, c.fill.ensures.after (λ y e. e), l)

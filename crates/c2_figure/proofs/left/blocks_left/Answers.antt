@@ -1,9 +1,0 @@
-use native.Mathlib.Omega.{arith}
-use Rattle.laws.proofs.Products.{product_below}
-use Rattle.c2_figure.proofs.left.blocks_left.Goals as goal
-
-pub overflow_mul-result : goal.overflow_mul-result
-overflow_mul-result c = omega (arith, product_below 24 20 {a = c.less-2.result} (omega (arith, c.less-2.ensures, c.less.ensures, c.ranges.size.fits)) c.block_cost.ensures.upper_bound)
-
-pub returns : goal.returns
-returns c = record { value = rw (c.block_cost.ensures.value, c.less-2.ensures, c.less.ensures); upper_bound = product_below 24 20 {a = c.less-2.result} (omega (arith, c.less-2.ensures, c.less.ensures, c.ranges.size.fits)) c.block_cost.ensures.upper_bound }

@@ -1,6 +1,0 @@
-use Rattle.c2_target.specs.Strobes.{strobed_at}
-use Rattle.c2_target_step.proofs.strobes.hears_ins.Goals as goal
-
-pub returns : goal.returns
-unfolding strobed_at
-returns c = rw (c.hears.ensures, c.after_ins.ensures, c.with_bit.ensures.value)

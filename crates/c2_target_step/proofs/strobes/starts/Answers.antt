@@ -1,7 +1,0 @@
-use Rattle.c2_wire.specs.Bits.{bit}
-use Rattle.c2_target.specs.Strobes.{strobed_at}
-use Rattle.c2_target_step.proofs.strobes.starts.Goals as goal
-
-pub returns : goal.returns
-unfolding strobed_at bit
-returns c = λ t. rw (c.shows.ensures, c.begun.ensures)

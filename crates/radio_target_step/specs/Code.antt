@@ -1,0 +1,2 @@
+-- For the code: nothing here needs to be believed.
+pub mod Given
