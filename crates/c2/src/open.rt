@@ -10,7 +10,8 @@ use c2_wire::{OFF, RESET};
 use numbers::{RUNNING, Refusal};
 use settings::Settings;
 
-// The record's length is tested first (6), then 1, 2, 3, 18, 19, 4 and 5, in this order.
+// The record's length is tested first (6), then 1, 2, 3, 18, 19, 4 and 5, in this order. Settings, first page and image
+// come one by one, as C has them.
 fn open(held: &mut [u8], image: &[u8], t: Settings, first: u32) -> Result<(), Refusal>
     ensures value { number_of result ≡ refusal (opening held.old image.now t first) }
     ensures held_after { held.new ≡ (call_done C2 (opening held.old image.now t first)).held }

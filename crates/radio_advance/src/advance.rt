@@ -11,7 +11,7 @@ use radio_calls::RadioAdvanced;
 use radio_record::{JobKept, RADIO_RECORD_BYTES, unpack};
 
 // Takes one reply of a job: page and point are kept, the next message is said. Tests 6, 7 and 26, in this order; a
-// refused call changes no byte.
+// refused call changes no byte. As in `open_job`, a function with `?` inside would be no plainer.
 pub fn take_reply(held: &mut [u8], image: &[u8], reply: &[u8], out: &mut [u8]) -> RadioAdvanced
     ensures value { result ≡ (call_done Radio (job_takes held.old image.now reply.now out.old)).answer }
     ensures held_after { held.new

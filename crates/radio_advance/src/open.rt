@@ -11,7 +11,8 @@ use radio_calls::RadioOpened;
 use radio_job::JobPoint;
 use radio_record::{MASK, NUMBERS, RADIO_RECORD_BYTES};
 
-// Opens a job. Tests 29, 30, 6 and 26, in this order; a refused opening changes no byte.
+// Opens a job. Tests 29, 30, 6 and 26, in this order; a refused opening changes no byte. A function with `?` inside would
+// want a definition more for these tests, so it's no plainer.
 pub fn open_job(
     held: &mut [u8],
     image: &[u8],

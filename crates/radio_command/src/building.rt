@@ -7,7 +7,8 @@ use crate::RadioCommand;
 use crate::command::{build, name_of};
 use numbers::Refusal;
 
-// Writes the command of this command byte and these parameters, if there is one and there is room.
+// Writes the command of this command byte and these parameters, if there is one and there is room. They come one by one,
+// as C has them: the byte may be that of no command.
 #[tactic(auto, unfolding(crate::specs::Building::building_number, crate::specs::Building::buffer_built))]
 pub fn build_into(command: u8, p0: u8, p1: u8, p2: u8, out: &mut [u8]) -> Result<(), Refusal>
     ensures value { number_of result ≡ building_number command out.old }

@@ -27,7 +27,7 @@ pub fn name_of(b: u8) -> Option<CommandName>
     }
 }
 
-// The sum over bytes 2 to 6, modulo 256.
+// The sum over bytes 2 to 6, modulo 256. They come one by one, since they may be those of no message.
 #[tactic(auto, unfolding(crate::specs::Command::command_sum))]
 pub fn command_sum(b2: u8, b3: u8, b4: u8, b5: u8, b6: u8) -> u8
     ensures { result ≡ command_sum b2 b3 b4 b5 b6 }

@@ -11,7 +11,8 @@ use radio_command::RadioCommand;
 use radio_flash::FlashChange;
 
 // What the module waits for: a command; the data of a page and of those that follow, `left` in all; the data
-// of a program for XRAM; or the clock to send a page and those that follow.
+// of a program for XRAM; or the clock to send a page and those that follow. Page and number are no struct: two of four
+// have both, and C's state has them side by side.
 #[derive(Clone, Copy)]
 pub enum ModulePoint {
     Waits,
