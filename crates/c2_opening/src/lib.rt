@@ -4,8 +4,7 @@
 ghost use Rattle.std.specs.Prelude.{◌≡◌, cond, ◌/◌, ◌%◌, eqb};
 ghost use Rattle.c2_opening.specs.Code.Started.{started};
 
-use c2_acts::Stage;
-use c2_session::{Point, Session};
+use c2_session::Session;
 use settings::Settings;
 
 fn pages_in(bytes: usize, size: u32) -> u16
@@ -32,14 +31,6 @@ pub fn start(t: Settings, first: u32, bytes: usize) -> Session
         },
         first: (first % 65536) as u16,
         pages: pages_in(bytes, t.size),
-        point: Point::Running {
-            stage: Stage::Lead,
-            page: 0,
-            block: 0,
-            act: 0,
-            strobe: 0,
-            count: 0,
-            bits: 0,
-        },
+        point: Session::FIRST,
     }
 }

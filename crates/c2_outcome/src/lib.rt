@@ -35,6 +35,7 @@ pub fn is_running(point: Point) -> bool
     matches!(point, Point::Running { .. })
 }
 
+// A public function keeps its name beside the conversion.
 pub fn outcome_of(point: Point) -> Outcome
     ensures { result ≡ point_outcome point }
 {

@@ -1,6 +1,7 @@
 // The two bytes of a field, its low one first, and what is kept of a number in them.
 ghost use Rattle.std.specs.Prelude.{◌≡◌, ◌+◌, ◌*◌, ◌/◌, ◌%◌};
 
+// `low(x)` is plainer than `x.to_le_bytes()[0]`, which a record would have twelve times.
 pub(crate) fn low(x: u32) -> u8
     ensures { result ≡ x % 256 }
 {

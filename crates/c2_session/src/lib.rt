@@ -62,6 +62,17 @@ pub struct Runner {
 }
 
 impl Session {
+    // The point before a session's first step.
+    pub const FIRST: Point = Point::Running {
+        stage: Stage::Lead,
+        page: 0,
+        block: 0,
+        act: 0,
+        strobe: 0,
+        count: 0,
+        bits: 0,
+    };
+
     // The limit of a WAIT that old units have; a session's own stands in its settings.
     pub const WAIT_LIMIT: u8 = 20;
 

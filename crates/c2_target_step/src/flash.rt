@@ -9,7 +9,8 @@ use crate::CONFIRM;
 use c2_target::Command;
 use settings::Settings;
 
-// Crates that read a byte or 0 don't rest on each other, so each has this line.
+// As in c2_session and radio_deeds: a byte, or 0 where there is none, in one line, which a public function of a crate
+// below would make no plainer.
 pub(crate) fn byte_at(flash: &[u8], address: usize) -> usize
     ensures { result ≡ get_or flash.now address 0 }
 {

@@ -3,14 +3,11 @@
 
 ghost use Rattle.std.specs.Prelude.{◌≡◌, IfOk, OnErr};
 ghost use Rattle.numbers.specs.Numbers.{number_of};
-ghost use Rattle.c2_acts.specs.declared.Stage.TheVariants.{Lead};
-ghost use Rattle.c2_session.specs.declared.Point.TheVariants.{Running};
 ghost use Rattle.c2_target.specs.Target.{fresh};
 ghost use Rattle.c2_target_step.specs.Code.Closed.{stops_at, from_start, first_refusal, closed_run};
 
 use crate::steps::{cleared, refusal, stepped};
 use crate::{Lent, Ran};
-use c2_acts::Stage;
 use c2_outcome::is_running;
 use c2_session::{Session, set_off};
 use c2_target::Target;
@@ -27,21 +24,6 @@ fn fresh() -> Target
         place: 0,
         collision: false,
         device: cleared(),
-    }
-}
-
-// A session's point before its first step.
-fn first_point() -> c2_session::Point
-    ensures { result ≡ Running Lead 0 0 0 0 0 0 }
-{
-    c2_session::Point::Running {
-        stage: Stage::Lead,
-        page: 0,
-        block: 0,
-        act: 0,
-        strobe: 0,
-        count: 0,
-        bits: 0,
     }
 }
 
@@ -70,7 +52,7 @@ pub fn play(
         delays,
     };
     refusal(t, u.wanted, fresh(), flash, RESET)?;
-    let mut r = set_off(first_point());
+    let mut r = set_off(Session::FIRST);
     let mut target = fresh();
     for n in 0..budget {
         if !is_running(r.point) {

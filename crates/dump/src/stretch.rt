@@ -52,7 +52,7 @@ impl Dumps<'_> {
         }
     }
 
-    // The end of the range that starts at `at`.
+    // The end of the range that starts at `at`: the dumps' length is a true one, where it goes on to their end.
     pub(crate) fn range_end(self, at: usize) -> usize
         requires { (at < length self.a.now) × (get_or self.a.now at 0 ≡ get_or self.b.now at 0 → ⊥) }
         ensures { EndAt self.entry.a.now self.entry.b.now at result }

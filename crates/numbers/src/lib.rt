@@ -63,7 +63,8 @@ impl From<Refusal> for u32 {
     }
 }
 
-// How a session stands: it is running, or it has ended done, or by one of these.
+// How a session stands: it is running, or it has ended done, or by one of these. No enum: its record may hold any number,
+// and the laws of packing speak of every one.
 
 // The session is running.
 pub const RUNNING: u32 = 0;

@@ -46,7 +46,8 @@ pub struct RadioCommand {
     pub p2: u8,
 }
 
-// The radio module's own numbers that are no refusals of a call (`numbers` has those, 28 to 30).
+// The radio module's own numbers that are no refusals of a call (`numbers` has those, 28 to 30). C is told a job's end by
+// them, and a record may hold any.
 
 // An answer that isn't right ends a job by the number of the message that it is: a wrong length, head, sum or command.
 pub const BAD_MESSAGE: u32 = 28;

@@ -38,7 +38,7 @@ loop-n-init c =
     let passed = sym (rw c.fresh.ensures at (c.in_ok-refusal.ensures [])) in
     let lasts : Lasts (setup a.t no_pairs a.delays.now) fresh a.flash.now = record { bytes = bytes; exists = (accepts _ _ _ _ passed).0 } in
     let knows = sets_off_known a.start a.image.now _ refl in
-    rw (c.fresh-target.ensures, c.set_off-r.ensures, c.first_point.ensures) (record { sofar = starts a.t a.start a.image.now a.flash.now a.delays.now a.budget; knows = knows; lasts = lasts })
+    rw (c.fresh-target.ensures, c.set_off-r.ensures) (record { sofar = starts a.t a.start a.image.now a.flash.now a.delays.now a.budget; knows = knows; lasts = lasts })
 
 pub returns-then-not-is_running : goal.returns-then-not-is_running
 returns-then-not-is_running c =
