@@ -236,7 +236,7 @@ class Text:
             self.structs[title] = [(member[1].strip(), member[2]) for member in members]
         self.bare = set(re.findall(r'typedef uint8_t (\w+);', plain))
         self.functions = {}
-        for path, result, params in re.findall(r'^/\* (\S+) \*/\nstatic ([\w *]*?)\w+\(([^()]*)\)$', c_text, flags=re.M):
+        for path, result, params in re.findall(r'^/\* (\S+) \*/\n(?:static|INLINED) ([\w *]*?)\w+\(([^()]*)\)$', c_text, flags=re.M):
             params = [re.fullmatch(r'([\w *]*?)a\d+', param.strip()) for param in params.split(',') if param.strip() != 'void']
             self.functions[path] = (result.strip(), [param[1].strip() for param in params])
 

@@ -285,14 +285,17 @@ def copied(name):
 
 
 def equal(name):
+    # Never left at a difference: a compiler then takes many bytes at a time.
     types_ = ['tyBool', slice_of_bytes(0, 'imm'), slice_of_bytes(1, 'imm'), '(tyInt 64)', '(tyInt 64)', 'tyBool', 'tyPtr',
-              'tyPtr']
+              'tyPtr', 'tyBool']
     differ = f'(seq (assign {at(0)} (rvOpd false)) return)'
-    before = [f'(assign {at(5)} (op2 eq {copy(1, "(field 1)")} {copy(2, "(field 1)")}))', f'(if {copy(5)} skip {differ})']
+    before = [f'(assign {at(5)} (op2 eq {copy(1, "(field 1)")} {copy(2, "(field 1)")}))', f'(if {copy(5)} skip {differ})',
+              f'(assign {at(8)} (rvOpd true))']
     turn = [f'(assign {at(6)} (op2 offset {copy(1, "(field 0)")} {copy(3)}))',
             f'(assign {at(7)} (op2 offset {copy(2, "(field 0)")} {copy(3)}))',
-            f'(assign {at(5)} (op2 eq {copy(6, BYTE)} {copy(7, BYTE)}))', f'(if {copy(5)} skip {differ})']
-    return bytes_by_hand(name, types_, before, turn, f'(assign {at(0)} (rvOpd true))')
+            f'(assign {at(5)} (op2 eq {copy(6, BYTE)} {copy(7, BYTE)}))',
+            f'(if {copy(5)} skip (assign {at(8)} (rvOpd false)))']
+    return bytes_by_hand(name, types_, before, turn, f'(assign {at(0)} (rvOpd {copy(8)}))')
 
 
 # Each by its symbol and the impl that it is given: its name, and what writes it.

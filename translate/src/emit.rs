@@ -420,7 +420,13 @@ fn signature(types: &Types, uses: &Uses) -> Result<String> {
     }
     let result = if types.is_empty(&uses.locals[0])? { &Type::Unit } else { &uses.locals[0] };
     let name = types.declaration(result, &c_name(&uses.function.symbol)?)?;
-    Ok(listed(&format!("static {name}"), &parameters))
+    let kind = if is_library(&uses.function.symbol) { "INLINED" } else { "static" };
+    Ok(listed(&format!("{kind} {name}"), &parameters))
+}
+
+/// The library's functions and the closures: many are called for each byte, and do one thing.
+pub fn is_library(symbol: &str) -> bool {
+    symbol.starts_with("core::") || symbol.contains("::fn::")
 }
 
 /// The whole function, its path above it.

@@ -69,6 +69,17 @@ const HEAD: &str = "\
  */
 ";
 
+/// Left to itself, a compiler that makes code small calls them for each byte.
+const INLINED: &str = "\
+/* For what is the library's, and for closures: a call of each would cost more than what it does. */
+#if defined(__GNUC__)
+#define INLINED static inline __attribute__((always_inline))
+#else
+#define INLINED static inline
+#endif
+
+";
+
 fn file(
     crate_name: &str,
     sum: &str,
@@ -81,6 +92,9 @@ fn file(
     text += &format!("#include <stddef.h>\n#include <stdint.h>\n#include \"{}\"\n\n", header.file);
     let used = |uses: &&Uses| uses.locals.clone().into_iter().filter(|of| *of != Type::Raw);
     let used: Vec<_> = chosen.iter().flat_map(used).collect();
+    if chosen.iter().any(|uses| emit::is_library(&uses.function.symbol)) {
+        text += INLINED;
+    }
     text += &types.definitions(used.iter())?.join("\n");
     for uses in chosen {
         text.push('\n');
