@@ -2,13 +2,13 @@
 use mathlib.Core.Path.{◌≡◌, refl, sym, ap, ◌∙◌}
 use mathlib.Core.Bool.{Bool, true, false, cond, ◌&&◌, ◌||◌}
 use mathlib.Core.List.{List, [], ◌∷◌}
-use Rattle.std.specs.Prelude.{take, drop, min}
+use Rattle.std.specs.Prelude.{take}
 use Rattle.std.specs.List.{list_all}
 use Prim.Native.Nat.{ℕ, zero, suc, ◌+◌, ◌≤◌, ◌<◌}
 use native.Mathlib.Nat.{not-suc-le-zero}
 use native.Mathlib.Omega.{arith}
 use native.Mathlib.Decide.{dec_le}
-use borrow.Author.Tests.{lt-leb, lt-ltb, leb-true}
+use borrow.Author.Tests.{lt-leb, leb-true}
 use lib.Dec.{eqb, ltb, leb}
 use lib.ListN.{length, get_or}
 use Rattle.laws.proofs.Tests.{both}
@@ -72,45 +72,6 @@ registers_named fpdat p h l = ap (λ (rs : List ℕ). are_registers fpdat (pairs
     go (suc (suc (suc zero))) h = refl
     go (suc (suc (suc (suc zero)))) h = refl
     go (suc (suc (suc (suc (suc n))))) h = absurd (omega arith)
-
-and_pairs : (a b c d : Bool) → (a && b) && (c && d) ≡ ((a && c) && (b && d))
-and_pairs true true c d = refl
-and_pairs true false true d = refl
-and_pairs true false false d = refl
-and_pairs false b c d = refl
-
-abbrev pub all_zero : List ℕ → Bool
-all_zero xs = list_all (λ x. eqb x 0) xs
-
--- entries that are not named are 0, registers and values by themselves
-pub tidy_by_parts : (p : Pairs) → length p.registers ≡ 4 → length p.values ≡ 4
-    → is_tidy p ≡ (all_zero (drop (min p.count 4) p.registers) && all_zero (drop (min p.count 4) p.values))
-unfolding is_tidy
-tidy_by_parts p l m =
-    let r : ℕ → ℕ = λ i. get_or p.registers i 0 in
-    let v : ℕ → ℕ = λ i. get_or p.values i 0 in
-    go p.count (r 0) (r 1) (r 2) (r 3) (v 0) (v 1) (v 2) (v 3)
-    ∙ ap (λ (xs : List ℕ). all_zero (drop (min p.count 4) xs) && all_zero (drop (min p.count 4) (v 0 ∷ v 1 ∷ v 2 ∷ v 3 ∷ []))) (sym (four_entries p.registers l))
-    ∙ ap (λ (xs : List ℕ). all_zero (drop (min p.count 4) p.registers) && all_zero (drop (min p.count 4) xs)) (sym (four_entries p.values m))
-  where
-    last : (d h : ℕ) → eqb d 0 && eqb h 0 ≡ ((eqb d 0 && true) && (eqb h 0 && true))
-    last d h = rw (and_true (eqb d 0), and_true (eqb h 0))
-
-    go : (n a b c d e f g h : ℕ)
-        → (ltb 0 n || (eqb a 0 && eqb e 0)) && ((ltb 1 n || (eqb b 0 && eqb f 0)) && ((ltb 2 n || (eqb c 0 && eqb g 0)) && (ltb 3 n || (eqb d 0 && eqb h 0))))
-        ≡ (all_zero (drop (min n 4) (a ∷ b ∷ c ∷ d ∷ [])) && all_zero (drop (min n 4) (e ∷ f ∷ g ∷ h ∷ [])))
-    go zero a b c d e f g h =
-        rw (last d h, and_pairs (eqb c 0) (eqb g 0) (eqb d 0 && true) (eqb h 0 && true), and_pairs (eqb b 0) (eqb f 0) (eqb c 0 && (eqb d 0 && true)) (eqb g 0 && (eqb h 0 && true)))
-        (and_pairs (eqb a 0) (eqb e 0) (eqb b 0 && (eqb c 0 && (eqb d 0 && true))) (eqb f 0 && (eqb g 0 && (eqb h 0 && true))))
-    go (suc zero) a b c d e f g h =
-        rw (last d h, and_pairs (eqb c 0) (eqb g 0) (eqb d 0 && true) (eqb h 0 && true))
-        (and_pairs (eqb b 0) (eqb f 0) (eqb c 0 && (eqb d 0 && true)) (eqb g 0 && (eqb h 0 && true)))
-    go (suc (suc zero)) a b c d e f g h = rw (last d h) (and_pairs (eqb c 0) (eqb g 0) (eqb d 0 && true) (eqb h 0 && true))
-    go (suc (suc (suc zero))) a b c d e f g h = last d h
-    go (suc (suc (suc (suc n)))) a b c d e f g h =
-        let q : min (suc (suc (suc (suc n)))) 4 ≡ 4 = omega arith in
-        let w : ℕ = suc (suc (suc (suc n))) in
-        rw (q, lt-ltb 0 w (omega arith), lt-ltb 1 w (omega arith), lt-ltb 2 w (omega arith), lt-ltb 3 w (omega arith))
 
 -- what a session keeps of pairs has the same pairs
 pub tidy_same : (p : Pairs) (n : ℕ) → n ≤ 4
