@@ -257,22 +257,20 @@ pub(crate) fn strobed(y: Target, u: Lent, flash: &[u8], x: u8) -> Turned
     requires { known (lent u) y flash.now ≡ true }
     ensures { result ≡ turn_replied (strobed (lent u.entry) y flash.now (step_coded x)) }
 {
-    let device = y.device;
-    let place = y.place;
     match y.point {
         Point::Start => shows(
             y,
             true,
             x,
             Point::Ins { heard: 0, value: 0 },
-            place,
-            begun(device),
+            y.place,
+            begun(y.device),
         ),
         Point::Ins { heard, value } => {
             hears(
                 y,
                 x,
-                after_ins(u.t, device, heard + 1, with_bit(heard, value, x)),
+                after_ins(u.t, y.device, heard + 1, with_bit(heard, value, x)),
             )
         }
         Point::WriteLength { heard, value } => {
@@ -302,8 +300,8 @@ pub(crate) fn strobed(y: Target, u: Lent, flash: &[u8], x: u8) -> Turned
             left,
             effect,
         } => {
-            let point = after_wait(u.t, zeros, left, effect, device, flash);
-            shows(y, zeros == 0, x, point, place, device)
+            let point = after_wait(u.t, zeros, left, effect, y.device, flash);
+            shows(y, zeros == 0, x, point, y.place, y.device)
         }
         Point::Send {
             left,
@@ -311,7 +309,7 @@ pub(crate) fn strobed(y: Target, u: Lent, flash: &[u8], x: u8) -> Turned
             effect,
         } => {
             let point = sending(left.saturating_sub(1), value / 2, effect);
-            shows(y, value % 2 == 1, x, point, place, device)
+            shows(y, value % 2 == 1, x, point, y.place, y.device)
         }
         Point::Stop { effect } => stops(y, u, effect, flash, x),
     }
