@@ -228,8 +228,8 @@ fn shows(y: Target, reply: bool, x: u8, point: Point, place: usize, device: Devi
 }
 
 // The first strobe of a WAIT, which takes a delay.
-fn begins_wait(y: Target, u: Lent, left: usize, effect: Effect, flash: &[u8], x: u8) -> Turned
-    ensures { result ≡ turn_replied (strobed_at (lent u.entry) (Wait left effect) y flash.now (step_coded x)) }
+fn begins_wait(y: Target, u: &Lent, left: usize, effect: Effect, flash: &[u8], x: u8) -> Turned
+    ensures { result ≡ turn_replied (strobed_at (lent u.now) (Wait left effect) y flash.now (step_coded x)) }
 {
     let zeros = zeros_of(delay(u.delays, y.place), usize::from(u.t.wait));
     let point = after_wait(u.t, zeros, left, effect, y.device, flash);
@@ -243,19 +243,19 @@ fn begins_wait(y: Target, u: Lent, left: usize, effect: Effect, flash: &[u8], x:
     )
 }
 
-fn stops(y: Target, u: Lent, effect: Effect, flash: &[u8], x: u8) -> Turned
-    requires link_value { known_link u.t.count (length flash.now) y.device.link ≡ true }
+fn stops(y: Target, u: &Lent, effect: Effect, flash: &[u8], x: u8) -> Turned
+    requires link_value { known_link u.now.t.count (length flash.now) y.device.link ≡ true }
     requires effect_value { known_effect effect ≡ true }
-    ensures { result ≡ turn_replied (strobed_at (lent u.entry) (Point.Stop effect) y flash.now (step_coded x)) }
+    ensures { result ≡ turn_replied (strobed_at (lent u.now) (Point.Stop effect) y flash.now (step_coded x)) }
 {
     let target = does(y, u, effect, flash);
     shows(y, true, x, Point::Start, target.place, target.device)
 }
 
 // A strobe, by the point.
-pub(crate) fn strobed(y: Target, u: Lent, flash: &[u8], x: u8) -> Turned
-    requires { known (lent u) y flash.now ≡ true }
-    ensures { result ≡ turn_replied (strobed (lent u.entry) y flash.now (step_coded x)) }
+pub(crate) fn strobed(y: Target, u: &Lent, flash: &[u8], x: u8) -> Turned
+    requires { known (lent u.now) y flash.now ≡ true }
+    ensures { result ≡ turn_replied (strobed (lent u.now) y flash.now (step_coded x)) }
 {
     match y.point {
         Point::Start => shows(
