@@ -138,10 +138,9 @@ impl TryFrom<State> for Target {
     ghost try_from_gives = { λ s r. r ≡ ok_or (target_of s) NoPoint };
 
     fn try_from(s: State) -> Result<Target, Refusal> {
-        if in_form(s) {
-            Ok(target_read(s))
-        } else {
-            Err(Refusal::NoPoint)
+        if !in_form(s) {
+            return Err(Refusal::NoPoint);
         }
+        Ok(target_read(s))
     }
 }

@@ -174,9 +174,9 @@ fn awaits(
 }
 
 // The target after a byte put, which takes a delay d, then e.
-fn puts(y: Target, u: Lent, keys: usize, byte: u8, flash: &[u8]) -> Target
-    requires { known_command u.t.count (length flash.now) y.device.link.command ≡ true }
-    ensures { result ≡ stopped y (with_served y.device keys (put_byte (lent u.entry) (prepared u.entry.wanted y.device.met) y.device.link byte y.place flash.now)) }
+fn puts(y: Target, u: &Lent, keys: usize, byte: u8, flash: &[u8]) -> Target
+    requires { known_command u.now.t.count (length flash.now) y.device.link.command ≡ true }
+    ensures { result ≡ stopped y (with_served y.device keys (put_byte (lent u.now) (prepared u.now.wanted y.device.met) y.device.link byte y.place flash.now)) }
 {
     let ready = prepared(u.wanted, y.device.met);
     let taken = takes(u.t, ready, y.device.link.command, byte, flash);
@@ -202,9 +202,9 @@ fn gets(y: Target, flash: &[u8], delays: &[u8]) -> Target
 
 // The target after a Data Write: at FPDAT it is a put; elsewhere it writes a register, which only the wanted
 // pairs show.
-fn writes(y: Target, u: Lent, byte: u8, flash: &[u8]) -> Target
-    requires { known_command u.t.count (length flash.now) y.device.link.command ≡ true }
-    ensures { result ≡ stopped y (frame_does (lent u.entry) (Effect.Write byte) y.device y.place flash.now) }
+fn writes(y: Target, u: &Lent, byte: u8, flash: &[u8]) -> Target
+    requires { known_command u.now.t.count (length flash.now) y.device.link.command ≡ true }
+    ensures { result ≡ stopped y (frame_does (lent u.now) (Effect.Write byte) y.device y.place flash.now) }
 {
     let device = y.device;
     let keys = next_keys(device.address, device.keys, byte);
@@ -236,9 +236,9 @@ fn counts_down(y: Target, t: Settings) -> Target
     served(y, device.keys, link, y.place)
 }
 
-fn reads(y: Target, u: Lent, flash: &[u8]) -> Target
+fn reads(y: Target, u: &Lent, flash: &[u8]) -> Target
     requires { known_output (length flash.now) y.device.link.output ≡ true }
-    ensures { result ≡ stopped y (frame_does (lent u.entry) Effect.Read y.device y.place flash.now) }
+    ensures { result ≡ stopped y (frame_does (lent u.now) Effect.Read y.device y.place flash.now) }
 {
     let device = y.device;
     if linked(device, u.t) {
@@ -249,10 +249,10 @@ fn reads(y: Target, u: Lent, flash: &[u8]) -> Target
 }
 
 // What a frame does at its STOP.
-pub(crate) fn does(y: Target, u: Lent, effect: Effect, flash: &[u8]) -> Target
-    requires link_value { known_link u.t.count (length flash.now) y.device.link ≡ true }
+pub(crate) fn does(y: Target, u: &Lent, effect: Effect, flash: &[u8]) -> Target
+    requires link_value { known_link u.now.t.count (length flash.now) y.device.link ≡ true }
     requires effect_value { known_effect effect ≡ true }
-    ensures { result ≡ stopped y (frame_does (lent u.entry) effect y.device y.place flash.now) }
+    ensures { result ≡ stopped y (frame_does (lent u.now) effect y.device y.place flash.now) }
 {
     match effect {
         Effect::Nothing => idle(y, y.place, y.device),

@@ -25,7 +25,8 @@ pub struct Ran {
     pub collision: bool,
 }
 
-// What the target is lent: settings, the pairs that its device wants, and its delays.
+// What the target is lent: settings, the pairs that its device wants, and its delays. It is handed on by reference: by
+// value each call would copy its 25 numbers.
 #[derive(Clone, Copy)]
 struct Lent<'a> {
     t: Settings,

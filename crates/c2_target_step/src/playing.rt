@@ -62,7 +62,7 @@ pub fn play(
                 collision: target.collision,
             });
         }
-        let turned = stepped(u, target, flash, r.step());
+        let turned = stepped(&u, target, flash, r.step());
         target = turned.target;
         r = r.advance(start, u8::from(turned.reply), image);
     }

@@ -105,11 +105,11 @@ fn still(target: Target, x: u8) -> Turned
 // One step that is not refused, of a target in a state that exists. Here and below that is asked for beside the
 // target: it is a fact of the settings and the flash too, which is lent apart.
 #[tactic(auto, using(std::proofs::lemmas::Bool::Decides::nat_tests, crate::proofs::Laws::Flash::strobed_flash), unfolding(c2_target::specs::Target::stepped, c2_target::specs::Target::step_coded, c2_target::specs::Target::is_step, c2_target::specs::Known::known))]
-pub(crate) fn stepped(u: Lent, target: Target, flash: &mut [u8], x: u8) -> Turned
-    requires flash_value { known (lent u) target flash.old ≡ true }
+pub(crate) fn stepped(u: &Lent, target: Target, flash: &mut [u8], x: u8) -> Turned
+    requires flash_value { known (lent u.now) target flash.old ≡ true }
     requires x_value { is_step x ≡ true }
-    ensures value { result ≡ turn_replied (stepped (lent u.entry) target flash.old (step_coded x)) }
-    ensures flash_after { flash.new ≡ (stepped (lent u.entry) target flash.old (step_coded x)).flash }
+    ensures value { result ≡ turn_replied (stepped (lent u.now) target flash.old (step_coded x)) }
+    ensures flash_after { flash.new ≡ (stepped (lent u.now) target flash.old (step_coded x)).flash }
 {
     if x < RESET {
         let turned = strobed(target, u, flash, x);
@@ -135,5 +135,5 @@ pub fn step(
 {
     refusal(t, wanted, target, flash, x)?;
     let u = Lent { t, wanted, delays };
-    Ok(stepped(u, target, flash, x))
+    Ok(stepped(&u, target, flash, x))
 }

@@ -228,8 +228,8 @@ fn shows(y: Target, reply: bool, x: u8, point: Point, place: usize, device: Devi
 }
 
 // The first strobe of a WAIT, which takes a delay.
-fn begins_wait(y: Target, u: Lent, left: usize, effect: Effect, flash: &[u8], x: u8) -> Turned
-    ensures { result ≡ turn_replied (strobed_at (lent u.entry) (Wait left effect) y flash.now (step_coded x)) }
+fn begins_wait(y: Target, u: &Lent, left: usize, effect: Effect, flash: &[u8], x: u8) -> Turned
+    ensures { result ≡ turn_replied (strobed_at (lent u.now) (Wait left effect) y flash.now (step_coded x)) }
 {
     let zeros = zeros_of(delay(u.delays, y.place), usize::from(u.t.wait));
     let point = after_wait(u.t, zeros, left, effect, y.device, flash);
@@ -243,36 +243,34 @@ fn begins_wait(y: Target, u: Lent, left: usize, effect: Effect, flash: &[u8], x:
     )
 }
 
-fn stops(y: Target, u: Lent, effect: Effect, flash: &[u8], x: u8) -> Turned
-    requires link_value { known_link u.t.count (length flash.now) y.device.link ≡ true }
+fn stops(y: Target, u: &Lent, effect: Effect, flash: &[u8], x: u8) -> Turned
+    requires link_value { known_link u.now.t.count (length flash.now) y.device.link ≡ true }
     requires effect_value { known_effect effect ≡ true }
-    ensures { result ≡ turn_replied (strobed_at (lent u.entry) (Point.Stop effect) y flash.now (step_coded x)) }
+    ensures { result ≡ turn_replied (strobed_at (lent u.now) (Point.Stop effect) y flash.now (step_coded x)) }
 {
     let target = does(y, u, effect, flash);
     shows(y, true, x, Point::Start, target.place, target.device)
 }
 
 // A strobe, by the point.
-pub(crate) fn strobed(y: Target, u: Lent, flash: &[u8], x: u8) -> Turned
-    requires { known (lent u) y flash.now ≡ true }
-    ensures { result ≡ turn_replied (strobed (lent u.entry) y flash.now (step_coded x)) }
+pub(crate) fn strobed(y: Target, u: &Lent, flash: &[u8], x: u8) -> Turned
+    requires { known (lent u.now) y flash.now ≡ true }
+    ensures { result ≡ turn_replied (strobed (lent u.now) y flash.now (step_coded x)) }
 {
-    let device = y.device;
-    let place = y.place;
     match y.point {
         Point::Start => shows(
             y,
             true,
             x,
             Point::Ins { heard: 0, value: 0 },
-            place,
-            begun(device),
+            y.place,
+            begun(y.device),
         ),
         Point::Ins { heard, value } => {
             hears(
                 y,
                 x,
-                after_ins(u.t, device, heard + 1, with_bit(heard, value, x)),
+                after_ins(u.t, y.device, heard + 1, with_bit(heard, value, x)),
             )
         }
         Point::WriteLength { heard, value } => {
@@ -302,8 +300,8 @@ pub(crate) fn strobed(y: Target, u: Lent, flash: &[u8], x: u8) -> Turned
             left,
             effect,
         } => {
-            let point = after_wait(u.t, zeros, left, effect, device, flash);
-            shows(y, zeros == 0, x, point, place, device)
+            let point = after_wait(u.t, zeros, left, effect, y.device, flash);
+            shows(y, zeros == 0, x, point, y.place, y.device)
         }
         Point::Send {
             left,
@@ -311,7 +309,7 @@ pub(crate) fn strobed(y: Target, u: Lent, flash: &[u8], x: u8) -> Turned
             effect,
         } => {
             let point = sending(left.saturating_sub(1), value / 2, effect);
-            shows(y, value % 2 == 1, x, point, place, device)
+            shows(y, value % 2 == 1, x, point, y.place, y.device)
         }
         Point::Stop { effect } => stops(y, u, effect, flash, x),
     }
