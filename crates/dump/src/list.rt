@@ -13,8 +13,8 @@ impl Dumps<'_> {
         ensures list_after { list.new ≡ list_filled self.entry.a.now self.entry.b.now list.old }
     {
         let mut held: usize = 0;
-        let mut next = self.next_difference(0);
-        while let Some(at) = next {
+        let mut end: usize = 0;
+        while let Some(at) = self.next_difference(end) {
             let place = 2 * held;
             if list.len() - place < 2 {
                 return RangesFound {
@@ -23,11 +23,10 @@ impl Dumps<'_> {
                     held: held as u64,
                 };
             }
-            let end = self.range_end(at);
+            end = self.range_end(at);
             list[place] = at as u64;
             list[place + 1] = (end - at) as u64;
             held += 1;
-            next = self.next_difference(end);
         }
         RangesFound {
             number: 0,

@@ -1,5 +1,5 @@
 // How far two dumps go on being equal, or differing.
-ghost use Rattle.std.specs.Prelude.{◌≡◌, ◌<◌, ◌≤◌, length, get_or};
+ghost use Rattle.std.specs.Prelude.{◌≡◌, false, ◌<◌, ◌≤◌, length, get_or};
 ghost use Rattle.dump.specs.Code.Stretch.{DifferenceAt, Passed, EndAt, FirstPlace};
 
 use crate::dumps::Dumps;
@@ -11,15 +11,16 @@ const STRETCH: usize = 64;
 const NEAR: usize = 16;
 
 impl Dumps<'_> {
-    // The first place from `at` on and before `end` where the bytes are equal, or where they differ, as asked.
+    // The first place from `at` on and before `end` where the bytes differ.
     // A `for` and not `find` over the range, which proves too: of that the C compiler makes twice the instructions
-    // for dumps with many ranges.
-    fn first_place(self, at: usize, end: usize, equal: bool) -> Option<usize>
+    // for dumps with many ranges. Nor one loop with that of `range_end`, with what is looked for as a parameter:
+    // made for size, it tests that parameter at each byte.
+    fn difference_before(self, at: usize, end: usize) -> Option<usize>
         requires { (at ≤ end) × (end ≤ length self.a.now) }
-        ensures { FirstPlace equal self.entry.a.now self.entry.b.now at end result }
+        ensures { FirstPlace false self.entry.a.now self.entry.b.now at end result }
     {
         for i in at..end {
-            if (self.a[i] == self.b[i]) == equal {
+            if self.a[i] != self.b[i] {
                 return Some(i);
             }
         }
@@ -46,8 +47,8 @@ impl Dumps<'_> {
         ensures { DifferenceAt self.entry.a.now self.entry.b.now at result }
     {
         let near = at + NEAR.min(self.len() - at);
-        match self.first_place(at, near, false) {
-            None => self.first_place(self.passed(near), self.len(), false),
+        match self.difference_before(at, near) {
+            None => self.difference_before(self.passed(near), self.len()),
             found => found,
         }
     }
@@ -57,7 +58,11 @@ impl Dumps<'_> {
         requires { (at < length self.a.now) × (get_or self.a.now at 0 ≡ get_or self.b.now at 0 → ⊥) }
         ensures { EndAt self.entry.a.now self.entry.b.now at result }
     {
-        self.first_place(at + 1, self.len(), true)
-            .unwrap_or(self.len())
+        for i in at + 1..self.len() {
+            if self.a[i] == self.b[i] {
+                return i;
+            }
+        }
+        self.len()
     }
 }

@@ -1,3 +1,4 @@
 -- The laws of the definitions.
+pub mod Cases
 pub mod Shape
 pub mod Weighing

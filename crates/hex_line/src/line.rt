@@ -17,10 +17,11 @@ pub struct Judged {
     pub bytes: usize,
 }
 
-// The length of a line that has a record's shape; the low byte of its record's sum.
+// The length of a line that has a record's shape; its number of data bytes; the low byte of its record's sum.
 #[derive(Clone, Copy)]
 struct Shape {
     bytes: usize,
+    count: usize,
     sum: u8,
 }
 
@@ -55,8 +56,11 @@ pub fn end_bytes(s: &[u8]) -> Option<usize>
 pub fn count(s: &[u8]) -> usize
     ensures { (result ≡ count s.now) × (result < 256) }
 {
-    let high = s.get(1).copied().unwrap_or(0);
-    let low = s.get(2).copied().unwrap_or(0);
+    let (high, low) = match s {
+        [_, high, low, ..] => (*high, *low),
+        [_, high] => (*high, 0),
+        _ => (0, 0),
+    };
     usize::from(octet(high, low))
 }
 
@@ -71,18 +75,19 @@ pub fn word(a: u8, b: u8, c: u8, d: u8) -> usize
 fn measure(s: &[u8]) -> Option<Shape>
     ensures { MatchOption result (shaped s.now ≡ 0)
         (λ m. (m.bytes ≡ shaped s.now) × (0 < m.bytes) × (m.sum ≡ sum (octets (digits s.now)) % 256)
-        × (2 * count s.now + 11 < length s.now)) }
+        × (2 * count s.now + 11 < length s.now) × (m.count ≡ count s.now)) }
 {
     if s.len() < 3 {
         return None;
     }
-    let end = 2 * count(s) + 11;
+    let count = count(s);
+    let end = 2 * count + 11;
     if s.len() <= end || s[0] != b':' {
         return None;
     }
     let sum = weigh(&s[1..end])?;
     let bytes = end + end_bytes(&s[end..])?;
-    Some(Shape { bytes, sum })
+    Some(Shape { bytes, count, sum })
 }
 
 // What a record is by type, length and address.
@@ -103,7 +108,7 @@ fn judge_kind(flash: usize, kind: u8, count: usize, address: usize) -> Line
 pub fn judge(s: &[u8], flash: usize) -> Judged
     ensures { judgement result.line result.bytes ≡ judgement_at flash s.now }
 {
-    let Some(Shape { bytes, sum }) = measure(s) else {
+    let Some(Shape { bytes, count, sum }) = measure(s) else {
         return Judged {
             line: Err(Refusal::BadLine),
             bytes: 0,
@@ -118,7 +123,7 @@ pub fn judge(s: &[u8], flash: usize) -> Judged
     let line = judge_kind(
         flash,
         octet(s[7], s[8]),
-        count(s),
+        count,
         word(s[3], s[4], s[5], s[6]),
     );
     Judged { line, bytes }

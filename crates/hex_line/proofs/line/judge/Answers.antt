@@ -16,5 +16,5 @@ pub returns : goal.returns
 unfolding kind address
 returns c =
     let m = c.in-Some.ensures in
-    rw (c.judge_kind-line.ensures, c.octet.ensures, c.count.ensures.0, c.word.ensures, m.0)
+    rw (c.judge_kind-line.ensures, c.octet.ensures, m.4, c.word.ensures, m.0)
     (judge_kind c.args.flash c.args.s.now (λ z. omega (arith, m.0, m.1)) (sym m.2 ∙ c.if-sum-ne0.false))
