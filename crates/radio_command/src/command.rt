@@ -49,20 +49,20 @@ pub fn build(c: RadioCommand) -> [u8; 8]
 }
 
 // The command that the bytes are, if they are one.
+#[tactic(auto, unfolding(crate::specs::Command::read_command, crate::specs::Command::read_named))]
 pub fn read_command(m: &[u8]) -> Option<RadioCommand>
     ensures { result ≡ read_command m.now }
 {
-    let [_, _, _, b3, p0, p1, p2, _] = *m else {
+    let [b0, b1, b2, b3, p0, p1, p2, sum] = *m else {
         return None;
     };
-    let c = RadioCommand {
-        name: name_of(b3)?,
-        p0,
-        p1,
-        p2,
-    };
-    if m == build(c).as_slice() {
-        Some(c)
+    let name = name_of(b3)?;
+    if b0 == 0xA5
+        && b1 == 0x5A
+        && b2 == 0xA5
+        && sum == command_sum(b2, u8::from(name), p0, p1, p2)
+    {
+        Some(RadioCommand { name, p0, p1, p2 })
     } else {
         None
     }

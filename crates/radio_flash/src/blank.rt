@@ -7,7 +7,10 @@ use crate::AREA_BYTES;
 pub fn is_blank(flash: &[u8]) -> bool
     ensures { result ≡ is_blank flash.now }
 {
-    flash[..AREA_BYTES.min(flash.len())]
-        .iter()
-        .all(|b| *b == 0xFF)
+    for b in &flash[..AREA_BYTES.min(flash.len())] {
+        if *b != 0xFF {
+            return false;
+        }
+    }
+    true
 }

@@ -20,7 +20,12 @@ pub const MOST_BYTES: usize = 32256;
 fn is_mask(m: &[u8]) -> bool
     ensures { result ≡ is_mask m.now }
 {
-    m.iter().all(|b| *b == 0x00 || *b == 0xFF)
+    for b in m {
+        if *b != 0x00 && *b != 0xFF {
+            return false;
+        }
+    }
+    true
 }
 
 // Whether a mask is one: 256 such bytes, of which 2 and 3 name nothing.
@@ -65,7 +70,12 @@ pub fn pages_for(bytes: usize) -> usize
 pub fn shared(a: &[u8], b: &[u8]) -> usize
     ensures { result ≡ shared a.now b.now }
 {
-    a.iter().zip(b).take_while(|(x, y)| x == y).count()
+    for (i, x) in a.iter().enumerate() {
+        if b.len() <= i || *x != b[i] {
+            return i;
+        }
+    }
+    a.len()
 }
 
 // Writes a page of the padded image into a buffer of 256 bytes. Another buffer, and one for a page that the

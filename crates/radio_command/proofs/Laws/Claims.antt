@@ -1,5 +1,5 @@
 -- Building and reading are inverse both ways (`Claims`), and what the contracts' proofs cite.
-use Rattle.std.proofs.Common.{◌≡◌, ℕ, Bool, true, false, cond, eqb, List, [], ◌∷◌, length, refl, Option, Some, None, arith, eq-eqb, ne_eqb, eqb-true, get_or}
+use Rattle.std.proofs.Common.{◌≡◌, ℕ, Bool, true, false, cond, eqb, List, [], ◌∷◌, length, refl, Option, Some, None, arith, eq-eqb, eqb-true}
 use Rattle.laws.proofs.Tests.{by_test}
 use Rattle.radio_command.specs.declared.CommandName.{CommandName}
 use Rattle.radio_command.specs.declared.CommandName.TheVariants.{RdSwVersion, InfSwVersion, RdFlashByte, WrFlashByte, RdFlashPage}
@@ -95,34 +95,3 @@ read_was_built (b0 ∷ b1 ∷ b2 ∷ b3 ∷ b4 ∷ []) c e = absurd (omega (arit
 read_was_built (b0 ∷ b1 ∷ b2 ∷ b3 ∷ b4 ∷ b5 ∷ []) c e = absurd (omega (arith, eight (b0 ∷ b1 ∷ b2 ∷ b3 ∷ b4 ∷ b5 ∷ []) c e))
 read_was_built (b0 ∷ b1 ∷ b2 ∷ b3 ∷ b4 ∷ b5 ∷ b6 ∷ []) c e = absurd (omega (arith, eight (b0 ∷ b1 ∷ b2 ∷ b3 ∷ b4 ∷ b5 ∷ b6 ∷ []) c e))
 read_was_built (b0 ∷ b1 ∷ b2 ∷ b3 ∷ b4 ∷ b5 ∷ b6 ∷ b7 ∷ b8 ∷ bs) c e = absurd (omega (arith, eight (b0 ∷ b1 ∷ b2 ∷ b3 ∷ b4 ∷ b5 ∷ b6 ∷ b7 ∷ b8 ∷ bs) c e))
-
--- bytes of another length, and bytes with no command byte, read as none
-pub other_length : (m : List ℕ) → (length m ≡ 8 → ⊥) → read_command m ≡ None
-unfolding read_command
-other_length m h = rw (ne_eqb _ _ h)
-
-pub no_name : (m : List ℕ) → name_of (get_or m 3 0) ≡ None → read_command m ≡ None
-unfolding read_command
-no_name m e = by_test (eqb (length m) 8) (λ t. rw (t, e)) (λ t. rw t)
-
--- the command that bytes would be: this name, and the parameters that stand
-abbrev pub with_name : CommandName → List ℕ → RadioCommand
-with_name n m = record { name = n; p0 = get_or m 4 0; p1 = get_or m 5 0; p2 = get_or m 6 0 }
-
--- bytes that aren't that command, built, read as none
-unbuilt : (m : List ℕ) (n : CommandName) → name_of (get_or m 3 0) ≡ Some n → (m ≡ built (with_name n m) → ⊥) → (r : Option RadioCommand)
-    → read_command m ≡ r → r ≡ None
-unfolding built
-unbuilt m n h ne None e = refl
-unbuilt m n h ne (Some d) e =
-    let is : m ≡ built d = read_was_built m d e in
-    let named : name_of (command_byte d.name) ≡ Some n = rw is at h in
-    let same : n ≡ d.name = let code = name_of_code d.name in cc in
-    absurd (ne (rw (is, same)))
-
-pub not_built : (m : List ℕ) (n : CommandName) → name_of (get_or m 3 0) ≡ Some n → (m ≡ built (with_name n m) → ⊥) → read_command m ≡ None
-not_built m n h ne = unbuilt m n h ne (read_command m) refl
-
--- what is that command, built, reads as it
-pub is_built : (m : List ℕ) (c : RadioCommand) → m ≡ built c → read_command m ≡ Some c
-is_built m c e = rw e (built_reads c)
