@@ -5,7 +5,7 @@ ghost use Rattle.hex_format.specs.Digits.{digit, octet};
 // The value of a digit of either case; none for a character that is no digit, where the definition has 16. How far
 // it lies from the first of its kind is one test, where a match on three ranges takes up to six; the cases differ in
 // one bit.
-#[tactic(auto, using(std::proofs::lemmas::Bool::Decides::nat_tests), unfolding(hex_format::specs::Digits::digit))]
+#[tactic(auto, using(std::proofs::lemmas::Bool::Decides::nat_tests, crate::proofs::Laws::Cases::letter, crate::proofs::Laws::Cases::other), unfolding(hex_format::specs::Digits::digit))]
 pub fn digit(a: u8) -> Option<u8>
     ensures { MatchOption result (digit a ≡ 16) (λ d. (d ≡ digit a) × (d < 16)) }
 {
