@@ -1,7 +1,5 @@
 -- `dump::stretch::passed` meets its contract: a part that is the same as a whole is the same byte by byte.
 use native.Mathlib.Omega.{arith}
-use Rattle.std.proofs.lemmas.Bool.Decides.{Decides-eqb}
-use Rattle.std.proofs.lemmas.Slice.Eq.{slice_eq-Decides}
 use Rattle.dump.proofs.Laws.Stretch.{equal_part}
 use Rattle.dump.proofs.dumps.Dumps.passed.Goals as goal
 
@@ -9,5 +7,4 @@ pub loop-i-preserved : goal.loop-i-preserved
 loop-i-preserved c =
     let s = c.args in
     let i = c.loop-i in
-    let e = slice_eq-Decides Decides-eqb _ _ _ c.eq.ensures in
-    (omega arith, omega arith, equal_part s.self.a.now s.self.b.now s.at i.i 64 i.invariant.2 (e.0 c.if-eq.true))
+    (omega arith, omega arith, equal_part s.self.a.now s.self.b.now s.at i.i 64 i.invariant.2 (c.same.ensures c.if-same.true))
