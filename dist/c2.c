@@ -1,4 +1,4 @@
-/* Made from the MIR of crate c2, sha256 a830fd242b08728bf1807875e770356c9208d5d0f601279a9817247f66cac524. */
+/* Made from the MIR of crate c2, sha256 d2f35cd3c24b5b9691007b30d2745e4f4155effadda04b1d35f05a13884b0dce. */
 /*
  * Made by `make c`, not to be edited. A function stands under its path in the proved code; one that is generic
  * there, as those of the library are, stands once for each of what it is given, under the end of its path and
@@ -11,15 +11,12 @@
 #include <stdint.h>
 #include "c2.h"
 
-typedef struct {
-    uint8_t tag;
-    uint8_t u8_0;
-} core__Result_u8_AllocError;
-
-typedef struct {
-    uint8_t *at;
-    uint64_t length;
-} slice_mut_u8;
+/* For what is the library's, and for closures: a call of each would cost more than what it does. */
+#if defined(__GNUC__)
+#define INLINED static inline __attribute__((always_inline))
+#else
+#define INLINED static inline
+#endif
 
 typedef struct {
     uint8_t at[4];
@@ -76,6 +73,11 @@ typedef struct {
     uint8_t tag;
     core__ErrResidual_Refusal core__ErrResidual_Refusal_0;
 } core__ControlFlow_ErrResidual_Refusal_unit;
+
+typedef struct {
+    uint8_t *at;
+    uint64_t length;
+} slice_mut_u8;
 
 typedef struct {
     uint8_t tag;
@@ -215,110 +217,19 @@ static uint16_t c2_opening__pages_in(uint64_t a1, uint32_t a2)
     return result;
 }
 
-/* core::clone::U8Clone::clone */
-static core__Result_u8_AllocError core__clone__U8Clone__clone(const uint8_t *a1)
-{
-    core__Result_u8_AllocError result;
-    uint8_t v2;
-    v2 = *a1;
-    result.tag = 0u;
-    result.u8_0 = v2;
-    return result;
-}
-
-/* core::clone::surely_u8 */
-static uint8_t core__clone__surely_u8(const uint8_t *a1)
+/* settings::registers::if_named */
+static uint8_t settings__registers__if_named(_Bool a1, uint8_t a2)
 {
     uint8_t result;
-    uint8_t v2;
-    core__Result_u8_AllocError v3;
-    uint8_t v4;
-    v3 = core__clone__U8Clone__clone(a1);
-    switch (v3.tag) {
-    default: /* 0 */
-        v2 = v3.u8_0;
-        v4 = v2;
-        break;
-    }
-    result = v4;
-    return result;
-}
-
-/* core::slice_T::fill_u8 */
-static void core__slice_T__fill_u8(slice_mut_u8 a1, uint8_t a2)
-{
-    uint8_t v3;
-    uint64_t v4;
-    uint64_t v5;
-    _Bool v6;
-    uint64_t v7;
-    _Bool v8;
-    uint8_t v9;
-    const uint8_t *v10;
-    uint8_t *v11;
-    uint8_t v12;
-    uint64_t v13;
-    uint64_t v14;
-    uint8_t *v15;
-    v3 = a2;
-    v4 = a1.length;
-    v6 = v4 == UINT64_C(0);
-    if (v6) {
-        return;
-    }
-    v5 = UINT64_C(0);
-    for (;;) {
-        v7 = v4 - UINT64_C(1);
-        v8 = v5 < v7;
-        if (!v8) {
-            break;
-        }
-        v10 = &v3;
-        v9 = core__clone__surely_u8(v10);
-        v7 = v5;
-        v11 = a1.at + (size_t)v7;
-        *v11 = v9;
-        v5 = v5 + UINT64_C(1);
-    }
-    v12 = v3;
-    v13 = v4 - UINT64_C(1);
-    v14 = v13;
-    v15 = a1.at + (size_t)v14;
-    *v15 = v12;
-    return;
-}
-
-/* core::convert::UsizeFromU8::from */
-static uint64_t core__convert__UsizeFromU8__from(uint8_t a1)
-{
-    uint64_t result;
-    result = (uint64_t)a1;
-    return result;
-}
-
-/* core::int::usize::min */
-static uint64_t core__int__usize__min(uint64_t a1, uint64_t a2)
-{
-    uint64_t result;
     _Bool v3;
-    uint64_t v4;
-    v3 = a2 < a1;
+    uint8_t v4;
+    v3 = a1;
     if (v3) {
         v4 = a2;
     } else {
-        v4 = a1;
+        v4 = 0u;
     }
     result = v4;
-    return result;
-}
-
-/* settings::registers::named_of */
-static uint64_t settings__registers__named_of(uint8_t a1)
-{
-    uint64_t result;
-    uint64_t v2;
-    v2 = core__convert__UsizeFromU8__from(a1);
-    result = core__int__usize__min(UINT64_C(4), v2);
     return result;
 }
 
@@ -327,22 +238,51 @@ static array_4_u8 settings__registers__named(uint8_t a1, array_4_u8 a2)
 {
     array_4_u8 result;
     array_4_u8 v3;
-    uint64_t v5;
-    uint8_t *v6;
-    uint8_t *v7;
-    uint64_t v8;
-    uint8_t *v9;
-    slice_mut_u8 v10;
+    uint8_t v4;
+    _Bool v5;
+    const uint8_t *v6;
+    const uint8_t *v7;
+    uint8_t v8;
+    uint8_t v9;
+    _Bool v10;
+    const uint8_t *v11;
+    const uint8_t *v12;
+    uint8_t v13;
+    uint8_t v14;
+    _Bool v15;
+    const uint8_t *v16;
+    const uint8_t *v17;
+    uint8_t v18;
+    uint8_t v19;
+    _Bool v20;
+    const uint8_t *v21;
+    const uint8_t *v22;
+    uint8_t v23;
     v3 = a2;
-    v5 = settings__registers__named_of(a1);
+    v5 = 0u < a1;
     v6 = v3.at;
-    v7 = v6 + (size_t)v5;
-    v8 = UINT64_C(4) - v5;
-    v9 = v7;
-    v10.at = v9;
-    v10.length = v8;
-    core__slice_T__fill_u8(v10, 0u);
-    result = v3;
+    v7 = v6 + (size_t)UINT64_C(0);
+    v8 = *v7;
+    v4 = settings__registers__if_named(v5, v8);
+    v10 = 1u < a1;
+    v11 = v3.at;
+    v12 = v11 + (size_t)UINT64_C(1);
+    v13 = *v12;
+    v9 = settings__registers__if_named(v10, v13);
+    v15 = 2u < a1;
+    v16 = v3.at;
+    v17 = v16 + (size_t)UINT64_C(2);
+    v18 = *v17;
+    v14 = settings__registers__if_named(v15, v18);
+    v20 = 3u < a1;
+    v21 = v3.at;
+    v22 = v21 + (size_t)UINT64_C(3);
+    v23 = *v22;
+    v19 = settings__registers__if_named(v20, v23);
+    result.at[0] = v4;
+    result.at[1] = v9;
+    result.at[2] = v14;
+    result.at[3] = v19;
     return result;
 }
 
@@ -470,7 +410,7 @@ static uint8_t c2_record__words__byte(uint8_t a1)
 }
 
 /* core::int::u32::to_le_bytes */
-static array_4_u8 core__int__u32__to_le_bytes(uint32_t a1)
+INLINED array_4_u8 core__int__u32__to_le_bytes(uint32_t a1)
 {
     array_4_u8 result;
     uint32_t v2;
@@ -539,7 +479,7 @@ static uint8_t c2_record__words__low(uint32_t a1)
 }
 
 /* core::convert::U32FromU16::from */
-static uint32_t core__convert__U32FromU16__from(uint16_t a1)
+INLINED uint32_t core__convert__U32FromU16__from(uint16_t a1)
 {
     uint32_t result;
     result = (uint32_t)a1;
@@ -707,7 +647,7 @@ static array_32_u8 c2_record__write__lay(const c2_settings *a1, uint16_t a2, uin
 }
 
 /* core::default::U32Default::default */
-static uint32_t core__default__U32Default__default(void)
+INLINED uint32_t core__default__U32Default__default(void)
 {
     uint32_t result;
     result = UINT32_C(0);
@@ -715,7 +655,7 @@ static uint32_t core__default__U32Default__default(void)
 }
 
 /* core::default::U8Default::default */
-static uint8_t core__default__U8Default__default(void)
+INLINED uint8_t core__default__U8Default__default(void)
 {
     uint8_t result;
     result = 0u;
@@ -848,7 +788,7 @@ static c2_record__Fields c2_record__write__FieldsFromPoint__from(const c2_sessio
 }
 
 /* core::AnyInto::into_Point_Fields */
-static c2_record__Fields core__AnyInto__into_Point_Fields(const c2_session__Point *a1)
+INLINED c2_record__Fields core__AnyInto__into_Point_Fields(const c2_session__Point *a1)
 {
     c2_record__Fields result;
     c2_session__Point v2;
@@ -899,7 +839,7 @@ static array_32_u8 c2_record__write__pack(const c2_session__Session *a1)
 }
 
 /* core::AnyFrom::from_Refusal */
-static numbers__Refusal core__AnyFrom__from_Refusal(numbers__Refusal a1)
+INLINED numbers__Refusal core__AnyFrom__from_Refusal(numbers__Refusal a1)
 {
     numbers__Refusal result;
     result = a1;
@@ -907,7 +847,7 @@ static numbers__Refusal core__AnyFrom__from_Refusal(numbers__Refusal a1)
 }
 
 /* core::ResultFromResidualErrResidual::from_residua_45a805 */
-static core__Result_unit_Refusal core__ResultFromResidualErrResidual__from_residua_45a805(
+INLINED core__Result_unit_Refusal core__ResultFromResidualErrResidual__from_residua_45a805(
     const core__ErrResidual_Refusal *a1)
 {
     core__Result_unit_Refusal result;
@@ -921,7 +861,7 @@ static core__Result_unit_Refusal core__ResultFromResidualErrResidual__from_resid
 }
 
 /* core::ResultTry::branch_unit_Refusal */
-static core__ControlFlow_ErrResidual_Refusal_unit core__ResultTry__branch_unit_Refusal(
+INLINED core__ControlFlow_ErrResidual_Refusal_unit core__ResultTry__branch_unit_Refusal(
     const core__Result_unit_Refusal *a1)
 {
     core__ControlFlow_ErrResidual_Refusal_unit result;
@@ -948,7 +888,7 @@ static core__ControlFlow_ErrResidual_Refusal_unit core__ResultTry__branch_unit_R
 }
 
 /* core::chunk_mut::as_array_mut_u8_32 */
-static uint8_t *core__chunk_mut__as_array_mut_u8_32(slice_mut_u8 a1)
+INLINED uint8_t *core__chunk_mut__as_array_mut_u8_32(slice_mut_u8 a1)
 {
     uint8_t *result;
     uint8_t *v2;
@@ -960,7 +900,7 @@ static uint8_t *core__chunk_mut__as_array_mut_u8_32(slice_mut_u8 a1)
 }
 
 /* core::slice_T::as_mut_array_u8_32 */
-static core__Option_mut_array_32_u8 core__slice_T__as_mut_array_u8_32(slice_mut_u8 a1)
+INLINED core__Option_mut_array_32_u8 core__slice_T__as_mut_array_u8_32(slice_mut_u8 a1)
 {
     core__Option_mut_array_32_u8 result;
     uint64_t v2;
@@ -984,8 +924,16 @@ static core__Option_mut_array_32_u8 core__slice_T__as_mut_array_u8_32(slice_mut_
     return result;
 }
 
+/* core::convert::UsizeFromU8::from */
+INLINED uint64_t core__convert__UsizeFromU8__from(uint8_t a1)
+{
+    uint64_t result;
+    result = (uint64_t)a1;
+    return result;
+}
+
 /* core::slice_T::is_empty_u8 */
-static _Bool core__slice_T__is_empty_u8(slice_u8 a1)
+INLINED _Bool core__slice_T__is_empty_u8(slice_u8 a1)
 {
     _Bool result;
     uint64_t v2;
@@ -995,7 +943,7 @@ static _Bool core__slice_T__is_empty_u8(slice_u8 a1)
 }
 
 /* core::IterIterator::next_u8 */
-static core__Option_ref_u8 core__IterIterator__next_u8(core__Iter_u8 *a1)
+INLINED core__Option_ref_u8 core__IterIterator__next_u8(core__Iter_u8 *a1)
 {
     core__Option_ref_u8 result;
     slice_u8 v2;
@@ -1032,7 +980,7 @@ static core__Option_ref_u8 core__IterIterator__next_u8(core__Iter_u8 *a1)
 }
 
 /* settings::registers::fn::are_registers::all */
-static _Bool settings__registers__fn__are_registers__all(settings__all_Self_ref_u8 *a1, const uint8_t *a2)
+INLINED _Bool settings__registers__fn__are_registers__all(settings__all_Self_ref_u8 *a1, const uint8_t *a2)
 {
     _Bool result;
     const uint8_t *v3;
@@ -1053,7 +1001,7 @@ static _Bool settings__registers__fn__are_registers__all(settings__all_Self_ref_
 }
 
 /* settings::registers::fn::are_registers::all_FnMut::call_mut */
-static _Bool settings__registers__fn__are_registers__all_FnMut__call_mut(settings__all_Self_ref_u8 *a1,
+INLINED _Bool settings__registers__fn__are_registers__all_FnMut__call_mut(settings__all_Self_ref_u8 *a1,
     const uint8_t *a2)
 {
     _Bool result;
@@ -1064,7 +1012,7 @@ static _Bool settings__registers__fn__are_registers__all_FnMut__call_mut(setting
 }
 
 /* core::Iterator::all_Iter_u8_ref_u8_are_registers_f5c56d */
-static _Bool core__Iterator__all_Iter_u8_ref_u8_are_registers_f5c56d(core__Iter_u8 *a1,
+INLINED _Bool core__Iterator__all_Iter_u8_ref_u8_are_registers_f5c56d(core__Iter_u8 *a1,
     const settings__all_Self_ref_u8 *a2)
 {
     _Bool result;
@@ -1102,7 +1050,7 @@ static _Bool core__Iterator__all_Iter_u8_ref_u8_are_registers_f5c56d(core__Iter_
 }
 
 /* core::slice_T::iter_u8 */
-static core__Iter_u8 core__slice_T__iter_u8(slice_u8 a1)
+INLINED core__Iter_u8 core__slice_T__iter_u8(slice_u8 a1)
 {
     core__Iter_u8 result;
     result.f0.at = a1.at;
@@ -1131,8 +1079,8 @@ static _Bool settings__registers__are_registers(uint8_t a1, slice_u8 a2)
     return result;
 }
 
-/* settings::registers::are_pairs */
-static _Bool settings__registers__are_pairs(uint8_t a1, const c2_pairs *a2)
+/* settings::registers::entries_fit */
+static _Bool settings__registers__entries_fit(uint8_t a1, const c2_pairs *a2)
 {
     _Bool result;
     c2_pairs v3;
@@ -1160,6 +1108,19 @@ static _Bool settings__registers__are_pairs(uint8_t a1, const c2_pairs *a2)
         v6 = settings__registers__are_registers(a1, v8);
     }
     result = v6;
+    return result;
+}
+
+/* settings::registers::are_pairs */
+static _Bool settings__registers__are_pairs(uint8_t a1, const c2_pairs *a2)
+{
+    _Bool result;
+    _Bool v3;
+    v3 = a2->count == 0u;
+    if (!v3) {
+        v3 = settings__registers__entries_fit(a1, a2);
+    }
+    result = v3;
     return result;
 }
 
@@ -1261,7 +1222,7 @@ static core__Result_unit_Refusal settings__accepted__refusal(const c2_settings *
 }
 
 /* core::int::checked::usize::checked_sub */
-static core__Option_u64 core__int__checked__usize__checked_sub(uint64_t a1, uint64_t a2)
+INLINED core__Option_u64 core__int__checked__usize__checked_sub(uint64_t a1, uint64_t a2)
 {
     core__Option_u64 result;
     _Bool v3;
@@ -1535,7 +1496,7 @@ static uint32_t numbers__U32FromRefusal__from(numbers__Refusal a1)
 }
 
 /* core::AnyInto::into_Refusal_u32 */
-static uint32_t core__AnyInto__into_Refusal_u32(numbers__Refusal a1)
+INLINED uint32_t core__AnyInto__into_Refusal_u32(numbers__Refusal a1)
 {
     uint32_t result;
     numbers__Refusal v2;
@@ -1545,7 +1506,7 @@ static uint32_t core__AnyInto__into_Refusal_u32(numbers__Refusal a1)
 }
 
 /* core::convert::U32FromU8::from */
-static uint32_t core__convert__U32FromU8__from(uint8_t a1)
+INLINED uint32_t core__convert__U32FromU8__from(uint8_t a1)
 {
     uint32_t result;
     result = (uint32_t)a1;
@@ -1942,7 +1903,7 @@ static uint8_t c2_session__Session__register_byte(const c2_session__Session *a1,
 }
 
 /* core::int::u32::saturating_sub */
-static uint32_t core__int__u32__saturating_sub(uint32_t a1, uint32_t a2)
+INLINED uint32_t core__int__u32__saturating_sub(uint32_t a1, uint32_t a2)
 {
     uint32_t result;
     _Bool v3;
@@ -1980,7 +1941,7 @@ static uint64_t c2_session__Session__byte_offset(const c2_session__Session *a1, 
 }
 
 /* core::Option::unwrap_or_u8 */
-static uint8_t core__Option__unwrap_or_u8(const core__Option_u8 *a1, uint8_t a2)
+INLINED uint8_t core__Option__unwrap_or_u8(const core__Option_u8 *a1, uint8_t a2)
 {
     uint8_t result;
     uint8_t v3;
@@ -1999,7 +1960,7 @@ static uint8_t core__Option__unwrap_or_u8(const core__Option_u8 *a1, uint8_t a2)
 }
 
 /* core::Option::unwrap_ref_u8 */
-static const uint8_t *core__Option__unwrap_ref_u8(const core__Option_ref_u8 *a1)
+INLINED const uint8_t *core__Option__unwrap_ref_u8(const core__Option_ref_u8 *a1)
 {
     const uint8_t *result;
     const uint8_t *v2;
@@ -2015,7 +1976,7 @@ static const uint8_t *core__Option__unwrap_ref_u8(const core__Option_ref_u8 *a1)
 }
 
 /* core::Option_ref_T::copied_u8 */
-static core__Option_u8 core__Option_ref_T__copied_u8(const core__Option_ref_u8 *a1)
+INLINED core__Option_u8 core__Option_ref_T__copied_u8(const core__Option_ref_u8 *a1)
 {
     core__Option_u8 result;
     core__Option_u8 v2;
@@ -2042,7 +2003,7 @@ static core__Option_u8 core__Option_ref_T__copied_u8(const core__Option_ref_u8 *
 }
 
 /* core::UsizeSliceIndexRefSlice::pick_u8 */
-static core__Option_ref_u8 core__UsizeSliceIndexRefSlice__pick_u8(uint64_t a1, slice_u8 a2)
+INLINED core__Option_ref_u8 core__UsizeSliceIndexRefSlice__pick_u8(uint64_t a1, slice_u8 a2)
 {
     core__Option_ref_u8 result;
     uint64_t v3;
@@ -2069,7 +2030,7 @@ static core__Option_ref_u8 core__UsizeSliceIndexRefSlice__pick_u8(uint64_t a1, s
 }
 
 /* core::slice_T::get_u8_u64_ref_u8 */
-static core__Option_ref_u8 core__slice_T__get_u8_u64_ref_u8(slice_u8 a1, uint64_t a2)
+INLINED core__Option_ref_u8 core__slice_T__get_u8_u64_ref_u8(slice_u8 a1, uint64_t a2)
 {
     core__Option_ref_u8 result;
     uint64_t v3;
@@ -2237,7 +2198,7 @@ static core__Option_u64 c2_wire__Frame__byte_weight(c2_wire__Frame a1)
 }
 
 /* core::convert::U64FromU8::from */
-static uint64_t core__convert__U64FromU8__from(uint8_t a1)
+INLINED uint64_t core__convert__U64FromU8__from(uint8_t a1)
 {
     uint64_t result;
     result = (uint64_t)a1;
@@ -2491,7 +2452,7 @@ static uint64_t c2_session__script__act_script(c2_acts__Task a1, uint8_t a2)
 }
 
 /* core::int::u32::min */
-static uint32_t core__int__u32__min(uint32_t a1, uint32_t a2)
+INLINED uint32_t core__int__u32__min(uint32_t a1, uint32_t a2)
 {
     uint32_t result;
     _Bool v3;
@@ -2708,7 +2669,7 @@ static c2_session__Point c2_session__next__begin(c2_acts__Stage a1, uint32_t a2)
 }
 
 /* core::convert::UsizeFromU16::from */
-static uint64_t core__convert__UsizeFromU16__from(uint16_t a1)
+INLINED uint64_t core__convert__UsizeFromU16__from(uint16_t a1)
 {
     uint64_t result;
     result = (uint64_t)a1;
@@ -3172,7 +3133,7 @@ static c2_wire__Moved c2_wire__Place__passed(const c2_wire__Place *a1)
 }
 
 /* core::convert::others::U32FromBool::from */
-static uint32_t core__convert__others__U32FromBool__from(_Bool a1)
+INLINED uint32_t core__convert__others__U32FromBool__from(_Bool a1)
 {
     uint32_t result;
     result = (uint32_t)a1;
@@ -3653,7 +3614,7 @@ static c2__Ran c2__advance__run(const c2_session__Session *a1, slice_u8 a2, slic
 }
 
 /* core::Result::is_ok_unit_Refusal */
-static _Bool core__Result__is_ok_unit_Refusal(const core__Result_unit_Refusal *a1)
+INLINED _Bool core__Result__is_ok_unit_Refusal(const core__Result_unit_Refusal *a1)
 {
     _Bool result;
     _Bool v2;
@@ -3669,69 +3630,21 @@ static _Bool core__Result__is_ok_unit_Refusal(const core__Result_unit_Refusal *a
     return result;
 }
 
-/* settings::registers::fn::are_zero::all */
-static _Bool settings__registers__fn__are_zero__all(const uint8_t *a2)
+/* settings::registers::named_or_0 */
+static _Bool settings__registers__named_or_0(_Bool a1, uint8_t a2, uint8_t a3)
 {
     _Bool result;
-    uint8_t v3;
-    v3 = *a2;
-    result = v3 == 0u;
-    return result;
-}
-
-/* settings::registers::fn::are_zero::all_FnMut::call_mut */
-static _Bool settings__registers__fn__are_zero__all_FnMut__call_mut(const uint8_t *a2)
-{
-    _Bool result;
-    result = settings__registers__fn__are_zero__all(a2);
-    return result;
-}
-
-/* core::Iterator::all_Iter_u8_ref_u8_are_zero_all */
-static _Bool core__Iterator__all_Iter_u8_ref_u8_are_zero_all(core__Iter_u8 *a1)
-{
-    _Bool result;
-    const uint8_t *v4;
-    core__Option_ref_u8 v5;
-    core__Iter_u8 *v6;
-    _Bool v7;
-    const uint8_t *v9;
-    _Bool v10;
-    for (;;) {
-        v6 = a1;
-        v5 = core__IterIterator__next_u8(v6);
-        switch (v5.tag) {
-        case 1u:
-            v4 = v5.ref_u8_0;
-            v9 = v4;
-            v7 = settings__registers__fn__are_zero__all_FnMut__call_mut(v9);
-            v10 = !v7;
-            if (v10) {
-                result = 0;
-                return result;
-            }
-            break;
-        default: /* 0 */
-            goto end1;
+    _Bool v4;
+    _Bool v5;
+    v4 = a1;
+    if (!v4) {
+        v5 = a2 == 0u;
+        if (v5) {
+            v5 = a3 == 0u;
         }
+        v4 = v5;
     }
-    end1:;
-    result = 1;
-    return result;
-}
-
-/* settings::registers::are_zero */
-static _Bool settings__registers__are_zero(slice_u8 a1)
-{
-    _Bool result;
-    core__Iter_u8 v2;
-    core__Iter_u8 v3;
-    core__Iter_u8 *v4;
-    v2 = core__slice_T__iter_u8(a1);
-    v3.f0.at = v2.f0.at;
-    v3.f0.length = v2.f0.length;
-    v4 = &v3;
-    result = core__Iterator__all_Iter_u8_ref_u8_are_zero_all(v4);
+    result = v4;
     return result;
 }
 
@@ -3740,21 +3653,41 @@ static _Bool settings__registers__is_tidy(const c2_pairs *a1)
 {
     _Bool result;
     c2_pairs v2;
-    uint64_t v3;
-    uint8_t v4;
+    _Bool v3;
+    _Bool v4;
     _Bool v5;
-    const uint8_t *v6;
-    slice_u8 v7;
+    uint8_t v6;
+    _Bool v7;
     const uint8_t *v8;
-    uint64_t v9;
-    const uint8_t *v10;
-    slice_u8 v11;
+    const uint8_t *v9;
+    uint8_t v10;
+    const uint8_t *v11;
     const uint8_t *v12;
-    slice_u8 v13;
-    const uint8_t *v14;
-    uint64_t v15;
+    uint8_t v13;
+    uint8_t v14;
+    _Bool v15;
     const uint8_t *v16;
-    slice_u8 v17;
+    const uint8_t *v17;
+    uint8_t v18;
+    const uint8_t *v19;
+    const uint8_t *v20;
+    uint8_t v21;
+    uint8_t v22;
+    _Bool v23;
+    const uint8_t *v24;
+    const uint8_t *v25;
+    uint8_t v26;
+    const uint8_t *v27;
+    const uint8_t *v28;
+    uint8_t v29;
+    uint8_t v30;
+    _Bool v31;
+    const uint8_t *v32;
+    const uint8_t *v33;
+    uint8_t v34;
+    const uint8_t *v35;
+    const uint8_t *v36;
+    uint8_t v37;
     v2.count = a1->count;
     v2.registers[0] = a1->registers[0];
     v2.registers[1] = a1->registers[1];
@@ -3764,29 +3697,51 @@ static _Bool settings__registers__is_tidy(const c2_pairs *a1)
     v2.values[1] = a1->values[1];
     v2.values[2] = a1->values[2];
     v2.values[3] = a1->values[3];
-    v4 = v2.count;
-    v3 = settings__registers__named_of(v4);
-    v6 = v2.registers;
-    v7.at = v6;
-    v7.length = UINT64_C(4);
-    v8 = v7.at + (size_t)v3;
-    v9 = v7.length - v3;
-    v10 = v8;
-    v11.at = v10;
-    v11.length = v9;
-    v5 = settings__registers__are_zero(v11);
+    v6 = v2.count;
+    v7 = 0u < v6;
+    v8 = v2.registers;
+    v9 = v8 + (size_t)UINT64_C(0);
+    v10 = *v9;
+    v11 = v2.values;
+    v12 = v11 + (size_t)UINT64_C(0);
+    v13 = *v12;
+    v5 = settings__registers__named_or_0(v7, v10, v13);
     if (v5) {
-        v12 = v2.values;
-        v13.at = v12;
-        v13.length = UINT64_C(4);
-        v14 = v13.at + (size_t)v3;
-        v15 = v13.length - v3;
-        v16 = v14;
-        v17.at = v16;
-        v17.length = v15;
-        v5 = settings__registers__are_zero(v17);
+        v14 = v2.count;
+        v15 = 1u < v14;
+        v16 = v2.registers;
+        v17 = v16 + (size_t)UINT64_C(1);
+        v18 = *v17;
+        v19 = v2.values;
+        v20 = v19 + (size_t)UINT64_C(1);
+        v21 = *v20;
+        v5 = settings__registers__named_or_0(v15, v18, v21);
     }
-    result = v5;
+    v4 = v5;
+    if (v4) {
+        v22 = v2.count;
+        v23 = 2u < v22;
+        v24 = v2.registers;
+        v25 = v24 + (size_t)UINT64_C(2);
+        v26 = *v25;
+        v27 = v2.values;
+        v28 = v27 + (size_t)UINT64_C(2);
+        v29 = *v28;
+        v4 = settings__registers__named_or_0(v23, v26, v29);
+    }
+    v3 = v4;
+    if (v3) {
+        v30 = v2.count;
+        v31 = 3u < v30;
+        v32 = v2.registers;
+        v33 = v32 + (size_t)UINT64_C(3);
+        v34 = *v33;
+        v35 = v2.values;
+        v36 = v35 + (size_t)UINT64_C(3);
+        v37 = *v36;
+        v3 = settings__registers__named_or_0(v31, v34, v37);
+    }
+    result = v3;
     return result;
 }
 
@@ -4030,7 +3985,7 @@ static _Bool c2_range__bounds__inside(uint16_t a1, uint32_t a2, const c2_session
 }
 
 /* core::convert::U16FromU8::from */
-static uint16_t core__convert__U16FromU8__from(uint8_t a1)
+INLINED uint16_t core__convert__U16FromU8__from(uint8_t a1)
 {
     uint16_t result;
     result = (uint16_t)a1;
@@ -4114,7 +4069,7 @@ static c2_acts__Stage c2_record__read__read_stage(uint8_t a1)
 }
 
 /* core::int::u16::from_le_bytes */
-static uint16_t core__int__u16__from_le_bytes(array_2_u8 a1)
+INLINED uint16_t core__int__u16__from_le_bytes(array_2_u8 a1)
 {
     uint16_t result;
     array_2_u8 v2;
@@ -4464,7 +4419,7 @@ static c2_settings c2_record__read__read_settings(const uint8_t *a1)
 }
 
 /* core::int::u32::from_le_bytes */
-static uint32_t core__int__u32__from_le_bytes(array_4_u8 a1)
+INLINED uint32_t core__int__u32__from_le_bytes(array_4_u8 a1)
 {
     uint32_t result;
     array_4_u8 v2;
@@ -4790,7 +4745,7 @@ static c2_session__Point c2_record__read__read_point(const uint8_t *a1)
 }
 
 /* core::OptionFromResidualNoValue::from_residual_Point */
-static core__Option_Point core__OptionFromResidualNoValue__from_residual_Point(void)
+INLINED core__Option_Point core__OptionFromResidualNoValue__from_residual_Point(void)
 {
     core__Option_Point result;
     result.tag = 0u;
@@ -4806,7 +4761,7 @@ static core__Option_Point core__OptionFromResidualNoValue__from_residual_Point(v
 }
 
 /* core::OptionTry::branch_ref_array_32_u8 */
-static core__ControlFlow_NoValue_ref_array_32_u8 core__OptionTry__branch_ref_array_32_u8(
+INLINED core__ControlFlow_NoValue_ref_array_32_u8 core__OptionTry__branch_ref_array_32_u8(
     const core__Option_ref_array_32_u8 *a1)
 {
     core__ControlFlow_NoValue_ref_array_32_u8 result;
@@ -4831,7 +4786,7 @@ static core__ControlFlow_NoValue_ref_array_32_u8 core__OptionTry__branch_ref_arr
 }
 
 /* core::arrays::first_unchecked_array_32_u8 */
-static const uint8_t *core__arrays__first_unchecked_array_32_u8(slice_array_32_u8 a1)
+INLINED const uint8_t *core__arrays__first_unchecked_array_32_u8(slice_array_32_u8 a1)
 {
     const uint8_t *result;
     uint64_t v2;
@@ -4843,7 +4798,7 @@ static const uint8_t *core__arrays__first_unchecked_array_32_u8(slice_array_32_u
 }
 
 /* core::chunks::arrays_u8_32 */
-static slice_array_32_u8 core__chunks__arrays_u8_32(slice_u8 a1, uint64_t a2)
+INLINED slice_array_32_u8 core__chunks__arrays_u8_32(slice_u8 a1, uint64_t a2)
 {
     slice_array_32_u8 result;
     slice_array_32_u8 v3;
@@ -4857,7 +4812,7 @@ static slice_array_32_u8 core__chunks__arrays_u8_32(slice_u8 a1, uint64_t a2)
 }
 
 /* core::arrays::as_array_ref_u8_32 */
-static const uint8_t *core__arrays__as_array_ref_u8_32(slice_u8 a1)
+INLINED const uint8_t *core__arrays__as_array_ref_u8_32(slice_u8 a1)
 {
     const uint8_t *result;
     slice_array_32_u8 v2;
@@ -4867,7 +4822,7 @@ static const uint8_t *core__arrays__as_array_ref_u8_32(slice_u8 a1)
 }
 
 /* core::arrays::some_ref_array_32_u8 */
-static core__Option_ref_array_32_u8 core__arrays__some_ref_array_32_u8(const uint8_t *a1)
+INLINED core__Option_ref_array_32_u8 core__arrays__some_ref_array_32_u8(const uint8_t *a1)
 {
     core__Option_ref_array_32_u8 result;
     const uint8_t *v2;
@@ -4878,7 +4833,7 @@ static core__Option_ref_array_32_u8 core__arrays__some_ref_array_32_u8(const uin
 }
 
 /* core::slice_T::as_array_u8_32 */
-static core__Option_ref_array_32_u8 core__slice_T__as_array_u8_32(slice_u8 a1)
+INLINED core__Option_ref_array_32_u8 core__slice_T__as_array_u8_32(slice_u8 a1)
 {
     core__Option_ref_array_32_u8 result;
     uint64_t v2;
@@ -5374,7 +5329,7 @@ static c2_outcome__Outcome c2_outcome__OutcomeFromPoint__from(const c2_session__
 }
 
 /* core::AnyInto::into_Point_Outcome */
-static c2_outcome__Outcome core__AnyInto__into_Point_Outcome(const c2_session__Point *a1)
+INLINED c2_outcome__Outcome core__AnyInto__into_Point_Outcome(const c2_session__Point *a1)
 {
     c2_outcome__Outcome result;
     c2_session__Point v2;
@@ -5470,7 +5425,7 @@ static uint64_t c2_figure__Figure__wait(const c2_figure__Figure *a1)
 }
 
 /* core::int::usize::saturating_sub */
-static uint64_t core__int__usize__saturating_sub(uint64_t a1, uint64_t a2)
+INLINED uint64_t core__int__usize__saturating_sub(uint64_t a1, uint64_t a2)
 {
     uint64_t result;
     _Bool v3;

@@ -1,4 +1,4 @@
-/* Made from the MIR of crate dump, sha256 ebfc02b4266ecb679a46970cf153d9be78635c5140e24dcbef32a4d595e67603. */
+/* Made from the MIR of crate dump, sha256 7dc86ad952296d14dd13300b497bbf6c94487338947e6debce68b25cc9507f6f. */
 /*
  * Made by `make c`, not to be edited. A function stands under its path in the proved code; one that is generic
  * there, as those of the library are, stands once for each of what it is given, under the end of its path and
@@ -10,6 +10,13 @@
 #include <stddef.h>
 #include <stdint.h>
 #include "c2_dump.h"
+
+/* For what is the library's, and for closures: a call of each would cost more than what it does. */
+#if defined(__GNUC__)
+#define INLINED static inline __attribute__((always_inline))
+#else
+#define INLINED static inline
+#endif
 
 typedef uint8_t numbers__Refusal;
 
@@ -130,7 +137,7 @@ static uint32_t numbers__U32FromRefusal__from(numbers__Refusal a1)
 }
 
 /* core::AnyInto::into_Refusal_u32 */
-static uint32_t core__AnyInto__into_Refusal_u32(numbers__Refusal a1)
+INLINED uint32_t core__AnyInto__into_Refusal_u32(numbers__Refusal a1)
 {
     uint32_t result;
     numbers__Refusal v2;
@@ -210,7 +217,7 @@ static core__Result_Dumps_Refusal dump__accepted__accepted(uint32_t a1, slice_u8
 }
 
 /* core::int::usize::min */
-static uint64_t core__int__usize__min(uint64_t a1, uint64_t a2)
+INLINED uint64_t core__int__usize__min(uint64_t a1, uint64_t a2)
 {
     uint64_t result;
     _Bool v3;
@@ -225,36 +232,34 @@ static uint64_t core__int__usize__min(uint64_t a1, uint64_t a2)
     return result;
 }
 
-/* dump::dumps::Dumps::first_place */
-static core__Option_u64 dump__dumps__Dumps__first_place(const dump__dumps__Dumps *a1, uint64_t a2,
-    uint64_t a3, _Bool a4)
+/* dump::dumps::Dumps::difference_before */
+static core__Option_u64 dump__dumps__Dumps__difference_before(const dump__dumps__Dumps *a1, uint64_t a2,
+    uint64_t a3)
 {
     core__Option_u64 result;
-    uint64_t v5;
-    _Bool v6;
-    const uint8_t *v7;
-    uint8_t v8;
-    const uint8_t *v9;
-    uint8_t v10;
-    _Bool v11;
-    v5 = a2;
+    uint64_t v4;
+    _Bool v5;
+    const uint8_t *v6;
+    uint8_t v7;
+    const uint8_t *v8;
+    uint8_t v9;
+    v4 = a2;
     for (;;) {
-        v6 = v5 < a3;
-        if (!v6) {
+        v5 = v4 < a3;
+        if (!v5) {
             break;
         }
-        v7 = a1->f0.at + (size_t)v5;
-        v8 = *v7;
-        v9 = a1->f1.at + (size_t)v5;
-        v10 = *v9;
-        v6 = v8 == v10;
-        v11 = v6 == a4;
-        if (v11) {
+        v6 = a1->f0.at + (size_t)v4;
+        v7 = *v6;
+        v8 = a1->f1.at + (size_t)v4;
+        v9 = *v8;
+        v5 = v7 != v9;
+        if (v5) {
             result.tag = 1u;
-            result.u64_0 = v5;
+            result.u64_0 = v4;
             return result;
         }
-        v5 = v5 + UINT64_C(1);
+        v4 = v4 + UINT64_C(1);
     }
     result.tag = 0u;
     result.u64_0 = 0;
@@ -269,51 +274,37 @@ static uint64_t dump__dumps__Dumps__len(const dump__dumps__Dumps *a1)
     return result;
 }
 
-/* core::slice::slices_equal */
-static _Bool core__slice__slices_equal(slice_u8 a1, slice_u8 a2)
+/* dump::stretch::same */
+static _Bool dump__stretch__same(slice_u8 a1, slice_u8 a2)
 {
     _Bool result;
-    uint64_t v3;
+    _Bool v3;
     uint64_t v4;
-    _Bool v5;
-    const uint8_t *v6;
+    uint64_t v5;
+    _Bool v6;
     const uint8_t *v7;
-    v5 = a1.length == a2.length;
-    if (!v5) {
-        result = 0;
-        return result;
-    }
-    v3 = UINT64_C(0);
+    uint8_t v8;
+    const uint8_t *v9;
+    uint8_t v10;
+    v3 = 1;
+    v4 = UINT64_C(0);
+    v5 = a1.length;
     for (;;) {
-        v4 = a2.length;
-        v5 = v3 < v4;
-        if (!v5) {
+        v6 = v4 < v5;
+        if (!v6) {
             break;
         }
-        v6 = a1.at + (size_t)v3;
-        v7 = a2.at + (size_t)v3;
-        v5 = *v6 == *v7;
-        if (!v5) {
-            result = 0;
-            return result;
+        v7 = a1.at + (size_t)v4;
+        v8 = *v7;
+        v9 = a2.at + (size_t)v4;
+        v10 = *v9;
+        v6 = v8 != v10;
+        if (v6) {
+            v3 = 0;
         }
-        v3 = v3 + UINT64_C(1);
+        v4 = v4 + UINT64_C(1);
     }
-    result = 1;
-    return result;
-}
-
-/* core::RefSlicePartialEq::eq_u8 */
-static _Bool core__RefSlicePartialEq__eq_u8(const slice_u8 *a1, const slice_u8 *a2)
-{
-    _Bool result;
-    slice_u8 v3;
-    slice_u8 v4;
-    v3.at = a1->at;
-    v3.length = a1->length;
-    v4.at = a2->at;
-    v4.length = a2->length;
-    result = core__slice__slices_equal(v3, v4);
+    result = v3;
     return result;
 }
 
@@ -333,16 +324,12 @@ static uint64_t dump__dumps__Dumps__passed(const dump__dumps__Dumps *a1, uint64_
     const uint8_t *v12;
     slice_u8 v13;
     slice_u8 v14;
-    const slice_u8 *v15;
-    slice_u8 v16;
+    uint64_t v15;
+    const uint8_t *v16;
     uint64_t v17;
     const uint8_t *v18;
-    uint64_t v19;
-    const uint8_t *v20;
-    slice_u8 v21;
-    slice_u8 v22;
-    const slice_u8 *v23;
-    _Bool v24;
+    slice_u8 v19;
+    _Bool v20;
     v3 = a2;
     for (;;) {
         v6.f0.at = a1->f0.at;
@@ -361,23 +348,17 @@ static uint64_t dump__dumps__Dumps__passed(const dump__dumps__Dumps *a1, uint64_
             v12 = v10;
             v13.at = v12;
             v13.length = v11;
-            v14.at = v13.at;
-            v14.length = v13.length;
-            v15 = &v14;
-            v16.at = a1->f1.at;
-            v16.length = a1->f1.length;
-            v17 = v3 + UINT64_C(64);
-            v18 = v16.at + (size_t)v3;
-            v19 = v17 - v3;
-            v20 = v18;
-            v21.at = v20;
-            v21.length = v19;
-            v22.at = v21.at;
-            v22.length = v21.length;
-            v23 = &v22;
-            v4 = core__RefSlicePartialEq__eq_u8(v15, v23);
-            v24 = v4;
-            if (!v24) {
+            v14.at = a1->f1.at;
+            v14.length = a1->f1.length;
+            v15 = v3 + UINT64_C(64);
+            v16 = v14.at + (size_t)v3;
+            v17 = v15 - v3;
+            v18 = v16;
+            v19.at = v18;
+            v19.length = v17;
+            v4 = dump__stretch__same(v13, v19);
+            v20 = v4;
+            if (!v20) {
                 break;
             }
         } else {
@@ -419,7 +400,7 @@ static core__Option_u64 dump__dumps__Dumps__next_difference(const dump__dumps__D
     v10.f0.length = a1->f0.length;
     v10.f1.at = a1->f1.at;
     v10.f1.length = a1->f1.length;
-    v9 = dump__dumps__Dumps__first_place(&v10, a2, v3, 0);
+    v9 = dump__dumps__Dumps__difference_before(&v10, a2, v3);
     switch (v9.tag) {
     case 0u:
         v12.f0.at = a1->f0.at;
@@ -436,7 +417,7 @@ static core__Option_u64 dump__dumps__Dumps__next_difference(const dump__dumps__D
         v16.f1.at = a1->f1.at;
         v16.f1.length = a1->f1.length;
         v15 = dump__dumps__Dumps__len(&v16);
-        v11 = dump__dumps__Dumps__first_place(&v12, v13, v15, 0);
+        v11 = dump__dumps__Dumps__difference_before(&v12, v13, v15);
         break;
     default: /* 1 */
         v4.tag = v9.tag;
@@ -450,53 +431,46 @@ static core__Option_u64 dump__dumps__Dumps__next_difference(const dump__dumps__D
     return result;
 }
 
-/* core::Option::unwrap_or_u64 */
-static uint64_t core__Option__unwrap_or_u64(const core__Option_u64 *a1, uint64_t a2)
-{
-    uint64_t result;
-    uint64_t v3;
-    uint64_t v4;
-    switch (a1->tag) {
-    case 1u:
-        v3 = a1->u64_0;
-        v4 = v3;
-        break;
-    default: /* 0 */
-        v4 = a2;
-        break;
-    }
-    result = v4;
-    return result;
-}
-
 /* dump::dumps::Dumps::range_end */
 static uint64_t dump__dumps__Dumps__range_end(const dump__dumps__Dumps *a1, uint64_t a2)
 {
     uint64_t result;
-    core__Option_u64 v3;
-    dump__dumps__Dumps v4;
-    uint64_t v5;
-    uint64_t v6;
-    dump__dumps__Dumps v7;
-    uint64_t v8;
-    dump__dumps__Dumps v9;
-    v4.f0.at = a1->f0.at;
-    v4.f0.length = a1->f0.length;
-    v4.f1.at = a1->f1.at;
-    v4.f1.length = a1->f1.length;
-    v5 = a2 + UINT64_C(1);
-    v7.f0.at = a1->f0.at;
-    v7.f0.length = a1->f0.length;
-    v7.f1.at = a1->f1.at;
-    v7.f1.length = a1->f1.length;
-    v6 = dump__dumps__Dumps__len(&v7);
-    v3 = dump__dumps__Dumps__first_place(&v4, v5, v6, 1);
-    v9.f0.at = a1->f0.at;
-    v9.f0.length = a1->f0.length;
-    v9.f1.at = a1->f1.at;
-    v9.f1.length = a1->f1.length;
-    v8 = dump__dumps__Dumps__len(&v9);
-    result = core__Option__unwrap_or_u64(&v3, v8);
+    uint64_t v3;
+    uint64_t v4;
+    dump__dumps__Dumps v5;
+    _Bool v6;
+    const uint8_t *v7;
+    uint8_t v8;
+    const uint8_t *v9;
+    uint8_t v10;
+    dump__dumps__Dumps v11;
+    v3 = a2 + UINT64_C(1);
+    v5.f0.at = a1->f0.at;
+    v5.f0.length = a1->f0.length;
+    v5.f1.at = a1->f1.at;
+    v5.f1.length = a1->f1.length;
+    v4 = dump__dumps__Dumps__len(&v5);
+    for (;;) {
+        v6 = v3 < v4;
+        if (!v6) {
+            break;
+        }
+        v7 = a1->f0.at + (size_t)v3;
+        v8 = *v7;
+        v9 = a1->f1.at + (size_t)v3;
+        v10 = *v9;
+        v6 = v8 == v10;
+        if (v6) {
+            result = v3;
+            return result;
+        }
+        v3 = v3 + UINT64_C(1);
+    }
+    v11.f0.at = a1->f0.at;
+    v11.f0.length = a1->f0.length;
+    v11.f1.at = a1->f1.at;
+    v11.f1.length = a1->f1.length;
+    result = dump__dumps__Dumps__len(&v11);
     return result;
 }
 
@@ -505,10 +479,10 @@ static c2_ranges dump__dumps__Dumps__list_ranges(const dump__dumps__Dumps *a1, s
 {
     c2_ranges result;
     uint64_t v3;
-    core__Option_u64 v4;
+    uint64_t v4;
     uint64_t v5;
     uint64_t v6;
-    uint64_t v7;
+    core__Option_u64 v7;
     dump__dumps__Dumps v8;
     uint64_t v9;
     uint64_t v10;
@@ -519,18 +493,18 @@ static c2_ranges dump__dumps__Dumps__list_ranges(const dump__dumps__Dumps *a1, s
     uint64_t *v15;
     uint64_t v16;
     uint64_t *v17;
-    dump__dumps__Dumps v18;
-    uint64_t v19;
+    uint64_t v18;
     v3 = UINT64_C(0);
-    v8.f0.at = a1->f0.at;
-    v8.f0.length = a1->f0.length;
-    v8.f1.at = a1->f1.at;
-    v8.f1.length = a1->f1.length;
-    v4 = dump__dumps__Dumps__next_difference(&v8, UINT64_C(0));
+    v4 = UINT64_C(0);
     for (;;) {
-        switch (v4.tag) {
+        v8.f0.at = a1->f0.at;
+        v8.f0.length = a1->f0.length;
+        v8.f1.at = a1->f1.at;
+        v8.f1.length = a1->f1.length;
+        v7 = dump__dumps__Dumps__next_difference(&v8, v4);
+        switch (v7.tag) {
         case 1u:
-            v5 = v4.u64_0;
+            v5 = v7.u64_0;
             v6 = UINT64_C(2) * v3;
             v9 = a2.length;
             v10 = v9 - v6;
@@ -546,33 +520,28 @@ static c2_ranges dump__dumps__Dumps__list_ranges(const dump__dumps__Dumps *a1, s
             v13.f0.length = a1->f0.length;
             v13.f1.at = a1->f1.at;
             v13.f1.length = a1->f1.length;
-            v7 = dump__dumps__Dumps__range_end(&v13, v5);
+            v4 = dump__dumps__Dumps__range_end(&v13, v5);
             v14 = v5;
             v9 = v6 * UINT64_C(8);
             v15 = a2.at + (size_t)(v9 / 8u);
             *v15 = v14;
-            v10 = v7 - v5;
+            v10 = v4 - v5;
             v14 = v10;
             v9 = v6 + UINT64_C(1);
             v16 = v9 * UINT64_C(8);
             v17 = a2.at + (size_t)(v16 / 8u);
             *v17 = v14;
             v3 = v3 + UINT64_C(1);
-            v18.f0.at = a1->f0.at;
-            v18.f0.length = a1->f0.length;
-            v18.f1.at = a1->f1.at;
-            v18.f1.length = a1->f1.length;
-            v4 = dump__dumps__Dumps__next_difference(&v18, v7);
             break;
         default: /* 0 */
             goto end1;
         }
     }
     end1:;
-    v19 = v3;
+    v18 = v3;
     result.number = UINT32_C(0);
     result.more = UINT32_C(0);
-    result.held = v19;
+    result.held = v18;
     return result;
 }
 
@@ -615,6 +584,55 @@ static c2_ranges dump__c2_dump_ranges(uint32_t a1, slice_u8 a2, slice_u8 a3, sli
     result.number = v8.number;
     result.more = v8.more;
     result.held = v8.held;
+    return result;
+}
+
+/* core::slice::slices_equal */
+INLINED _Bool core__slice__slices_equal(slice_u8 a1, slice_u8 a2)
+{
+    _Bool result;
+    uint64_t v3;
+    uint64_t v4;
+    _Bool v5;
+    const uint8_t *v6;
+    const uint8_t *v7;
+    _Bool v8;
+    v5 = a1.length == a2.length;
+    if (!v5) {
+        result = 0;
+        return result;
+    }
+    v8 = 1;
+    v3 = UINT64_C(0);
+    for (;;) {
+        v4 = a2.length;
+        v5 = v3 < v4;
+        if (!v5) {
+            break;
+        }
+        v6 = a1.at + (size_t)v3;
+        v7 = a2.at + (size_t)v3;
+        v5 = *v6 == *v7;
+        if (!v5) {
+            v8 = 0;
+        }
+        v3 = v3 + UINT64_C(1);
+    }
+    result = v8;
+    return result;
+}
+
+/* core::RefSlicePartialEq::eq_u8 */
+INLINED _Bool core__RefSlicePartialEq__eq_u8(const slice_u8 *a1, const slice_u8 *a2)
+{
+    _Bool result;
+    slice_u8 v3;
+    slice_u8 v4;
+    v3.at = a1->at;
+    v3.length = a1->length;
+    v4.at = a2->at;
+    v4.length = a2->length;
+    result = core__slice__slices_equal(v3, v4);
     return result;
 }
 

@@ -1,4 +1,4 @@
-/* Made from the MIR of crate hex_calls, sha256 0883ab837b7b35d2676accad933af2de3927c30f3b6770cca0c3ee6de4718841. */
+/* Made from the MIR of crate hex_calls, sha256 99a24cb9dfb007784781829e7009712870bfa8600a0a12bd263c9fa442ba4abe. */
 /*
  * Made by `make c`, not to be edited. A function stands under its path in the proved code; one that is generic
  * there, as those of the library are, stands once for each of what it is given, under the end of its path and
@@ -10,6 +10,13 @@
 #include <stddef.h>
 #include <stdint.h>
 #include "c2_hex.h"
+
+/* For what is the library's, and for closures: a call of each would cost more than what it does. */
+#if defined(__GNUC__)
+#define INLINED static inline __attribute__((always_inline))
+#else
+#define INLINED static inline
+#endif
 
 typedef uint8_t numbers__Refusal;
 
@@ -86,14 +93,14 @@ typedef struct {
 } core__Option_u8;
 
 typedef struct {
-    uint8_t tag;
-    const uint8_t *ref_u8_0;
-} core__Option_ref_u8;
-
-typedef struct {
     const uint8_t *at;
     uint64_t length;
 } slice_u8;
+
+typedef struct {
+    uint8_t f0;
+    uint8_t f1;
+} core__tuple_u8_u8;
 
 typedef struct {
     uint64_t f0;
@@ -115,7 +122,8 @@ typedef struct {
 
 typedef struct {
     uint64_t f0;
-    uint8_t f1;
+    uint64_t f1;
+    uint8_t f2;
 } hex_line__line__Shape;
 
 typedef struct {
@@ -165,6 +173,11 @@ typedef struct {
     hex_format__Record hex_format__Record_0;
     core__ErrResidual_Refusal core__ErrResidual_Refusal_0;
 } core__ControlFlow_ErrResidual_Refusal_Record;
+
+typedef struct {
+    uint8_t tag;
+    const uint8_t *ref_u8_0;
+} core__Option_ref_u8;
 
 typedef struct {
     slice_u8 f0;
@@ -273,7 +286,7 @@ static uint32_t numbers__U32FromRefusal__from(numbers__Refusal a1)
 }
 
 /* core::AnyInto::into_Refusal_u32 */
-static uint32_t core__AnyInto__into_Refusal_u32(numbers__Refusal a1)
+INLINED uint32_t core__AnyInto__into_Refusal_u32(numbers__Refusal a1)
 {
     uint32_t result;
     numbers__Refusal v2;
@@ -283,7 +296,7 @@ static uint32_t core__AnyInto__into_Refusal_u32(numbers__Refusal a1)
 }
 
 /* core::Option::unwrap_or_u64 */
-static uint64_t core__Option__unwrap_or_u64(const core__Option_u64 *a1, uint64_t a2)
+INLINED uint64_t core__Option__unwrap_or_u64(const core__Option_u64 *a1, uint64_t a2)
 {
     uint64_t result;
     uint64_t v3;
@@ -315,7 +328,7 @@ static hex_read__walk__Fault hex_read__walk__FaultFromRefusal__from(numbers__Ref
 }
 
 /* core::ResultFromResidualErrResidual::from_residua_bde472 */
-static core__Result_Filled_Fault core__ResultFromResidualErrResidual__from_residua_bde472(
+INLINED core__Result_Filled_Fault core__ResultFromResidualErrResidual__from_residua_bde472(
     const core__ErrResidual_Refusal *a1)
 {
     core__Result_Filled_Fault result;
@@ -333,7 +346,7 @@ static core__Result_Filled_Fault core__ResultFromResidualErrResidual__from_resid
 }
 
 /* core::ResultTry::branch_unit_Refusal */
-static core__ControlFlow_ErrResidual_Refusal_unit core__ResultTry__branch_unit_Refusal(
+INLINED core__ControlFlow_ErrResidual_Refusal_unit core__ResultTry__branch_unit_Refusal(
     const core__Result_unit_Refusal *a1)
 {
     core__ControlFlow_ErrResidual_Refusal_unit result;
@@ -360,7 +373,7 @@ static core__ControlFlow_ErrResidual_Refusal_unit core__ResultTry__branch_unit_R
 }
 
 /* core::AnyInto::into_Refusal_Fault */
-static hex_read__walk__Fault core__AnyInto__into_Refusal_Fault(numbers__Refusal a1)
+INLINED hex_read__walk__Fault core__AnyInto__into_Refusal_Fault(numbers__Refusal a1)
 {
     hex_read__walk__Fault result;
     numbers__Refusal v2;
@@ -370,7 +383,7 @@ static hex_read__walk__Fault core__AnyInto__into_Refusal_Fault(numbers__Refusal 
 }
 
 /* core::AnyFrom::from_Fault */
-static hex_read__walk__Fault core__AnyFrom__from_Fault(const hex_read__walk__Fault *a1)
+INLINED hex_read__walk__Fault core__AnyFrom__from_Fault(const hex_read__walk__Fault *a1)
 {
     hex_read__walk__Fault result;
     result.f0 = a1->f0;
@@ -380,7 +393,7 @@ static hex_read__walk__Fault core__AnyFrom__from_Fault(const hex_read__walk__Fau
 }
 
 /* core::ResultFromResidualErrResidual::from_residua_5dbe91 */
-static core__Result_Filled_Fault core__ResultFromResidualErrResidual__from_residua_5dbe91(
+INLINED core__Result_Filled_Fault core__ResultFromResidualErrResidual__from_residua_5dbe91(
     const core__ErrResidual_Fault *a1)
 {
     core__Result_Filled_Fault result;
@@ -400,7 +413,7 @@ static core__Result_Filled_Fault core__ResultFromResidualErrResidual__from_resid
 }
 
 /* core::ResultTry::branch_Taken_Fault */
-static core__ControlFlow_ErrResidual_Fault_Taken core__ResultTry__branch_Taken_Fault(
+INLINED core__ControlFlow_ErrResidual_Fault_Taken core__ResultTry__branch_Taken_Fault(
     const core__Result_Taken_Fault *a1)
 {
     core__ControlFlow_ErrResidual_Fault_Taken result;
@@ -456,7 +469,7 @@ static core__ControlFlow_ErrResidual_Fault_Taken core__ResultTry__branch_Taken_F
 }
 
 /* core::clone::U8Clone::clone */
-static core__Result_u8_AllocError core__clone__U8Clone__clone(const uint8_t *a1)
+INLINED core__Result_u8_AllocError core__clone__U8Clone__clone(const uint8_t *a1)
 {
     core__Result_u8_AllocError result;
     uint8_t v2;
@@ -467,7 +480,7 @@ static core__Result_u8_AllocError core__clone__U8Clone__clone(const uint8_t *a1)
 }
 
 /* core::clone::surely_u8 */
-static uint8_t core__clone__surely_u8(const uint8_t *a1)
+INLINED uint8_t core__clone__surely_u8(const uint8_t *a1)
 {
     uint8_t result;
     uint8_t v2;
@@ -485,7 +498,7 @@ static uint8_t core__clone__surely_u8(const uint8_t *a1)
 }
 
 /* core::slice_T::fill_u8 */
-static void core__slice_T__fill_u8(slice_mut_u8 a1, uint8_t a2)
+INLINED void core__slice_T__fill_u8(slice_mut_u8 a1, uint8_t a2)
 {
     uint8_t v3;
     uint64_t v4;
@@ -528,8 +541,16 @@ static void core__slice_T__fill_u8(slice_mut_u8 a1, uint8_t a2)
     return;
 }
 
+/* core::convert::UsizeFromU8::from */
+INLINED uint64_t core__convert__UsizeFromU8__from(uint8_t a1)
+{
+    uint64_t result;
+    result = (uint64_t)a1;
+    return result;
+}
+
 /* core::Option::unwrap_or_u8 */
-static uint8_t core__Option__unwrap_or_u8(const core__Option_u8 *a1, uint8_t a2)
+INLINED uint8_t core__Option__unwrap_or_u8(const core__Option_u8 *a1, uint8_t a2)
 {
     uint8_t result;
     uint8_t v3;
@@ -547,147 +568,33 @@ static uint8_t core__Option__unwrap_or_u8(const core__Option_u8 *a1, uint8_t a2)
     return result;
 }
 
-/* core::Option::unwrap_ref_u8 */
-static const uint8_t *core__Option__unwrap_ref_u8(const core__Option_ref_u8 *a1)
-{
-    const uint8_t *result;
-    const uint8_t *v2;
-    const uint8_t *v3;
-    switch (a1->tag) {
-    default: /* 1 */
-        v2 = a1->ref_u8_0;
-        v3 = v2;
-        break;
-    }
-    result = v3;
-    return result;
-}
-
-/* core::Option_ref_T::copied_u8 */
-static core__Option_u8 core__Option_ref_T__copied_u8(const core__Option_ref_u8 *a1)
-{
-    core__Option_u8 result;
-    core__Option_u8 v2;
-    const uint8_t *v3;
-    core__Option_ref_u8 v4;
-    uint8_t v5;
-    switch (a1->tag) {
-    case 1u:
-        v4.tag = a1->tag;
-        v4.ref_u8_0 = a1->ref_u8_0;
-        v3 = core__Option__unwrap_ref_u8(&v4);
-        v5 = *v3;
-        v2.tag = 1u;
-        v2.u8_0 = v5;
-        break;
-    default: /* 0 */
-        v2.tag = 0u;
-        v2.u8_0 = 0;
-        break;
-    }
-    result.tag = v2.tag;
-    result.u8_0 = v2.u8_0;
-    return result;
-}
-
-/* core::convert::UsizeFromU8::from */
-static uint64_t core__convert__UsizeFromU8__from(uint8_t a1)
-{
-    uint64_t result;
-    result = (uint64_t)a1;
-    return result;
-}
-
-/* core::UsizeSliceIndexRefSlice::pick_u8 */
-static core__Option_ref_u8 core__UsizeSliceIndexRefSlice__pick_u8(uint64_t a1, slice_u8 a2)
-{
-    core__Option_ref_u8 result;
-    uint64_t v3;
-    _Bool v4;
-    core__Option_ref_u8 v5;
-    uint64_t v6;
-    const uint8_t *v7;
-    const uint8_t *v8;
-    v3 = a2.length;
-    v4 = a1 < v3;
-    if (v4) {
-        v6 = a1;
-        v7 = a2.at + (size_t)v6;
-        v8 = v7;
-        v5.tag = 1u;
-        v5.ref_u8_0 = v8;
-    } else {
-        v5.tag = 0u;
-        v5.ref_u8_0 = 0;
-    }
-    result.tag = v5.tag;
-    result.ref_u8_0 = v5.ref_u8_0;
-    return result;
-}
-
-/* core::slice_T::get_u8_u64_ref_u8 */
-static core__Option_ref_u8 core__slice_T__get_u8_u64_ref_u8(slice_u8 a1, uint64_t a2)
-{
-    core__Option_ref_u8 result;
-    uint64_t v3;
-    v3 = a2;
-    result = core__UsizeSliceIndexRefSlice__pick_u8(v3, a1);
-    return result;
-}
-
 /* hex_line::digit::digit */
 static core__Option_u8 hex_line__digit__digit(uint8_t a1)
 {
     core__Option_u8 result;
-    core__Option_u8 v2;
-    _Bool v3;
-    uint8_t v4;
+    uint8_t v2;
+    uint8_t v3;
+    _Bool v4;
     uint8_t v5;
     uint8_t v6;
-    uint8_t v7;
-    uint8_t v8;
-    v3 = a1 < 48u;
-    if (v3) {
-        goto end2;
+    v2 = (uint8_t)(256u + a1 - 48u);
+    v4 = v2 < 10u;
+    if (v4) {
+        result.tag = 1u;
+        result.u8_0 = v2;
+        return result;
     }
-    v3 = a1 < 58u;
-    if (v3) {
-        v4 = (uint8_t)((unsigned)a1 - 48u);
-        v2.tag = 1u;
-        v2.u8_0 = v4;
-        goto end1;
+    v5 = (uint8_t)((unsigned)a1 | 32u);
+    v3 = (uint8_t)(256u + v5 - 97u);
+    v4 = v3 < 6u;
+    if (v4) {
+        v6 = (uint8_t)((unsigned)v3 + 10u);
+        result.tag = 1u;
+        result.u8_0 = v6;
+        return result;
     }
-    v3 = a1 < 65u;
-    if (v3) {
-        goto end2;
-    }
-    v3 = a1 < 71u;
-    if (v3) {
-        v5 = (uint8_t)((unsigned)a1 - 65u);
-        v6 = (uint8_t)((unsigned)v5 + 10u);
-        v2.tag = 1u;
-        v2.u8_0 = v6;
-        goto end1;
-    }
-    v3 = a1 < 97u;
-    if (v3) {
-        goto end2;
-    }
-    v3 = a1 < 103u;
-    if (v3) {
-        v7 = (uint8_t)((unsigned)a1 - 97u);
-        v8 = (uint8_t)((unsigned)v7 + 10u);
-        v2.tag = 1u;
-        v2.u8_0 = v8;
-        goto end1;
-    }
-    goto end2;
-    end2:;
-    v2.tag = 0u;
-    v2.u8_0 = 0;
-    end1:;
-    result.tag = v2.tag;
-    result.u8_0 = v2.u8_0;
+    result.tag = 0u;
+    result.u8_0 = 0;
     return result;
 }
 
@@ -715,17 +622,49 @@ static uint64_t hex_line__line__count(slice_u8 a1)
     uint64_t result;
     uint8_t v2;
     uint8_t v3;
-    core__Option_u8 v4;
-    core__Option_ref_u8 v5;
-    uint8_t v6;
-    v5 = core__slice_T__get_u8_u64_ref_u8(a1, UINT64_C(1));
-    v4 = core__Option_ref_T__copied_u8(&v5);
-    v2 = core__Option__unwrap_or_u8(&v4, 0u);
-    v5 = core__slice_T__get_u8_u64_ref_u8(a1, UINT64_C(2));
-    v4 = core__Option_ref_T__copied_u8(&v5);
-    v3 = core__Option__unwrap_or_u8(&v4, 0u);
-    v6 = hex_line__digit__octet(v2, v3);
-    result = core__convert__UsizeFromU8__from(v6);
+    const uint8_t *v4;
+    const uint8_t *v5;
+    const uint8_t *v6;
+    core__tuple_u8_u8 v7;
+    core__tuple_u8_u8 v8;
+    _Bool v9;
+    const uint8_t *v10;
+    uint8_t v11;
+    const uint8_t *v12;
+    const uint8_t *v13;
+    uint8_t v14;
+    uint8_t v15;
+    uint8_t v16;
+    v9 = a1.length < UINT64_C(2);
+    if (v9) {
+        v8.f0 = 0u;
+        v8.f1 = 0u;
+        goto end1;
+    }
+    v9 = a1.length < UINT64_C(3);
+    if (v9) {
+        v10 = a1.at + (size_t)UINT64_C(1);
+        v6 = v10;
+        v11 = *v6;
+        v8.f0 = v11;
+        v8.f1 = 0u;
+        goto end1;
+    }
+    v12 = a1.at + (size_t)UINT64_C(1);
+    v13 = a1.at + (size_t)UINT64_C(2);
+    v4 = v12;
+    v5 = v13;
+    v14 = *v4;
+    v15 = *v5;
+    v8.f0 = v14;
+    v8.f1 = v15;
+    end1:;
+    v7.f0 = v8.f0;
+    v7.f1 = v8.f1;
+    v2 = v7.f0;
+    v3 = v7.f1;
+    v16 = hex_line__digit__octet(v2, v3);
+    result = core__convert__UsizeFromU8__from(v16);
     return result;
 }
 
@@ -1055,17 +994,18 @@ static core__Result_Record_Refusal hex_line__line__judge_kind(uint64_t a1, uint8
 }
 
 /* core::OptionFromResidualNoValue::from_residual_Shape */
-static core__Option_Shape core__OptionFromResidualNoValue__from_residual_Shape(void)
+INLINED core__Option_Shape core__OptionFromResidualNoValue__from_residual_Shape(void)
 {
     core__Option_Shape result;
     result.tag = 0u;
     result.hex_line__line__Shape_0.f0 = 0;
     result.hex_line__line__Shape_0.f1 = 0;
+    result.hex_line__line__Shape_0.f2 = 0;
     return result;
 }
 
 /* core::OptionTry::branch_u64 */
-static core__ControlFlow_NoValue_u64 core__OptionTry__branch_u64(const core__Option_u64 *a1)
+INLINED core__ControlFlow_NoValue_u64 core__OptionTry__branch_u64(const core__Option_u64 *a1)
 {
     core__ControlFlow_NoValue_u64 result;
     uint64_t v2;
@@ -1089,7 +1029,7 @@ static core__ControlFlow_NoValue_u64 core__OptionTry__branch_u64(const core__Opt
 }
 
 /* core::OptionTry::branch_u8 */
-static core__ControlFlow_NoValue_u8 core__OptionTry__branch_u8(const core__Option_u8 *a1)
+INLINED core__ControlFlow_NoValue_u8 core__OptionTry__branch_u8(const core__Option_u8 *a1)
 {
     core__ControlFlow_NoValue_u8 result;
     uint8_t v2;
@@ -1113,7 +1053,7 @@ static core__ControlFlow_NoValue_u8 core__OptionTry__branch_u8(const core__Optio
 }
 
 /* core::AnyIntoIterator::into_iter_ChunksExact_u8_s_3f1896 */
-static core__ChunksExact_u8 core__AnyIntoIterator__into_iter_ChunksExact_u8_s_3f1896(
+INLINED core__ChunksExact_u8 core__AnyIntoIterator__into_iter_ChunksExact_u8_s_3f1896(
     const core__ChunksExact_u8 *a1)
 {
     core__ChunksExact_u8 result;
@@ -1126,7 +1066,7 @@ static core__ChunksExact_u8 core__AnyIntoIterator__into_iter_ChunksExact_u8_s_3f
 }
 
 /* core::ChunksExactIterator::next_u8 */
-static core__Option_slice_ref_u8 core__ChunksExactIterator__next_u8(core__ChunksExact_u8 *a1)
+INLINED core__Option_slice_ref_u8 core__ChunksExactIterator__next_u8(core__ChunksExact_u8 *a1)
 {
     core__Option_slice_ref_u8 result;
     slice_u8 v2;
@@ -1168,7 +1108,7 @@ static core__Option_slice_ref_u8 core__ChunksExactIterator__next_u8(core__Chunks
 }
 
 /* core::OptionFromResidualNoValue::from_residual_u8 */
-static core__Option_u8 core__OptionFromResidualNoValue__from_residual_u8(void)
+INLINED core__Option_u8 core__OptionFromResidualNoValue__from_residual_u8(void)
 {
     core__Option_u8 result;
     result.tag = 0u;
@@ -1177,7 +1117,7 @@ static core__Option_u8 core__OptionFromResidualNoValue__from_residual_u8(void)
 }
 
 /* core::slice_T::split_at_u8 */
-static core__tuple_slice_ref_u8_slice_ref_u8 core__slice_T__split_at_u8(slice_u8 a1, uint64_t a2)
+INLINED core__tuple_slice_ref_u8_slice_ref_u8 core__slice_T__split_at_u8(slice_u8 a1, uint64_t a2)
 {
     core__tuple_slice_ref_u8_slice_ref_u8 result;
     const uint8_t *v3;
@@ -1204,7 +1144,7 @@ static core__tuple_slice_ref_u8_slice_ref_u8 core__slice_T__split_at_u8(slice_u8
 }
 
 /* core::slice_T::chunks_exact_u8 */
-static core__ChunksExact_u8 core__slice_T__chunks_exact_u8(slice_u8 a1, uint64_t a2)
+INLINED core__ChunksExact_u8 core__slice_T__chunks_exact_u8(slice_u8 a1, uint64_t a2)
 {
     core__ChunksExact_u8 result;
     slice_u8 v3;
@@ -1332,119 +1272,127 @@ static core__Option_Shape hex_line__line__measure(slice_u8 a1)
 {
     core__Option_Shape result;
     uint64_t v2;
-    uint8_t v3;
+    uint64_t v3;
     uint8_t v4;
-    uint64_t v6;
+    uint8_t v5;
     uint64_t v7;
-    uint64_t v9;
-    _Bool v10;
-    uint64_t v11;
+    uint64_t v8;
+    uint64_t v10;
+    _Bool v11;
     slice_u8 v12;
     uint64_t v13;
-    _Bool v14;
-    uint64_t v15;
+    uint64_t v14;
+    _Bool v15;
     uint64_t v16;
-    const uint8_t *v17;
-    uint8_t v18;
-    _Bool v19;
-    core__ControlFlow_NoValue_u8 v20;
-    core__Option_u8 v21;
-    uint64_t v22;
-    const uint8_t *v23;
-    uint64_t v24;
-    const uint8_t *v25;
-    slice_u8 v26;
-    uint8_t v27;
-    uint64_t v29;
+    uint64_t v17;
+    const uint8_t *v18;
+    uint8_t v19;
+    _Bool v20;
+    core__ControlFlow_NoValue_u8 v21;
+    core__Option_u8 v22;
+    uint64_t v23;
+    const uint8_t *v24;
+    uint64_t v25;
+    const uint8_t *v26;
+    slice_u8 v27;
+    uint8_t v28;
     uint64_t v30;
-    core__ControlFlow_NoValue_u64 v31;
-    core__Option_u64 v32;
-    uint64_t v33;
-    const uint8_t *v34;
-    uint64_t v35;
-    const uint8_t *v36;
-    slice_u8 v37;
-    uint64_t v38;
-    uint64_t v40;
-    uint8_t v41;
-    hex_line__line__Shape v42;
-    v9 = a1.length;
-    v10 = v9 < UINT64_C(3);
-    if (v10) {
+    uint64_t v31;
+    core__ControlFlow_NoValue_u64 v32;
+    core__Option_u64 v33;
+    uint64_t v34;
+    const uint8_t *v35;
+    uint64_t v36;
+    const uint8_t *v37;
+    slice_u8 v38;
+    uint64_t v39;
+    uint64_t v41;
+    uint64_t v42;
+    uint8_t v43;
+    hex_line__line__Shape v44;
+    v10 = a1.length;
+    v11 = v10 < UINT64_C(3);
+    if (v11) {
         result.tag = 0u;
         result.hex_line__line__Shape_0.f0 = 0;
         result.hex_line__line__Shape_0.f1 = 0;
+        result.hex_line__line__Shape_0.f2 = 0;
         return result;
     }
     v12.at = a1.at;
     v12.length = a1.length;
-    v11 = hex_line__line__count(v12);
-    v13 = UINT64_C(2) * v11;
-    v2 = v13 + UINT64_C(11);
-    v15 = a1.length;
-    v16 = v2;
-    v14 = v15 <= v16;
-    if (!v14) {
-        v17 = a1.at + (size_t)UINT64_C(0);
-        v18 = *v17;
-        v14 = v18 != 58u;
-        v19 = v14;
-        if (!v19) {
+    v2 = hex_line__line__count(v12);
+    v13 = v2;
+    v14 = UINT64_C(2) * v13;
+    v3 = v14 + UINT64_C(11);
+    v16 = a1.length;
+    v17 = v3;
+    v15 = v16 <= v17;
+    if (!v15) {
+        v18 = a1.at + (size_t)UINT64_C(0);
+        v19 = *v18;
+        v15 = v19 != 58u;
+        v20 = v15;
+        if (!v20) {
             goto end2;
         }
     }
     result.tag = 0u;
     result.hex_line__line__Shape_0.f0 = 0;
     result.hex_line__line__Shape_0.f1 = 0;
+    result.hex_line__line__Shape_0.f2 = 0;
     return result;
     goto end1;
     end2:;
     end1:;
-    v22 = v2;
-    v23 = a1.at + (size_t)UINT64_C(1);
-    v24 = v22 - UINT64_C(1);
-    v25 = v23;
-    v26.at = v25;
-    v26.length = v24;
-    v21 = hex_line__line__weigh(v26);
-    v20 = core__OptionTry__branch_u8(&v21);
-    switch (v20.tag) {
+    v23 = v3;
+    v24 = a1.at + (size_t)UINT64_C(1);
+    v25 = v23 - UINT64_C(1);
+    v26 = v24;
+    v27.at = v26;
+    v27.length = v25;
+    v22 = hex_line__line__weigh(v27);
+    v21 = core__OptionTry__branch_u8(&v22);
+    switch (v21.tag) {
     case 0u:
-        v4 = v20.u8_0;
-        v27 = v4;
+        v5 = v21.u8_0;
+        v28 = v5;
         break;
     default: /* 1 */
         result = core__OptionFromResidualNoValue__from_residual_Shape();
         return result;
     }
-    v3 = v27;
-    v29 = v2;
-    v33 = v2;
-    v34 = a1.at + (size_t)v33;
-    v35 = a1.length - v33;
-    v36 = v34;
-    v37.at = v36;
-    v37.length = v35;
-    v32 = hex_line__line__end_bytes(v37);
-    v31 = core__OptionTry__branch_u64(&v32);
-    switch (v31.tag) {
+    v4 = v28;
+    v30 = v3;
+    v34 = v3;
+    v35 = a1.at + (size_t)v34;
+    v36 = a1.length - v34;
+    v37 = v35;
+    v38.at = v37;
+    v38.length = v36;
+    v33 = hex_line__line__end_bytes(v38);
+    v32 = core__OptionTry__branch_u64(&v33);
+    switch (v32.tag) {
     case 0u:
-        v7 = v31.u64_0;
-        v38 = v7;
+        v8 = v32.u64_0;
+        v39 = v8;
         break;
     default: /* 1 */
         result = core__OptionFromResidualNoValue__from_residual_Shape();
         return result;
     }
-    v30 = v38;
-    v6 = v29 + v30;
-    v40 = v6;
-    v41 = v3;
-    v42.f0 = v40;
-    v42.f1 = v41;
+    v31 = v39;
+    v7 = v30 + v31;
+    v41 = v7;
+    v42 = v2;
+    v43 = v4;
+    v44.f0 = v41;
+    v44.f1 = v42;
+    v44.f2 = v43;
     result.tag = 1u;
-    result.hex_line__line__Shape_0.f0 = v42.f0;
-    result.hex_line__line__Shape_0.f1 = v42.f1;
+    result.hex_line__line__Shape_0.f0 = v44.f0;
+    result.hex_line__line__Shape_0.f1 = v44.f1;
+    result.hex_line__line__Shape_0.f2 = v44.f2;
     return result;
 }
 
@@ -1453,20 +1401,20 @@ static hex_line__line__Judged hex_line__line__judge(slice_u8 a1, uint64_t a2)
 {
     hex_line__line__Judged result;
     uint64_t v3;
-    uint8_t v4;
-    core__Result_Record_Refusal v5;
-    core__Option_Shape v6;
-    numbers__Refusal v7;
-    core__Result_Record_Refusal v8;
-    _Bool v9;
-    numbers__Refusal v10;
-    core__Result_Record_Refusal v11;
-    uint8_t v12;
-    const uint8_t *v13;
-    uint8_t v14;
-    const uint8_t *v15;
-    uint8_t v16;
-    uint64_t v17;
+    uint64_t v4;
+    uint8_t v5;
+    core__Result_Record_Refusal v6;
+    core__Option_Shape v7;
+    numbers__Refusal v8;
+    core__Result_Record_Refusal v9;
+    _Bool v10;
+    numbers__Refusal v11;
+    core__Result_Record_Refusal v12;
+    uint8_t v13;
+    const uint8_t *v14;
+    uint8_t v15;
+    const uint8_t *v16;
+    uint8_t v17;
     uint64_t v18;
     const uint8_t *v19;
     uint8_t v20;
@@ -1476,49 +1424,49 @@ static hex_line__line__Judged hex_line__line__judge(slice_u8 a1, uint64_t a2)
     uint8_t v24;
     const uint8_t *v25;
     uint8_t v26;
-    v6 = hex_line__line__measure(a1);
-    switch (v6.tag) {
+    v7 = hex_line__line__measure(a1);
+    switch (v7.tag) {
     case 1u:
-        v3 = v6.hex_line__line__Shape_0.f0;
-        v4 = v6.hex_line__line__Shape_0.f1;
+        v3 = v7.hex_line__line__Shape_0.f0;
+        v4 = v7.hex_line__line__Shape_0.f1;
+        v5 = v7.hex_line__line__Shape_0.f2;
         break;
     default: /* 0 */
-        v7 = 12u;
-        v8.tag = 1u;
-        v8.numbers__Refusal_0 = v7;
-        v8.hex_format__Record_0.tag = 0;
-        v8.hex_format__Record_0.u64_0 = 0;
-        v8.hex_format__Record_0.u64_1 = 0;
-        result.f0.tag = v8.tag;
-        result.f0.hex_format__Record_0.tag = v8.hex_format__Record_0.tag;
-        result.f0.hex_format__Record_0.u64_0 = v8.hex_format__Record_0.u64_0;
-        result.f0.hex_format__Record_0.u64_1 = v8.hex_format__Record_0.u64_1;
-        result.f0.numbers__Refusal_0 = v8.numbers__Refusal_0;
+        v8 = 12u;
+        v9.tag = 1u;
+        v9.numbers__Refusal_0 = v8;
+        v9.hex_format__Record_0.tag = 0;
+        v9.hex_format__Record_0.u64_0 = 0;
+        v9.hex_format__Record_0.u64_1 = 0;
+        result.f0.tag = v9.tag;
+        result.f0.hex_format__Record_0.tag = v9.hex_format__Record_0.tag;
+        result.f0.hex_format__Record_0.u64_0 = v9.hex_format__Record_0.u64_0;
+        result.f0.hex_format__Record_0.u64_1 = v9.hex_format__Record_0.u64_1;
+        result.f0.numbers__Refusal_0 = v9.numbers__Refusal_0;
         result.f1 = UINT64_C(0);
         return result;
     }
-    v9 = v4 != 0u;
-    if (v9) {
-        v10 = 13u;
-        v11.tag = 1u;
-        v11.numbers__Refusal_0 = v10;
-        v11.hex_format__Record_0.tag = 0;
-        v11.hex_format__Record_0.u64_0 = 0;
-        v11.hex_format__Record_0.u64_1 = 0;
-        result.f0.tag = v11.tag;
-        result.f0.hex_format__Record_0.tag = v11.hex_format__Record_0.tag;
-        result.f0.hex_format__Record_0.u64_0 = v11.hex_format__Record_0.u64_0;
-        result.f0.hex_format__Record_0.u64_1 = v11.hex_format__Record_0.u64_1;
-        result.f0.numbers__Refusal_0 = v11.numbers__Refusal_0;
+    v10 = v5 != 0u;
+    if (v10) {
+        v11 = 13u;
+        v12.tag = 1u;
+        v12.numbers__Refusal_0 = v11;
+        v12.hex_format__Record_0.tag = 0;
+        v12.hex_format__Record_0.u64_0 = 0;
+        v12.hex_format__Record_0.u64_1 = 0;
+        result.f0.tag = v12.tag;
+        result.f0.hex_format__Record_0.tag = v12.hex_format__Record_0.tag;
+        result.f0.hex_format__Record_0.u64_0 = v12.hex_format__Record_0.u64_0;
+        result.f0.hex_format__Record_0.u64_1 = v12.hex_format__Record_0.u64_1;
+        result.f0.numbers__Refusal_0 = v12.numbers__Refusal_0;
         result.f1 = v3;
         return result;
     }
-    v13 = a1.at + (size_t)UINT64_C(7);
-    v14 = *v13;
-    v15 = a1.at + (size_t)UINT64_C(8);
-    v16 = *v15;
-    v12 = hex_line__digit__octet(v14, v16);
-    v17 = hex_line__line__count(a1);
+    v14 = a1.at + (size_t)UINT64_C(7);
+    v15 = *v14;
+    v16 = a1.at + (size_t)UINT64_C(8);
+    v17 = *v16;
+    v13 = hex_line__digit__octet(v15, v17);
     v19 = a1.at + (size_t)UINT64_C(3);
     v20 = *v19;
     v21 = a1.at + (size_t)UINT64_C(4);
@@ -1528,18 +1476,18 @@ static hex_line__line__Judged hex_line__line__judge(slice_u8 a1, uint64_t a2)
     v25 = a1.at + (size_t)UINT64_C(6);
     v26 = *v25;
     v18 = hex_line__line__word(v20, v22, v24, v26);
-    v5 = hex_line__line__judge_kind(a2, v12, v17, v18);
-    result.f0.tag = v5.tag;
-    result.f0.hex_format__Record_0.tag = v5.hex_format__Record_0.tag;
-    result.f0.hex_format__Record_0.u64_0 = v5.hex_format__Record_0.u64_0;
-    result.f0.hex_format__Record_0.u64_1 = v5.hex_format__Record_0.u64_1;
-    result.f0.numbers__Refusal_0 = v5.numbers__Refusal_0;
+    v6 = hex_line__line__judge_kind(a2, v13, v4, v18);
+    result.f0.tag = v6.tag;
+    result.f0.hex_format__Record_0.tag = v6.hex_format__Record_0.tag;
+    result.f0.hex_format__Record_0.u64_0 = v6.hex_format__Record_0.u64_0;
+    result.f0.hex_format__Record_0.u64_1 = v6.hex_format__Record_0.u64_1;
+    result.f0.numbers__Refusal_0 = v6.numbers__Refusal_0;
     result.f1 = v3;
     return result;
 }
 
 /* core::AnyFrom::from_Refusal */
-static numbers__Refusal core__AnyFrom__from_Refusal(numbers__Refusal a1)
+INLINED numbers__Refusal core__AnyFrom__from_Refusal(numbers__Refusal a1)
 {
     numbers__Refusal result;
     result = a1;
@@ -1547,7 +1495,7 @@ static numbers__Refusal core__AnyFrom__from_Refusal(numbers__Refusal a1)
 }
 
 /* core::ResultFromResidualErrResidual::from_residua_932db6 */
-static core__Result_Taken_Refusal core__ResultFromResidualErrResidual__from_residua_932db6(
+INLINED core__Result_Taken_Refusal core__ResultFromResidualErrResidual__from_residua_932db6(
     const core__ErrResidual_Refusal *a1)
 {
     core__Result_Taken_Refusal result;
@@ -1564,7 +1512,7 @@ static core__Result_Taken_Refusal core__ResultFromResidualErrResidual__from_resi
 }
 
 /* core::ResultTry::branch_Record_Refusal */
-static core__ControlFlow_ErrResidual_Refusal_Record core__ResultTry__branch_Record_Refusal(
+INLINED core__ControlFlow_ErrResidual_Refusal_Record core__ResultTry__branch_Record_Refusal(
     const core__Result_Record_Refusal *a1)
 {
     core__ControlFlow_ErrResidual_Refusal_Record result;
@@ -1681,7 +1629,7 @@ static core__Result_unit_Refusal hex_read__map__mark(uint8_t *a1, uint64_t a2, u
 }
 
 /* core::int::usize::max */
-static uint64_t core__int__usize__max(uint64_t a1, uint64_t a2)
+INLINED uint64_t core__int__usize__max(uint64_t a1, uint64_t a2)
 {
     uint64_t result;
     _Bool v3;
@@ -1697,7 +1645,7 @@ static uint64_t core__int__usize__max(uint64_t a1, uint64_t a2)
 }
 
 /* core::int::usize::min */
-static uint64_t core__int__usize__min(uint64_t a1, uint64_t a2)
+INLINED uint64_t core__int__usize__min(uint64_t a1, uint64_t a2)
 {
     uint64_t result;
     _Bool v3;
@@ -2038,7 +1986,7 @@ static core__Result_Filled_Fault hex_read__read__read_map(uint8_t *a1, uint64_t 
 }
 
 /* core::slice_T::is_empty_u8 */
-static _Bool core__slice_T__is_empty_u8(slice_u8 a1)
+INLINED _Bool core__slice_T__is_empty_u8(slice_u8 a1)
 {
     _Bool result;
     uint64_t v2;
@@ -2048,7 +1996,7 @@ static _Bool core__slice_T__is_empty_u8(slice_u8 a1)
 }
 
 /* core::IterIterator::next_u8 */
-static core__Option_ref_u8 core__IterIterator__next_u8(core__Iter_u8 *a1)
+INLINED core__Option_ref_u8 core__IterIterator__next_u8(core__Iter_u8 *a1)
 {
     core__Option_ref_u8 result;
     slice_u8 v2;
@@ -2085,7 +2033,7 @@ static core__Option_ref_u8 core__IterIterator__next_u8(core__Iter_u8 *a1)
 }
 
 /* settings::registers::fn::are_registers::all */
-static _Bool settings__registers__fn__are_registers__all(settings__all_Self_ref_u8 *a1, const uint8_t *a2)
+INLINED _Bool settings__registers__fn__are_registers__all(settings__all_Self_ref_u8 *a1, const uint8_t *a2)
 {
     _Bool result;
     const uint8_t *v3;
@@ -2106,7 +2054,7 @@ static _Bool settings__registers__fn__are_registers__all(settings__all_Self_ref_
 }
 
 /* settings::registers::fn::are_registers::all_FnMut::call_mut */
-static _Bool settings__registers__fn__are_registers__all_FnMut__call_mut(settings__all_Self_ref_u8 *a1,
+INLINED _Bool settings__registers__fn__are_registers__all_FnMut__call_mut(settings__all_Self_ref_u8 *a1,
     const uint8_t *a2)
 {
     _Bool result;
@@ -2117,7 +2065,7 @@ static _Bool settings__registers__fn__are_registers__all_FnMut__call_mut(setting
 }
 
 /* core::Iterator::all_Iter_u8_ref_u8_are_registers_f5c56d */
-static _Bool core__Iterator__all_Iter_u8_ref_u8_are_registers_f5c56d(core__Iter_u8 *a1,
+INLINED _Bool core__Iterator__all_Iter_u8_ref_u8_are_registers_f5c56d(core__Iter_u8 *a1,
     const settings__all_Self_ref_u8 *a2)
 {
     _Bool result;
@@ -2155,7 +2103,7 @@ static _Bool core__Iterator__all_Iter_u8_ref_u8_are_registers_f5c56d(core__Iter_
 }
 
 /* core::slice_T::iter_u8 */
-static core__Iter_u8 core__slice_T__iter_u8(slice_u8 a1)
+INLINED core__Iter_u8 core__slice_T__iter_u8(slice_u8 a1)
 {
     core__Iter_u8 result;
     result.f0.at = a1.at;
@@ -2184,8 +2132,8 @@ static _Bool settings__registers__are_registers(uint8_t a1, slice_u8 a2)
     return result;
 }
 
-/* settings::registers::are_pairs */
-static _Bool settings__registers__are_pairs(uint8_t a1, const c2_pairs *a2)
+/* settings::registers::entries_fit */
+static _Bool settings__registers__entries_fit(uint8_t a1, const c2_pairs *a2)
 {
     _Bool result;
     c2_pairs v3;
@@ -2213,6 +2161,19 @@ static _Bool settings__registers__are_pairs(uint8_t a1, const c2_pairs *a2)
         v6 = settings__registers__are_registers(a1, v8);
     }
     result = v6;
+    return result;
+}
+
+/* settings::registers::are_pairs */
+static _Bool settings__registers__are_pairs(uint8_t a1, const c2_pairs *a2)
+{
+    _Bool result;
+    _Bool v3;
+    v3 = a2->count == 0u;
+    if (!v3) {
+        v3 = settings__registers__entries_fit(a1, a2);
+    }
+    result = v3;
     return result;
 }
 
@@ -2415,7 +2376,7 @@ static c2_hex_image hex_calls__c2_hex_read(const c2_settings *a1, slice_u8 a2, s
 }
 
 /* core::ResultFromResidualErrResidual::from_residua_f6ecb9 */
-static core__Result_u64_Refusal core__ResultFromResidualErrResidual__from_residua_f6ecb9(
+INLINED core__Result_u64_Refusal core__ResultFromResidualErrResidual__from_residua_f6ecb9(
     const core__ErrResidual_Refusal *a1)
 {
     core__Result_u64_Refusal result;
@@ -2430,7 +2391,7 @@ static core__Result_u64_Refusal core__ResultFromResidualErrResidual__from_residu
 }
 
 /* core::slice::copy_from_slice */
-static void core__slice__copy_from_slice(slice_mut_u8 a1, slice_u8 a2)
+INLINED void core__slice__copy_from_slice(slice_mut_u8 a1, slice_u8 a2)
 {
     uint64_t v3;
     uint64_t v4;
@@ -2515,7 +2476,7 @@ static void hex_write__digit__put_text(slice_mut_u8 a1, slice_u8 a2)
 }
 
 /* core::int::u8::wrapping_neg */
-static uint8_t core__int__u8__wrapping_neg(uint8_t a1)
+INLINED uint8_t core__int__u8__wrapping_neg(uint8_t a1)
 {
     uint8_t result;
     result = (uint8_t)(256u + 0u - a1);
@@ -2523,7 +2484,7 @@ static uint8_t core__int__u8__wrapping_neg(uint8_t a1)
 }
 
 /* hex_write::line::fn::total::fold */
-static uint8_t hex_write__line__fn__total__fold(uint8_t a2, const uint8_t *a3)
+INLINED uint8_t hex_write__line__fn__total__fold(uint8_t a2, const uint8_t *a3)
 {
     uint8_t result;
     uint8_t v4;
@@ -2533,7 +2494,7 @@ static uint8_t hex_write__line__fn__total__fold(uint8_t a2, const uint8_t *a3)
 }
 
 /* hex_write::line::fn::total::fold_FnMut::call_mut */
-static uint8_t hex_write__line__fn__total__fold_FnMut__call_mut(uint8_t a2, const uint8_t *a3)
+INLINED uint8_t hex_write__line__fn__total__fold_FnMut__call_mut(uint8_t a2, const uint8_t *a3)
 {
     uint8_t result;
     result = hex_write__line__fn__total__fold(a2, a3);
@@ -2541,7 +2502,7 @@ static uint8_t hex_write__line__fn__total__fold_FnMut__call_mut(uint8_t a2, cons
 }
 
 /* core::Iterator::fold_Iter_u8_ref_u8_u8_total_fold */
-static uint8_t core__Iterator__fold_Iter_u8_ref_u8_u8_total_fold(const core__Iter_u8 *a1, uint8_t a2)
+INLINED uint8_t core__Iterator__fold_Iter_u8_ref_u8_u8_total_fold(const core__Iter_u8 *a1, uint8_t a2)
 {
     uint8_t result;
     core__Iter_u8 v4;
@@ -2768,7 +2729,7 @@ static void hex_write__write__put_file(slice_mut_u8 a1, uint64_t a2, slice_u8 a3
 }
 
 /* core::ResultFromResidualErrResidual::from_residua_45a805 */
-static core__Result_unit_Refusal core__ResultFromResidualErrResidual__from_residua_45a805(
+INLINED core__Result_unit_Refusal core__ResultFromResidualErrResidual__from_residua_45a805(
     const core__ErrResidual_Refusal *a1)
 {
     core__Result_unit_Refusal result;
@@ -2782,7 +2743,7 @@ static core__Result_unit_Refusal core__ResultFromResidualErrResidual__from_resid
 }
 
 /* core::int::checked::usize::checked_sub */
-static core__Option_u64 core__int__checked__usize__checked_sub(uint64_t a1, uint64_t a2)
+INLINED core__Option_u64 core__int__checked__usize__checked_sub(uint64_t a1, uint64_t a2)
 {
     core__Option_u64 result;
     _Bool v3;

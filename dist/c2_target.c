@@ -1,4 +1,4 @@
-/* Made from the MIR of crate c2, sha256 a830fd242b08728bf1807875e770356c9208d5d0f601279a9817247f66cac524. */
+/* Made from the MIR of crate c2, sha256 d2f35cd3c24b5b9691007b30d2745e4f4155effadda04b1d35f05a13884b0dce. */
 /*
  * Made by `make c`, not to be edited. A function stands under its path in the proved code; one that is generic
  * there, as those of the library are, stands once for each of what it is given, under the end of its path and
@@ -10,6 +10,13 @@
 #include <stddef.h>
 #include <stdint.h>
 #include "c2_target.h"
+
+/* For what is the library's, and for closures: a call of each would cost more than what it does. */
+#if defined(__GNUC__)
+#define INLINED static inline __attribute__((always_inline))
+#else
+#define INLINED static inline
+#endif
 
 typedef struct {
     uint8_t tag;
@@ -83,6 +90,22 @@ typedef struct {
     uint8_t f5;
     uint8_t f6;
 } c2_target_state__PointFields;
+
+typedef struct {
+    uint8_t f0;
+    uint8_t f1;
+    uint8_t f2;
+    uint8_t f3;
+    uint16_t f4;
+    uint16_t f5;
+} c2_target_state__CommandFields;
+
+typedef struct {
+    uint8_t f0;
+    uint8_t f1;
+    uint16_t f2;
+    uint16_t f3;
+} c2_target_state__OutputFields;
 
 typedef uint8_t core__cmp__Ordering;
 
@@ -170,34 +193,6 @@ typedef struct {
     numbers__Refusal numbers__Refusal_0;
 } core__Result_Turned_Refusal;
 
-typedef struct {
-    uint8_t f0;
-    uint8_t f1;
-    uint8_t f2;
-    uint8_t f3;
-    uint16_t f4;
-    uint16_t f5;
-} c2_target_state__CommandFields;
-
-typedef struct {
-    uint8_t f0;
-    uint8_t f1;
-    uint16_t f2;
-    uint16_t f3;
-} c2_target_state__OutputFields;
-
-typedef struct {
-    uint8_t tag;
-    c2_replied c2_target_state__ModelReplied_0;
-    numbers__Refusal numbers__Refusal_0;
-} core__Result_ModelReplied_Refusal;
-
-typedef struct {
-    uint8_t tag;
-    c2_target__Turned c2_target__Turned_0;
-    core__ErrResidual_Refusal core__ErrResidual_Refusal_0;
-} core__ControlFlow_ErrResidual_Refusal_Turned;
-
 /* c2::target::c2_target_fresh */
 static c2_target c2__target__c2_target_fresh(void)
 {
@@ -234,7 +229,7 @@ static c2_target c2__target__c2_target_fresh(void)
 }
 
 /* core::convert::UsizeFromU8::from */
-static uint64_t core__convert__UsizeFromU8__from(uint8_t a1)
+INLINED uint64_t core__convert__UsizeFromU8__from(uint8_t a1)
 {
     uint64_t result;
     result = (uint64_t)a1;
@@ -242,7 +237,7 @@ static uint64_t core__convert__UsizeFromU8__from(uint8_t a1)
 }
 
 /* core::AnyInto::into_u8_u64 */
-static uint64_t core__AnyInto__into_u8_u64(uint8_t a1)
+INLINED uint64_t core__AnyInto__into_u8_u64(uint8_t a1)
 {
     uint64_t result;
     uint8_t v2;
@@ -252,7 +247,7 @@ static uint64_t core__AnyInto__into_u8_u64(uint8_t a1)
 }
 
 /* core::convert::UsizeFromU16::from */
-static uint64_t core__convert__UsizeFromU16__from(uint16_t a1)
+INLINED uint64_t core__convert__UsizeFromU16__from(uint16_t a1)
 {
     uint64_t result;
     result = (uint64_t)a1;
@@ -1037,98 +1032,73 @@ static core__Result_Target_Refusal c2_target_state__decode__TargetTryFromState__
 {
     core__Result_Target_Refusal result;
     _Bool v2;
-    core__Result_Target_Refusal v3;
-    c2_target__Target v4;
-    numbers__Refusal v5;
+    _Bool v3;
+    numbers__Refusal v4;
+    c2_target__Target v5;
     v2 = c2_target_state__form__in_form(a1);
-    if (v2) {
-        v4 = c2_target_state__decode__target_read(a1);
-        v3.tag = 0u;
-        v3.c2_target__Target_0.f0.tag = v4.f0.tag;
-        v3.c2_target__Target_0.f0.u64_0 = v4.f0.u64_0;
-        v3.c2_target__Target_0.f0.u64_1 = v4.f0.u64_1;
-        v3.c2_target__Target_0.f0.c2_target__Effect_0.tag = v4.f0.c2_target__Effect_0.tag;
-        v3.c2_target__Target_0.f0.c2_target__Effect_0.u64_0 = v4.f0.c2_target__Effect_0.u64_0;
-        v3.c2_target__Target_0.f1 = v4.f1;
-        v3.c2_target__Target_0.f2 = v4.f2;
-        v3.c2_target__Target_0.f3.f0 = v4.f3.f0;
-        v3.c2_target__Target_0.f3.f1 = v4.f3.f1;
-        v3.c2_target__Target_0.f3.f2 = v4.f3.f2;
-        v3.c2_target__Target_0.f3.f3.f0 = v4.f3.f3.f0;
-        v3.c2_target__Target_0.f3.f3.f1 = v4.f3.f3.f1;
-        v3.c2_target__Target_0.f3.f3.f2 = v4.f3.f3.f2;
-        v3.c2_target__Target_0.f3.f3.f3 = v4.f3.f3.f3;
-        v3.c2_target__Target_0.f3.f4.f0.tag = v4.f3.f4.f0.tag;
-        v3.c2_target__Target_0.f3.f4.f0.u64_0 = v4.f3.f4.f0.u64_0;
-        v3.c2_target__Target_0.f3.f4.f0.bool_0 = v4.f3.f4.f0.bool_0;
-        v3.c2_target__Target_0.f3.f4.f0.u64_1 = v4.f3.f4.f0.u64_1;
-        v3.c2_target__Target_0.f3.f4.f1.tag = v4.f3.f4.f1.tag;
-        v3.c2_target__Target_0.f3.f4.f1.bool_0 = v4.f3.f4.f1.bool_0;
-        v3.c2_target__Target_0.f3.f4.f1.u64_0 = v4.f3.f4.f1.u64_0;
-        v3.c2_target__Target_0.f3.f4.f1.u64_1 = v4.f3.f4.f1.u64_1;
-        v3.c2_target__Target_0.f3.f4.f2 = v4.f3.f4.f2;
-        v3.c2_target__Target_0.f3.f4.f3 = v4.f3.f4.f3;
-        v3.numbers__Refusal_0 = 0;
-    } else {
-        v5 = 9u;
-        v3.tag = 1u;
-        v3.numbers__Refusal_0 = v5;
-        v3.c2_target__Target_0.f0.tag = 0;
-        v3.c2_target__Target_0.f0.u64_0 = 0;
-        v3.c2_target__Target_0.f0.u64_1 = 0;
-        v3.c2_target__Target_0.f0.c2_target__Effect_0.tag = 0;
-        v3.c2_target__Target_0.f0.c2_target__Effect_0.u64_0 = 0;
-        v3.c2_target__Target_0.f1 = 0;
-        v3.c2_target__Target_0.f2 = 0;
-        v3.c2_target__Target_0.f3.f0 = 0;
-        v3.c2_target__Target_0.f3.f1 = 0;
-        v3.c2_target__Target_0.f3.f2 = 0;
-        v3.c2_target__Target_0.f3.f3.f0 = 0;
-        v3.c2_target__Target_0.f3.f3.f1 = 0;
-        v3.c2_target__Target_0.f3.f3.f2 = 0;
-        v3.c2_target__Target_0.f3.f3.f3 = 0;
-        v3.c2_target__Target_0.f3.f4.f0.tag = 0;
-        v3.c2_target__Target_0.f3.f4.f0.u64_0 = 0;
-        v3.c2_target__Target_0.f3.f4.f0.bool_0 = 0;
-        v3.c2_target__Target_0.f3.f4.f0.u64_1 = 0;
-        v3.c2_target__Target_0.f3.f4.f1.tag = 0;
-        v3.c2_target__Target_0.f3.f4.f1.bool_0 = 0;
-        v3.c2_target__Target_0.f3.f4.f1.u64_0 = 0;
-        v3.c2_target__Target_0.f3.f4.f1.u64_1 = 0;
-        v3.c2_target__Target_0.f3.f4.f2 = 0;
-        v3.c2_target__Target_0.f3.f4.f3 = 0;
+    v3 = !v2;
+    if (v3) {
+        v4 = 9u;
+        result.tag = 1u;
+        result.numbers__Refusal_0 = v4;
+        result.c2_target__Target_0.f0.tag = 0;
+        result.c2_target__Target_0.f0.u64_0 = 0;
+        result.c2_target__Target_0.f0.u64_1 = 0;
+        result.c2_target__Target_0.f0.c2_target__Effect_0.tag = 0;
+        result.c2_target__Target_0.f0.c2_target__Effect_0.u64_0 = 0;
+        result.c2_target__Target_0.f1 = 0;
+        result.c2_target__Target_0.f2 = 0;
+        result.c2_target__Target_0.f3.f0 = 0;
+        result.c2_target__Target_0.f3.f1 = 0;
+        result.c2_target__Target_0.f3.f2 = 0;
+        result.c2_target__Target_0.f3.f3.f0 = 0;
+        result.c2_target__Target_0.f3.f3.f1 = 0;
+        result.c2_target__Target_0.f3.f3.f2 = 0;
+        result.c2_target__Target_0.f3.f3.f3 = 0;
+        result.c2_target__Target_0.f3.f4.f0.tag = 0;
+        result.c2_target__Target_0.f3.f4.f0.u64_0 = 0;
+        result.c2_target__Target_0.f3.f4.f0.bool_0 = 0;
+        result.c2_target__Target_0.f3.f4.f0.u64_1 = 0;
+        result.c2_target__Target_0.f3.f4.f1.tag = 0;
+        result.c2_target__Target_0.f3.f4.f1.bool_0 = 0;
+        result.c2_target__Target_0.f3.f4.f1.u64_0 = 0;
+        result.c2_target__Target_0.f3.f4.f1.u64_1 = 0;
+        result.c2_target__Target_0.f3.f4.f2 = 0;
+        result.c2_target__Target_0.f3.f4.f3 = 0;
+        return result;
     }
-    result.tag = v3.tag;
-    result.c2_target__Target_0.f0.tag = v3.c2_target__Target_0.f0.tag;
-    result.c2_target__Target_0.f0.u64_0 = v3.c2_target__Target_0.f0.u64_0;
-    result.c2_target__Target_0.f0.u64_1 = v3.c2_target__Target_0.f0.u64_1;
-    result.c2_target__Target_0.f0.c2_target__Effect_0.tag = v3.c2_target__Target_0.f0.c2_target__Effect_0.tag;
-    result.c2_target__Target_0.f0.c2_target__Effect_0.u64_0 = v3.c2_target__Target_0.f0.c2_target__Effect_0.u64_0;
-    result.c2_target__Target_0.f1 = v3.c2_target__Target_0.f1;
-    result.c2_target__Target_0.f2 = v3.c2_target__Target_0.f2;
-    result.c2_target__Target_0.f3.f0 = v3.c2_target__Target_0.f3.f0;
-    result.c2_target__Target_0.f3.f1 = v3.c2_target__Target_0.f3.f1;
-    result.c2_target__Target_0.f3.f2 = v3.c2_target__Target_0.f3.f2;
-    result.c2_target__Target_0.f3.f3.f0 = v3.c2_target__Target_0.f3.f3.f0;
-    result.c2_target__Target_0.f3.f3.f1 = v3.c2_target__Target_0.f3.f3.f1;
-    result.c2_target__Target_0.f3.f3.f2 = v3.c2_target__Target_0.f3.f3.f2;
-    result.c2_target__Target_0.f3.f3.f3 = v3.c2_target__Target_0.f3.f3.f3;
-    result.c2_target__Target_0.f3.f4.f0.tag = v3.c2_target__Target_0.f3.f4.f0.tag;
-    result.c2_target__Target_0.f3.f4.f0.u64_0 = v3.c2_target__Target_0.f3.f4.f0.u64_0;
-    result.c2_target__Target_0.f3.f4.f0.bool_0 = v3.c2_target__Target_0.f3.f4.f0.bool_0;
-    result.c2_target__Target_0.f3.f4.f0.u64_1 = v3.c2_target__Target_0.f3.f4.f0.u64_1;
-    result.c2_target__Target_0.f3.f4.f1.tag = v3.c2_target__Target_0.f3.f4.f1.tag;
-    result.c2_target__Target_0.f3.f4.f1.bool_0 = v3.c2_target__Target_0.f3.f4.f1.bool_0;
-    result.c2_target__Target_0.f3.f4.f1.u64_0 = v3.c2_target__Target_0.f3.f4.f1.u64_0;
-    result.c2_target__Target_0.f3.f4.f1.u64_1 = v3.c2_target__Target_0.f3.f4.f1.u64_1;
-    result.c2_target__Target_0.f3.f4.f2 = v3.c2_target__Target_0.f3.f4.f2;
-    result.c2_target__Target_0.f3.f4.f3 = v3.c2_target__Target_0.f3.f4.f3;
-    result.numbers__Refusal_0 = v3.numbers__Refusal_0;
+    v5 = c2_target_state__decode__target_read(a1);
+    result.tag = 0u;
+    result.c2_target__Target_0.f0.tag = v5.f0.tag;
+    result.c2_target__Target_0.f0.u64_0 = v5.f0.u64_0;
+    result.c2_target__Target_0.f0.u64_1 = v5.f0.u64_1;
+    result.c2_target__Target_0.f0.c2_target__Effect_0.tag = v5.f0.c2_target__Effect_0.tag;
+    result.c2_target__Target_0.f0.c2_target__Effect_0.u64_0 = v5.f0.c2_target__Effect_0.u64_0;
+    result.c2_target__Target_0.f1 = v5.f1;
+    result.c2_target__Target_0.f2 = v5.f2;
+    result.c2_target__Target_0.f3.f0 = v5.f3.f0;
+    result.c2_target__Target_0.f3.f1 = v5.f3.f1;
+    result.c2_target__Target_0.f3.f2 = v5.f3.f2;
+    result.c2_target__Target_0.f3.f3.f0 = v5.f3.f3.f0;
+    result.c2_target__Target_0.f3.f3.f1 = v5.f3.f3.f1;
+    result.c2_target__Target_0.f3.f3.f2 = v5.f3.f3.f2;
+    result.c2_target__Target_0.f3.f3.f3 = v5.f3.f3.f3;
+    result.c2_target__Target_0.f3.f4.f0.tag = v5.f3.f4.f0.tag;
+    result.c2_target__Target_0.f3.f4.f0.u64_0 = v5.f3.f4.f0.u64_0;
+    result.c2_target__Target_0.f3.f4.f0.bool_0 = v5.f3.f4.f0.bool_0;
+    result.c2_target__Target_0.f3.f4.f0.u64_1 = v5.f3.f4.f0.u64_1;
+    result.c2_target__Target_0.f3.f4.f1.tag = v5.f3.f4.f1.tag;
+    result.c2_target__Target_0.f3.f4.f1.bool_0 = v5.f3.f4.f1.bool_0;
+    result.c2_target__Target_0.f3.f4.f1.u64_0 = v5.f3.f4.f1.u64_0;
+    result.c2_target__Target_0.f3.f4.f1.u64_1 = v5.f3.f4.f1.u64_1;
+    result.c2_target__Target_0.f3.f4.f2 = v5.f3.f4.f2;
+    result.c2_target__Target_0.f3.f4.f3 = v5.f3.f4.f3;
+    result.numbers__Refusal_0 = 0;
     return result;
 }
 
 /* core::default::U8Default::default */
-static uint8_t core__default__U8Default__default(void)
+INLINED uint8_t core__default__U8Default__default(void)
 {
     uint8_t result;
     result = 0u;
@@ -1467,7 +1437,7 @@ static c2_target_state__PointFields c2_target_state__encode__PointFieldsFromPoin
 }
 
 /* core::convert::others::U8FromBool::from */
-static uint8_t core__convert__others__U8FromBool__from(_Bool a1)
+INLINED uint8_t core__convert__others__U8FromBool__from(_Bool a1)
 {
     uint8_t result;
     result = (uint8_t)a1;
@@ -1475,7 +1445,7 @@ static uint8_t core__convert__others__U8FromBool__from(_Bool a1)
 }
 
 /* core::AnyInto::into_bool_u8 */
-static uint8_t core__AnyInto__into_bool_u8(_Bool a1)
+INLINED uint8_t core__AnyInto__into_bool_u8(_Bool a1)
 {
     uint8_t result;
     _Bool v2;
@@ -1597,6 +1567,746 @@ static _Bool c2_target_state__model__is_inside(uint8_t a1, uint8_t a2)
     return result;
 }
 
+/* c2_target_state::encode::state_with */
+static c2_target c2_target_state__encode__state_with(const c2_target__Target *a1,
+    const c2_target_state__PointFields *a2, const c2_target_state__CommandFields *a3,
+    const c2_target_state__OutputFields *a4)
+{
+    c2_target result;
+    c2_target__Device v5;
+    c2_target__Met v6;
+    uint64_t v7;
+    uint8_t v8;
+    uint8_t v9;
+    uint8_t v10;
+    uint8_t v11;
+    uint8_t v12;
+    uint8_t v13;
+    uint8_t v14;
+    uint8_t v15;
+    uint8_t v16;
+    uint8_t v17;
+    v5.f0 = a1->f3.f0;
+    v5.f1 = a1->f3.f1;
+    v5.f2 = a1->f3.f2;
+    v5.f3.f0 = a1->f3.f3.f0;
+    v5.f3.f1 = a1->f3.f3.f1;
+    v5.f3.f2 = a1->f3.f3.f2;
+    v5.f3.f3 = a1->f3.f3.f3;
+    v5.f4.f0.tag = a1->f3.f4.f0.tag;
+    v5.f4.f0.u64_0 = a1->f3.f4.f0.u64_0;
+    v5.f4.f0.bool_0 = a1->f3.f4.f0.bool_0;
+    v5.f4.f0.u64_1 = a1->f3.f4.f0.u64_1;
+    v5.f4.f1.tag = a1->f3.f4.f1.tag;
+    v5.f4.f1.bool_0 = a1->f3.f4.f1.bool_0;
+    v5.f4.f1.u64_0 = a1->f3.f4.f1.u64_0;
+    v5.f4.f1.u64_1 = a1->f3.f4.f1.u64_1;
+    v5.f4.f2 = a1->f3.f4.f2;
+    v5.f4.f3 = a1->f3.f4.f3;
+    v6.f0 = v5.f3.f0;
+    v6.f1 = v5.f3.f1;
+    v6.f2 = v5.f3.f2;
+    v6.f3 = v5.f3.f3;
+    v7 = a1->f1;
+    v8 = core__AnyInto__into_bool_u8(a1->f2);
+    v9 = c2_target_state__fields__low(v5.f0);
+    v10 = core__AnyInto__into_bool_u8(v5.f1);
+    v11 = c2_target_state__fields__low(v5.f2);
+    v12 = core__AnyInto__into_bool_u8(v6.f0);
+    v13 = core__AnyInto__into_bool_u8(v6.f1);
+    v14 = core__AnyInto__into_bool_u8(v6.f2);
+    v15 = core__AnyInto__into_bool_u8(v6.f3);
+    v16 = c2_target_state__fields__low(v5.f4.f2);
+    v17 = c2_target_state__fields__low(v5.f4.f3);
+    result.place = v7;
+    result.start = a3->f4;
+    result.rest = a3->f5;
+    result.next = a4->f2;
+    result.count = a4->f3;
+    result.point = a2->f0;
+    result.heard = a2->f1;
+    result.value = a2->f2;
+    result.left = a2->f3;
+    result.zeros = a2->f4;
+    result.effect = a2->f5;
+    result.byte = a2->f6;
+    result.collision = v8;
+    result.address = v9;
+    result.on = v10;
+    result.keys = v11;
+    result.met1 = v12;
+    result.met2 = v13;
+    result.met3 = v14;
+    result.met4 = v15;
+    result.command = a3->f0;
+    result.write = a3->f1;
+    result.page = a3->f2;
+    result.high = a3->f3;
+    result.output = a4->f0;
+    result.passed = a4->f1;
+    result.busy = v16;
+    result.late = v17;
+    return result;
+}
+
+/* core::default::U16Default::default */
+INLINED uint16_t core__default__U16Default__default(void)
+{
+    uint16_t result;
+    result = 0u;
+    return result;
+}
+
+/* c2_target_state::CommandFieldsDefault::default */
+static c2_target_state__CommandFields c2_target_state__CommandFieldsDefault__default(void)
+{
+    c2_target_state__CommandFields result;
+    uint8_t v1;
+    uint8_t v2;
+    uint8_t v3;
+    uint8_t v4;
+    uint16_t v5;
+    uint16_t v6;
+    v1 = core__default__U8Default__default();
+    v2 = core__default__U8Default__default();
+    v3 = core__default__U8Default__default();
+    v4 = core__default__U8Default__default();
+    v5 = core__default__U16Default__default();
+    v6 = core__default__U16Default__default();
+    result.f0 = v1;
+    result.f1 = v2;
+    result.f2 = v3;
+    result.f3 = v4;
+    result.f4 = v5;
+    result.f5 = v6;
+    return result;
+}
+
+/* c2_target_state::encode::of_block */
+static c2_target_state__CommandFields c2_target_state__encode__of_block(uint8_t a1, _Bool a2)
+{
+    c2_target_state__CommandFields result;
+    uint8_t v3;
+    c2_target_state__CommandFields v4;
+    uint8_t v5;
+    uint8_t v6;
+    uint16_t v7;
+    uint16_t v8;
+    v3 = core__AnyInto__into_bool_u8(a2);
+    v4 = c2_target_state__CommandFieldsDefault__default();
+    v5 = v4.f2;
+    v6 = v4.f3;
+    v7 = v4.f4;
+    v8 = v4.f5;
+    result.f0 = a1;
+    result.f1 = v3;
+    result.f2 = v5;
+    result.f3 = v6;
+    result.f4 = v7;
+    result.f5 = v8;
+    return result;
+}
+
+/* c2_target_state::fields::word */
+static uint16_t c2_target_state__fields__word(uint64_t a1)
+{
+    uint16_t result;
+    uint64_t v2;
+    v2 = a1 % UINT64_C(65536);
+    result = (uint16_t)v2;
+    return result;
+}
+
+/* c2_target_state::encode::CommandFieldsFromCommand::from */
+static c2_target_state__CommandFields c2_target_state__encode__CommandFieldsFromCommand__from(
+    const c2_target__Command *a1)
+{
+    c2_target_state__CommandFields result;
+    c2_target_state__CommandFields v2;
+    uint64_t v3;
+    _Bool v4;
+    _Bool v5;
+    uint64_t v6;
+    _Bool v7;
+    uint64_t v8;
+    uint64_t v9;
+    uint64_t v10;
+    uint64_t v11;
+    c2_target_state__CommandFields v12;
+    uint8_t v13;
+    uint8_t v14;
+    uint8_t v15;
+    uint16_t v16;
+    uint16_t v17;
+    uint8_t v18;
+    uint8_t v19;
+    uint8_t v20;
+    uint16_t v21;
+    uint16_t v22;
+    uint8_t v23;
+    c2_target_state__CommandFields v24;
+    uint8_t v25;
+    uint8_t v26;
+    uint8_t v27;
+    uint16_t v28;
+    uint16_t v29;
+    uint16_t v30;
+    c2_target_state__CommandFields v31;
+    uint8_t v32;
+    uint8_t v33;
+    uint8_t v34;
+    uint8_t v35;
+    uint16_t v36;
+    uint16_t v37;
+    uint16_t v38;
+    uint8_t v39;
+    uint8_t v40;
+    uint8_t v41;
+    uint16_t v42;
+    uint8_t v43;
+    uint8_t v44;
+    uint8_t v45;
+    uint16_t v46;
+    v2 = c2_target_state__CommandFieldsDefault__default();
+    switch (a1->tag) {
+    case 0u:
+        v12.f0 = v2.f0;
+        v12.f1 = v2.f1;
+        v12.f2 = v2.f2;
+        v12.f3 = v2.f3;
+        v12.f4 = v2.f4;
+        v12.f5 = v2.f5;
+        break;
+    case 1u:
+        v13 = v2.f1;
+        v14 = v2.f2;
+        v15 = v2.f3;
+        v16 = v2.f4;
+        v17 = v2.f5;
+        v12.f0 = 1u;
+        v12.f1 = v13;
+        v12.f2 = v14;
+        v12.f3 = v15;
+        v12.f4 = v16;
+        v12.f5 = v17;
+        break;
+    case 2u:
+        v3 = a1->u64_0;
+        v18 = c2_target_state__fields__low(v3);
+        v19 = v2.f1;
+        v20 = v2.f3;
+        v21 = v2.f4;
+        v22 = v2.f5;
+        v12.f0 = 2u;
+        v12.f1 = v19;
+        v12.f2 = v18;
+        v12.f3 = v20;
+        v12.f4 = v21;
+        v12.f5 = v22;
+        break;
+    case 3u:
+        v4 = a1->bool_0;
+        v12 = c2_target_state__encode__of_block(3u, v4);
+        break;
+    case 4u:
+        v5 = a1->bool_0;
+        v6 = a1->u64_0;
+        v23 = c2_target_state__fields__low(v6);
+        v24 = c2_target_state__encode__of_block(4u, v5);
+        v25 = v24.f0;
+        v26 = v24.f1;
+        v27 = v24.f2;
+        v28 = v24.f4;
+        v29 = v24.f5;
+        v12.f0 = v25;
+        v12.f1 = v26;
+        v12.f2 = v27;
+        v12.f3 = v23;
+        v12.f4 = v28;
+        v12.f5 = v29;
+        break;
+    case 5u:
+        v7 = a1->bool_0;
+        v8 = a1->u64_0;
+        v30 = c2_target_state__fields__word(v8);
+        v31 = c2_target_state__encode__of_block(5u, v7);
+        v32 = v31.f0;
+        v33 = v31.f1;
+        v34 = v31.f2;
+        v35 = v31.f3;
+        v36 = v31.f5;
+        v12.f0 = v32;
+        v12.f1 = v33;
+        v12.f2 = v34;
+        v12.f3 = v35;
+        v12.f4 = v30;
+        v12.f5 = v36;
+        break;
+    case 6u:
+        v9 = a1->u64_0;
+        v10 = a1->u64_1;
+        v37 = c2_target_state__fields__word(v9);
+        v38 = c2_target_state__fields__word(v10);
+        v39 = v2.f1;
+        v40 = v2.f2;
+        v41 = v2.f3;
+        v12.f0 = 6u;
+        v12.f1 = v39;
+        v12.f2 = v40;
+        v12.f3 = v41;
+        v12.f4 = v37;
+        v12.f5 = v38;
+        break;
+    default: /* 7 */
+        v11 = a1->u64_0;
+        v42 = c2_target_state__fields__word(v11);
+        v43 = v2.f1;
+        v44 = v2.f2;
+        v45 = v2.f3;
+        v46 = v2.f4;
+        v12.f0 = 7u;
+        v12.f1 = v43;
+        v12.f2 = v44;
+        v12.f3 = v45;
+        v12.f4 = v46;
+        v12.f5 = v42;
+        break;
+    }
+    result.f0 = v12.f0;
+    result.f1 = v12.f1;
+    result.f2 = v12.f2;
+    result.f3 = v12.f3;
+    result.f4 = v12.f4;
+    result.f5 = v12.f5;
+    return result;
+}
+
+/* core::AnyInto::into_Command_CommandFields */
+INLINED c2_target_state__CommandFields core__AnyInto__into_Command_CommandFields(const c2_target__Command *a1)
+{
+    c2_target_state__CommandFields result;
+    c2_target__Command v2;
+    v2.tag = a1->tag;
+    v2.u64_0 = a1->u64_0;
+    v2.bool_0 = a1->bool_0;
+    v2.u64_1 = a1->u64_1;
+    result = c2_target_state__encode__CommandFieldsFromCommand__from(&v2);
+    return result;
+}
+
+/* c2_target_state::OutputFieldsDefault::default */
+static c2_target_state__OutputFields c2_target_state__OutputFieldsDefault__default(void)
+{
+    c2_target_state__OutputFields result;
+    uint8_t v1;
+    uint8_t v2;
+    uint16_t v3;
+    uint16_t v4;
+    v1 = core__default__U8Default__default();
+    v2 = core__default__U8Default__default();
+    v3 = core__default__U16Default__default();
+    v4 = core__default__U16Default__default();
+    result.f0 = v1;
+    result.f1 = v2;
+    result.f2 = v3;
+    result.f3 = v4;
+    return result;
+}
+
+/* c2_target_state::encode::OutputFieldsFromOutput::from */
+static c2_target_state__OutputFields c2_target_state__encode__OutputFieldsFromOutput__from(
+    const c2_target__Output *a1)
+{
+    c2_target_state__OutputFields result;
+    c2_target_state__OutputFields v2;
+    _Bool v3;
+    uint64_t v4;
+    uint64_t v5;
+    uint64_t v6;
+    uint64_t v7;
+    c2_target_state__OutputFields v8;
+    uint8_t v9;
+    uint16_t v10;
+    uint16_t v11;
+    uint16_t v12;
+    uint16_t v13;
+    uint8_t v14;
+    uint16_t v15;
+    uint16_t v16;
+    uint8_t v17;
+    v2 = c2_target_state__OutputFieldsDefault__default();
+    switch (a1->tag) {
+    case 0u:
+        v8.f0 = v2.f0;
+        v8.f1 = v2.f1;
+        v8.f2 = v2.f2;
+        v8.f3 = v2.f3;
+        break;
+    case 1u:
+        v3 = a1->bool_0;
+        v9 = core__AnyInto__into_bool_u8(v3);
+        v10 = v2.f2;
+        v11 = v2.f3;
+        v8.f0 = 1u;
+        v8.f1 = v9;
+        v8.f2 = v10;
+        v8.f3 = v11;
+        break;
+    case 2u:
+        v4 = a1->u64_0;
+        v5 = a1->u64_1;
+        v12 = c2_target_state__fields__word(v4);
+        v13 = c2_target_state__fields__word(v5);
+        v14 = v2.f1;
+        v8.f0 = 2u;
+        v8.f1 = v14;
+        v8.f2 = v12;
+        v8.f3 = v13;
+        break;
+    default: /* 3 */
+        v6 = a1->u64_0;
+        v7 = a1->u64_1;
+        v15 = c2_target_state__fields__word(v6);
+        v16 = c2_target_state__fields__word(v7);
+        v17 = v2.f1;
+        v8.f0 = 3u;
+        v8.f1 = v17;
+        v8.f2 = v15;
+        v8.f3 = v16;
+        break;
+    }
+    result.f0 = v8.f0;
+    result.f1 = v8.f1;
+    result.f2 = v8.f2;
+    result.f3 = v8.f3;
+    return result;
+}
+
+/* core::AnyInto::into_Output_OutputFields */
+INLINED c2_target_state__OutputFields core__AnyInto__into_Output_OutputFields(const c2_target__Output *a1)
+{
+    c2_target_state__OutputFields result;
+    c2_target__Output v2;
+    v2.tag = a1->tag;
+    v2.bool_0 = a1->bool_0;
+    v2.u64_0 = a1->u64_0;
+    v2.u64_1 = a1->u64_1;
+    result = c2_target_state__encode__OutputFieldsFromOutput__from(&v2);
+    return result;
+}
+
+/* core::AnyInto::into_Point_PointFields */
+INLINED c2_target_state__PointFields core__AnyInto__into_Point_PointFields(const c2_target__Point *a1)
+{
+    c2_target_state__PointFields result;
+    c2_target__Point v2;
+    v2.tag = a1->tag;
+    v2.u64_0 = a1->u64_0;
+    v2.u64_1 = a1->u64_1;
+    v2.c2_target__Effect_0.tag = a1->c2_target__Effect_0.tag;
+    v2.c2_target__Effect_0.u64_0 = a1->c2_target__Effect_0.u64_0;
+    result = c2_target_state__encode__PointFieldsFromPoint__from(&v2);
+    return result;
+}
+
+/* c2_target_state::encode::StateFromTarget::from */
+static c2_target c2_target_state__encode__StateFromTarget__from(const c2_target__Target *a1)
+{
+    c2_target result;
+    c2_target__Link v2;
+    c2_target_state__PointFields v3;
+    c2_target__Point v4;
+    c2_target_state__CommandFields v5;
+    c2_target__Command v6;
+    c2_target_state__OutputFields v7;
+    c2_target__Output v8;
+    v2.f0.tag = a1->f3.f4.f0.tag;
+    v2.f0.u64_0 = a1->f3.f4.f0.u64_0;
+    v2.f0.bool_0 = a1->f3.f4.f0.bool_0;
+    v2.f0.u64_1 = a1->f3.f4.f0.u64_1;
+    v2.f1.tag = a1->f3.f4.f1.tag;
+    v2.f1.bool_0 = a1->f3.f4.f1.bool_0;
+    v2.f1.u64_0 = a1->f3.f4.f1.u64_0;
+    v2.f1.u64_1 = a1->f3.f4.f1.u64_1;
+    v2.f2 = a1->f3.f4.f2;
+    v2.f3 = a1->f3.f4.f3;
+    v4.tag = a1->f0.tag;
+    v4.u64_0 = a1->f0.u64_0;
+    v4.u64_1 = a1->f0.u64_1;
+    v4.c2_target__Effect_0.tag = a1->f0.c2_target__Effect_0.tag;
+    v4.c2_target__Effect_0.u64_0 = a1->f0.c2_target__Effect_0.u64_0;
+    v3 = core__AnyInto__into_Point_PointFields(&v4);
+    v6.tag = v2.f0.tag;
+    v6.u64_0 = v2.f0.u64_0;
+    v6.bool_0 = v2.f0.bool_0;
+    v6.u64_1 = v2.f0.u64_1;
+    v5 = core__AnyInto__into_Command_CommandFields(&v6);
+    v8.tag = v2.f1.tag;
+    v8.bool_0 = v2.f1.bool_0;
+    v8.u64_0 = v2.f1.u64_0;
+    v8.u64_1 = v2.f1.u64_1;
+    v7 = core__AnyInto__into_Output_OutputFields(&v8);
+    result = c2_target_state__encode__state_with(a1, &v3, &v5, &v7);
+    return result;
+}
+
+/* core::AnyInto::into_Target_State */
+INLINED c2_target core__AnyInto__into_Target_State(const c2_target__Target *a1)
+{
+    c2_target result;
+    c2_target__Target v2;
+    v2.f0.tag = a1->f0.tag;
+    v2.f0.u64_0 = a1->f0.u64_0;
+    v2.f0.u64_1 = a1->f0.u64_1;
+    v2.f0.c2_target__Effect_0.tag = a1->f0.c2_target__Effect_0.tag;
+    v2.f0.c2_target__Effect_0.u64_0 = a1->f0.c2_target__Effect_0.u64_0;
+    v2.f1 = a1->f1;
+    v2.f2 = a1->f2;
+    v2.f3.f0 = a1->f3.f0;
+    v2.f3.f1 = a1->f3.f1;
+    v2.f3.f2 = a1->f3.f2;
+    v2.f3.f3.f0 = a1->f3.f3.f0;
+    v2.f3.f3.f1 = a1->f3.f3.f1;
+    v2.f3.f3.f2 = a1->f3.f3.f2;
+    v2.f3.f3.f3 = a1->f3.f3.f3;
+    v2.f3.f4.f0.tag = a1->f3.f4.f0.tag;
+    v2.f3.f4.f0.u64_0 = a1->f3.f4.f0.u64_0;
+    v2.f3.f4.f0.bool_0 = a1->f3.f4.f0.bool_0;
+    v2.f3.f4.f0.u64_1 = a1->f3.f4.f0.u64_1;
+    v2.f3.f4.f1.tag = a1->f3.f4.f1.tag;
+    v2.f3.f4.f1.bool_0 = a1->f3.f4.f1.bool_0;
+    v2.f3.f4.f1.u64_0 = a1->f3.f4.f1.u64_0;
+    v2.f3.f4.f1.u64_1 = a1->f3.f4.f1.u64_1;
+    v2.f3.f4.f2 = a1->f3.f4.f2;
+    v2.f3.f4.f3 = a1->f3.f4.f3;
+    result = c2_target_state__encode__StateFromTarget__from(&v2);
+    return result;
+}
+
+/* core::convert::others::U32FromBool::from */
+INLINED uint32_t core__convert__others__U32FromBool__from(_Bool a1)
+{
+    uint32_t result;
+    result = (uint32_t)a1;
+    return result;
+}
+
+/* core::AnyInto::into_bool_u32 */
+INLINED uint32_t core__AnyInto__into_bool_u32(_Bool a1)
+{
+    uint32_t result;
+    _Bool v2;
+    v2 = a1;
+    result = core__convert__others__U32FromBool__from(v2);
+    return result;
+}
+
+/* c2_target_state::model::accepted */
+static c2_replied c2_target_state__model__accepted(const c2_target *a1, uint8_t a2, _Bool a3,
+    const c2_target__Target *a4)
+{
+    c2_replied result;
+    c2_target v5;
+    _Bool v6;
+    c2_target v7;
+    uint32_t v8;
+    v6 = c2_target_state__model__is_inside(a1->point, a2);
+    if (v6) {
+        v7 = c2_target_state__encode__point_moved(a1, a4);
+    } else {
+        v7 = core__AnyInto__into_Target_State(a4);
+    }
+    v5.place = v7.place;
+    v5.start = v7.start;
+    v5.rest = v7.rest;
+    v5.next = v7.next;
+    v5.count = v7.count;
+    v5.point = v7.point;
+    v5.heard = v7.heard;
+    v5.value = v7.value;
+    v5.left = v7.left;
+    v5.zeros = v7.zeros;
+    v5.effect = v7.effect;
+    v5.byte = v7.byte;
+    v5.collision = v7.collision;
+    v5.address = v7.address;
+    v5.on = v7.on;
+    v5.keys = v7.keys;
+    v5.met1 = v7.met1;
+    v5.met2 = v7.met2;
+    v5.met3 = v7.met3;
+    v5.met4 = v7.met4;
+    v5.command = v7.command;
+    v5.write = v7.write;
+    v5.page = v7.page;
+    v5.high = v7.high;
+    v5.output = v7.output;
+    v5.passed = v7.passed;
+    v5.busy = v7.busy;
+    v5.late = v7.late;
+    v8 = core__AnyInto__into_bool_u32(a3);
+    result.number = UINT32_C(0);
+    result.reply = v8;
+    result.target.place = v5.place;
+    result.target.start = v5.start;
+    result.target.rest = v5.rest;
+    result.target.next = v5.next;
+    result.target.count = v5.count;
+    result.target.point = v5.point;
+    result.target.heard = v5.heard;
+    result.target.value = v5.value;
+    result.target.left = v5.left;
+    result.target.zeros = v5.zeros;
+    result.target.effect = v5.effect;
+    result.target.byte = v5.byte;
+    result.target.collision = v5.collision;
+    result.target.address = v5.address;
+    result.target.on = v5.on;
+    result.target.keys = v5.keys;
+    result.target.met1 = v5.met1;
+    result.target.met2 = v5.met2;
+    result.target.met3 = v5.met3;
+    result.target.met4 = v5.met4;
+    result.target.command = v5.command;
+    result.target.write = v5.write;
+    result.target.page = v5.page;
+    result.target.high = v5.high;
+    result.target.output = v5.output;
+    result.target.passed = v5.passed;
+    result.target.busy = v5.busy;
+    result.target.late = v5.late;
+    return result;
+}
+
+/* numbers::U32FromRefusal::from */
+static uint32_t numbers__U32FromRefusal__from(numbers__Refusal a1)
+{
+    uint32_t result;
+    uint32_t v2;
+    switch (a1) {
+    case 0u:
+        v2 = UINT32_C(1);
+        break;
+    case 1u:
+        v2 = UINT32_C(2);
+        break;
+    case 2u:
+        v2 = UINT32_C(3);
+        break;
+    case 3u:
+        v2 = UINT32_C(4);
+        break;
+    case 4u:
+        v2 = UINT32_C(5);
+        break;
+    case 5u:
+        v2 = UINT32_C(6);
+        break;
+    case 6u:
+        v2 = UINT32_C(7);
+        break;
+    case 7u:
+        v2 = UINT32_C(8);
+        break;
+    case 8u:
+        v2 = UINT32_C(16);
+        break;
+    case 9u:
+        v2 = UINT32_C(17);
+        break;
+    case 10u:
+        v2 = UINT32_C(18);
+        break;
+    case 11u:
+        v2 = UINT32_C(19);
+        break;
+    case 12u:
+        v2 = UINT32_C(20);
+        break;
+    case 13u:
+        v2 = UINT32_C(21);
+        break;
+    case 14u:
+        v2 = UINT32_C(22);
+        break;
+    case 15u:
+        v2 = UINT32_C(23);
+        break;
+    case 16u:
+        v2 = UINT32_C(24);
+        break;
+    case 17u:
+        v2 = UINT32_C(25);
+        break;
+    case 18u:
+        v2 = UINT32_C(26);
+        break;
+    case 19u:
+        v2 = UINT32_C(28);
+        break;
+    case 20u:
+        v2 = UINT32_C(29);
+        break;
+    case 21u:
+        v2 = UINT32_C(30);
+        break;
+    default: /* 22 */
+        v2 = UINT32_C(31);
+        break;
+    }
+    result = v2;
+    return result;
+}
+
+/* core::AnyInto::into_Refusal_u32 */
+INLINED uint32_t core__AnyInto__into_Refusal_u32(numbers__Refusal a1)
+{
+    uint32_t result;
+    numbers__Refusal v2;
+    v2 = a1;
+    result = numbers__U32FromRefusal__from(v2);
+    return result;
+}
+
+/* c2_target_state::model::refused */
+static c2_replied c2_target_state__model__refused(numbers__Refusal a1, const c2_target *a2)
+{
+    c2_replied result;
+    uint32_t v3;
+    v3 = core__AnyInto__into_Refusal_u32(a1);
+    result.number = v3;
+    result.reply = UINT32_C(1);
+    result.target.place = a2->place;
+    result.target.start = a2->start;
+    result.target.rest = a2->rest;
+    result.target.next = a2->next;
+    result.target.count = a2->count;
+    result.target.point = a2->point;
+    result.target.heard = a2->heard;
+    result.target.value = a2->value;
+    result.target.left = a2->left;
+    result.target.zeros = a2->zeros;
+    result.target.effect = a2->effect;
+    result.target.byte = a2->byte;
+    result.target.collision = a2->collision;
+    result.target.address = a2->address;
+    result.target.on = a2->on;
+    result.target.keys = a2->keys;
+    result.target.met1 = a2->met1;
+    result.target.met2 = a2->met2;
+    result.target.met3 = a2->met3;
+    result.target.met4 = a2->met4;
+    result.target.command = a2->command;
+    result.target.write = a2->write;
+    result.target.page = a2->page;
+    result.target.high = a2->high;
+    result.target.output = a2->output;
+    result.target.passed = a2->passed;
+    result.target.busy = a2->busy;
+    result.target.late = a2->late;
+    return result;
+}
+
 /* c2_target_known::flash_size */
 static uint64_t c2_target_known__flash_size(uint32_t a1, uint32_t a2)
 {
@@ -1610,7 +2320,7 @@ static uint64_t c2_target_known__flash_size(uint32_t a1, uint32_t a2)
 }
 
 /* core::cmp::Ordering::is_le */
-static _Bool core__cmp__Ordering__is_le(core__cmp__Ordering a1)
+INLINED _Bool core__cmp__Ordering__is_le(core__cmp__Ordering a1)
 {
     _Bool result;
     _Bool v2;
@@ -1630,7 +2340,7 @@ static _Bool core__cmp__Ordering__is_le(core__cmp__Ordering a1)
 }
 
 /* core::cmp::numbers::UsizeOrd::cmp */
-static core__cmp__Ordering core__cmp__numbers__UsizeOrd__cmp(const uint64_t *a1, const uint64_t *a2)
+INLINED core__cmp__Ordering core__cmp__numbers__UsizeOrd__cmp(const uint64_t *a1, const uint64_t *a2)
 {
     core__cmp__Ordering result;
     uint64_t v3;
@@ -1662,7 +2372,7 @@ static core__cmp__Ordering core__cmp__numbers__UsizeOrd__cmp(const uint64_t *a1,
 }
 
 /* core::cmp::numbers::UsizePartialOrd::partial_cmp */
-static core__Option_Ordering core__cmp__numbers__UsizePartialOrd__partial_cmp(const uint64_t *a1,
+INLINED core__Option_Ordering core__cmp__numbers__UsizePartialOrd__partial_cmp(const uint64_t *a1,
     const uint64_t *a2)
 {
     core__Option_Ordering result;
@@ -1674,7 +2384,7 @@ static core__Option_Ordering core__cmp__numbers__UsizePartialOrd__partial_cmp(co
 }
 
 /* core::PartialOrd::le_u64 */
-static _Bool core__PartialOrd__le_u64(const uint64_t *a1, const uint64_t *a2)
+INLINED _Bool core__PartialOrd__le_u64(const uint64_t *a1, const uint64_t *a2)
 {
     _Bool result;
     core__cmp__Ordering v3;
@@ -1695,7 +2405,7 @@ static _Bool core__PartialOrd__le_u64(const uint64_t *a1, const uint64_t *a2)
 }
 
 /* core::cmp::Ordering::is_lt */
-static _Bool core__cmp__Ordering__is_lt(core__cmp__Ordering a1)
+INLINED _Bool core__cmp__Ordering__is_lt(core__cmp__Ordering a1)
 {
     _Bool result;
     _Bool v2;
@@ -1715,7 +2425,7 @@ static _Bool core__cmp__Ordering__is_lt(core__cmp__Ordering a1)
 }
 
 /* core::PartialOrd::lt_u64 */
-static _Bool core__PartialOrd__lt_u64(const uint64_t *a1, const uint64_t *a2)
+INLINED _Bool core__PartialOrd__lt_u64(const uint64_t *a1, const uint64_t *a2)
 {
     _Bool result;
     core__cmp__Ordering v3;
@@ -1736,7 +2446,7 @@ static _Bool core__PartialOrd__lt_u64(const uint64_t *a1, const uint64_t *a2)
 }
 
 /* core::RangeInclusive::contains_u64 */
-static _Bool core__RangeInclusive__contains_u64(const core__RangeInclusive_u64 *a1, const uint64_t *a2)
+INLINED _Bool core__RangeInclusive__contains_u64(const core__RangeInclusive_u64 *a1, const uint64_t *a2)
 {
     _Bool result;
     _Bool v3;
@@ -1765,7 +2475,7 @@ static _Bool core__RangeInclusive__contains_u64(const core__RangeInclusive_u64 *
 }
 
 /* core::RangeInclusive::new_u64 */
-static core__RangeInclusive_u64 core__RangeInclusive__new_u64(uint64_t a1, uint64_t a2)
+INLINED core__RangeInclusive_u64 core__RangeInclusive__new_u64(uint64_t a1, uint64_t a2)
 {
     core__RangeInclusive_u64 result;
     uint64_t v3;
@@ -2037,7 +2747,7 @@ static _Bool c2_target_known__known_effect(const c2_target__Effect *a1)
 }
 
 /* core::int::usize::saturating_sub */
-static uint64_t core__int__usize__saturating_sub(uint64_t a1, uint64_t a2)
+INLINED uint64_t core__int__usize__saturating_sub(uint64_t a1, uint64_t a2)
 {
     uint64_t result;
     _Bool v3;
@@ -2269,7 +2979,7 @@ static _Bool c2_target_step__steps__is_step(uint8_t a1)
 }
 
 /* core::AnyFrom::from_Refusal */
-static numbers__Refusal core__AnyFrom__from_Refusal(numbers__Refusal a1)
+INLINED numbers__Refusal core__AnyFrom__from_Refusal(numbers__Refusal a1)
 {
     numbers__Refusal result;
     result = a1;
@@ -2277,7 +2987,7 @@ static numbers__Refusal core__AnyFrom__from_Refusal(numbers__Refusal a1)
 }
 
 /* core::ResultFromResidualErrResidual::from_residua_45a805 */
-static core__Result_unit_Refusal core__ResultFromResidualErrResidual__from_residua_45a805(
+INLINED core__Result_unit_Refusal core__ResultFromResidualErrResidual__from_residua_45a805(
     const core__ErrResidual_Refusal *a1)
 {
     core__Result_unit_Refusal result;
@@ -2291,7 +3001,7 @@ static core__Result_unit_Refusal core__ResultFromResidualErrResidual__from_resid
 }
 
 /* core::ResultTry::branch_unit_Refusal */
-static core__ControlFlow_ErrResidual_Refusal_unit core__ResultTry__branch_unit_Refusal(
+INLINED core__ControlFlow_ErrResidual_Refusal_unit core__ResultTry__branch_unit_Refusal(
     const core__Result_unit_Refusal *a1)
 {
     core__ControlFlow_ErrResidual_Refusal_unit result;
@@ -2318,7 +3028,7 @@ static core__ControlFlow_ErrResidual_Refusal_unit core__ResultTry__branch_unit_R
 }
 
 /* core::slice_T::is_empty_u8 */
-static _Bool core__slice_T__is_empty_u8(slice_u8 a1)
+INLINED _Bool core__slice_T__is_empty_u8(slice_u8 a1)
 {
     _Bool result;
     uint64_t v2;
@@ -2328,7 +3038,7 @@ static _Bool core__slice_T__is_empty_u8(slice_u8 a1)
 }
 
 /* core::IterIterator::next_u8 */
-static core__Option_ref_u8 core__IterIterator__next_u8(core__Iter_u8 *a1)
+INLINED core__Option_ref_u8 core__IterIterator__next_u8(core__Iter_u8 *a1)
 {
     core__Option_ref_u8 result;
     slice_u8 v2;
@@ -2365,7 +3075,7 @@ static core__Option_ref_u8 core__IterIterator__next_u8(core__Iter_u8 *a1)
 }
 
 /* settings::registers::fn::are_registers::all */
-static _Bool settings__registers__fn__are_registers__all(settings__all_Self_ref_u8 *a1, const uint8_t *a2)
+INLINED _Bool settings__registers__fn__are_registers__all(settings__all_Self_ref_u8 *a1, const uint8_t *a2)
 {
     _Bool result;
     const uint8_t *v3;
@@ -2386,7 +3096,7 @@ static _Bool settings__registers__fn__are_registers__all(settings__all_Self_ref_
 }
 
 /* settings::registers::fn::are_registers::all_FnMut::call_mut */
-static _Bool settings__registers__fn__are_registers__all_FnMut__call_mut(settings__all_Self_ref_u8 *a1,
+INLINED _Bool settings__registers__fn__are_registers__all_FnMut__call_mut(settings__all_Self_ref_u8 *a1,
     const uint8_t *a2)
 {
     _Bool result;
@@ -2397,7 +3107,7 @@ static _Bool settings__registers__fn__are_registers__all_FnMut__call_mut(setting
 }
 
 /* core::Iterator::all_Iter_u8_ref_u8_are_registers_f5c56d */
-static _Bool core__Iterator__all_Iter_u8_ref_u8_are_registers_f5c56d(core__Iter_u8 *a1,
+INLINED _Bool core__Iterator__all_Iter_u8_ref_u8_are_registers_f5c56d(core__Iter_u8 *a1,
     const settings__all_Self_ref_u8 *a2)
 {
     _Bool result;
@@ -2435,7 +3145,7 @@ static _Bool core__Iterator__all_Iter_u8_ref_u8_are_registers_f5c56d(core__Iter_
 }
 
 /* core::slice_T::iter_u8 */
-static core__Iter_u8 core__slice_T__iter_u8(slice_u8 a1)
+INLINED core__Iter_u8 core__slice_T__iter_u8(slice_u8 a1)
 {
     core__Iter_u8 result;
     result.f0.at = a1.at;
@@ -2464,8 +3174,8 @@ static _Bool settings__registers__are_registers(uint8_t a1, slice_u8 a2)
     return result;
 }
 
-/* settings::registers::are_pairs */
-static _Bool settings__registers__are_pairs(uint8_t a1, const c2_pairs *a2)
+/* settings::registers::entries_fit */
+static _Bool settings__registers__entries_fit(uint8_t a1, const c2_pairs *a2)
 {
     _Bool result;
     c2_pairs v3;
@@ -2493,6 +3203,19 @@ static _Bool settings__registers__are_pairs(uint8_t a1, const c2_pairs *a2)
         v6 = settings__registers__are_registers(a1, v8);
     }
     result = v6;
+    return result;
+}
+
+/* settings::registers::are_pairs */
+static _Bool settings__registers__are_pairs(uint8_t a1, const c2_pairs *a2)
+{
+    _Bool result;
+    _Bool v3;
+    v3 = a2->count == 0u;
+    if (!v3) {
+        v3 = settings__registers__entries_fit(a1, a2);
+    }
+    result = v3;
     return result;
 }
 
@@ -2957,7 +3680,7 @@ static c2_target__Turned c2_target_step__steps__still(const c2_target__Target *a
 }
 
 /* core::clone::U8Clone::clone */
-static core__Result_u8_AllocError core__clone__U8Clone__clone(const uint8_t *a1)
+INLINED core__Result_u8_AllocError core__clone__U8Clone__clone(const uint8_t *a1)
 {
     core__Result_u8_AllocError result;
     uint8_t v2;
@@ -2968,7 +3691,7 @@ static core__Result_u8_AllocError core__clone__U8Clone__clone(const uint8_t *a1)
 }
 
 /* core::clone::surely_u8 */
-static uint8_t core__clone__surely_u8(const uint8_t *a1)
+INLINED uint8_t core__clone__surely_u8(const uint8_t *a1)
 {
     uint8_t result;
     uint8_t v2;
@@ -2986,7 +3709,7 @@ static uint8_t core__clone__surely_u8(const uint8_t *a1)
 }
 
 /* core::slice_T::fill_u8 */
-static void core__slice_T__fill_u8(slice_mut_u8 a1, uint8_t a2)
+INLINED void core__slice_T__fill_u8(slice_mut_u8 a1, uint8_t a2)
 {
     uint8_t v3;
     uint64_t v4;
@@ -3359,7 +4082,7 @@ static _Bool c2_target_step__interface__out_ready(const c2_target__Link *a1)
 }
 
 /* core::convert::others::UsizeFromBool::from */
-static uint64_t core__convert__others__UsizeFromBool__from(_Bool a1)
+INLINED uint64_t core__convert__others__UsizeFromBool__from(_Bool a1)
 {
     uint64_t result;
     result = (uint64_t)a1;
@@ -3589,7 +4312,7 @@ static c2_target__Point c2_target_step__strobes__after_read_length(uint64_t a1, 
 }
 
 /* core::UsizeSliceIndexRefSlice::pick_u8 */
-static core__Option_ref_u8 core__UsizeSliceIndexRefSlice__pick_u8(uint64_t a1, slice_u8 a2)
+INLINED core__Option_ref_u8 core__UsizeSliceIndexRefSlice__pick_u8(uint64_t a1, slice_u8 a2)
 {
     core__Option_ref_u8 result;
     uint64_t v3;
@@ -3616,7 +4339,7 @@ static core__Option_ref_u8 core__UsizeSliceIndexRefSlice__pick_u8(uint64_t a1, s
 }
 
 /* core::slice_T::get_u8_u64_ref_u8 */
-static core__Option_ref_u8 core__slice_T__get_u8_u64_ref_u8(slice_u8 a1, uint64_t a2)
+INLINED core__Option_ref_u8 core__slice_T__get_u8_u64_ref_u8(slice_u8 a1, uint64_t a2)
 {
     core__Option_ref_u8 result;
     uint64_t v3;
@@ -3834,7 +4557,7 @@ static c2_target__Point c2_target_step__strobes__after_write_length(uint64_t a1,
 }
 
 /* core::Option::or_ref_u8 */
-static core__Option_ref_u8 core__Option__or_ref_u8(const core__Option_ref_u8 *a1,
+INLINED core__Option_ref_u8 core__Option__or_ref_u8(const core__Option_ref_u8 *a1,
     const core__Option_ref_u8 *a2)
 {
     core__Option_ref_u8 result;
@@ -3865,7 +4588,7 @@ static core__Option_ref_u8 core__Option__or_ref_u8(const core__Option_ref_u8 *a1
 }
 
 /* core::slice_T::first_u8 */
-static core__Option_ref_u8 core__slice_T__first_u8(slice_u8 a1)
+INLINED core__Option_ref_u8 core__slice_T__first_u8(slice_u8 a1)
 {
     core__Option_ref_u8 result;
     result = core__slice_T__get_u8_u64_ref_u8(a1, UINT64_C(0));
@@ -4035,8 +4758,7 @@ static c2_target__Turned c2_target_step__strobes__begins_wait(const c2_target__T
     c2_settings v13;
     c2_target__Device v14;
     _Bool v15;
-    slice_u8 v16;
-    c2_target__Device v17;
+    c2_target__Device v16;
     v10.at = a2->f2.at;
     v10.length = a2->f2.length;
     v9 = c2_target_step__delays__delay(v10, a1->f1);
@@ -4076,27 +4798,27 @@ static c2_target__Turned c2_target_step__strobes__begins_wait(const c2_target__T
     v14.f4.f3 = a1->f3.f4.f3;
     v8 = c2_target_step__strobes__after_wait(&v13, v7, a3, a4, &v14, a5);
     v15 = v7 == UINT64_C(0);
-    v16.at = a2->f2.at;
-    v16.length = a2->f2.length;
-    v9 = c2_target_step__delays__next_place(v16, a1->f1);
-    v17.f0 = a1->f3.f0;
-    v17.f1 = a1->f3.f1;
-    v17.f2 = a1->f3.f2;
-    v17.f3.f0 = a1->f3.f3.f0;
-    v17.f3.f1 = a1->f3.f3.f1;
-    v17.f3.f2 = a1->f3.f3.f2;
-    v17.f3.f3 = a1->f3.f3.f3;
-    v17.f4.f0.tag = a1->f3.f4.f0.tag;
-    v17.f4.f0.u64_0 = a1->f3.f4.f0.u64_0;
-    v17.f4.f0.bool_0 = a1->f3.f4.f0.bool_0;
-    v17.f4.f0.u64_1 = a1->f3.f4.f0.u64_1;
-    v17.f4.f1.tag = a1->f3.f4.f1.tag;
-    v17.f4.f1.bool_0 = a1->f3.f4.f1.bool_0;
-    v17.f4.f1.u64_0 = a1->f3.f4.f1.u64_0;
-    v17.f4.f1.u64_1 = a1->f3.f4.f1.u64_1;
-    v17.f4.f2 = a1->f3.f4.f2;
-    v17.f4.f3 = a1->f3.f4.f3;
-    result = c2_target_step__strobes__shows(a1, v15, a6, &v8, v9, &v17);
+    v10.at = a2->f2.at;
+    v10.length = a2->f2.length;
+    v9 = c2_target_step__delays__next_place(v10, a1->f1);
+    v16.f0 = a1->f3.f0;
+    v16.f1 = a1->f3.f1;
+    v16.f2 = a1->f3.f2;
+    v16.f3.f0 = a1->f3.f3.f0;
+    v16.f3.f1 = a1->f3.f3.f1;
+    v16.f3.f2 = a1->f3.f3.f2;
+    v16.f3.f3 = a1->f3.f3.f3;
+    v16.f4.f0.tag = a1->f3.f4.f0.tag;
+    v16.f4.f0.u64_0 = a1->f3.f4.f0.u64_0;
+    v16.f4.f0.bool_0 = a1->f3.f4.f0.bool_0;
+    v16.f4.f0.u64_1 = a1->f3.f4.f0.u64_1;
+    v16.f4.f1.tag = a1->f3.f4.f1.tag;
+    v16.f4.f1.bool_0 = a1->f3.f4.f1.bool_0;
+    v16.f4.f1.u64_0 = a1->f3.f4.f1.u64_0;
+    v16.f4.f1.u64_1 = a1->f3.f4.f1.u64_1;
+    v16.f4.f2 = a1->f3.f4.f2;
+    v16.f4.f3 = a1->f3.f4.f3;
+    result = c2_target_step__strobes__shows(a1, v15, a6, &v8, v9, &v16);
     return result;
 }
 
@@ -5040,7 +5762,7 @@ static core__tuple_Command_Output c2_target_step__commands__past_end_taken(uint6
 }
 
 /* core::convert::U32FromU8::from */
-static uint32_t core__convert__U32FromU8__from(uint8_t a1)
+INLINED uint32_t core__convert__U32FromU8__from(uint8_t a1)
 {
     uint32_t result;
     result = (uint32_t)a1;
@@ -5226,7 +5948,6 @@ static c2_target__Target c2_target_step__interface__puts(const c2_target__Target
     slice_u8 v13;
     uint64_t v14;
     slice_u8 v15;
-    slice_u8 v16;
     v9.count = a2->f1.count;
     v9.registers[0] = a2->f1.registers[0];
     v9.registers[1] = a2->f1.registers[1];
@@ -5263,12 +5984,12 @@ static c2_target__Target c2_target_step__interface__puts(const c2_target__Target
     v13.at = a2->f2.at;
     v13.length = a2->f2.length;
     v8 = c2_target_step__delays__next_place(v13, a1->f1);
+    v13.at = a2->f2.at;
+    v13.length = a2->f2.length;
+    v14 = c2_target_step__delays__delay(v13, a1->f1);
     v15.at = a2->f2.at;
     v15.length = a2->f2.length;
-    v14 = c2_target_step__delays__delay(v15, a1->f1);
-    v16.at = a2->f2.at;
-    v16.length = a2->f2.length;
-    result = c2_target_step__interface__awaits(a1, a3, &v7, v14, v8, v16);
+    result = c2_target_step__interface__awaits(a1, a3, &v7, v14, v8, v15);
     return result;
 }
 
@@ -5397,14 +6118,13 @@ static c2_target__Target c2_target_step__interface__writes(const c2_target__Targ
     _Bool v8;
     c2_settings v9;
     c2_target__Target v10;
-    c2_target_step__Lent v11;
-    c2_pairs v12;
-    uint64_t v13;
-    c2_target__Met v14;
-    uint64_t v15;
-    _Bool v16;
-    c2_target__Link v17;
-    c2_target__Device v18;
+    c2_pairs v11;
+    uint64_t v12;
+    c2_target__Met v13;
+    uint64_t v14;
+    _Bool v15;
+    c2_target__Link v16;
+    c2_target__Device v17;
     v5.f0 = a1->f3.f0;
     v5.f1 = a1->f3.f1;
     v5.f2 = a1->f3.f2;
@@ -5439,78 +6159,53 @@ static c2_target__Target c2_target_step__interface__writes(const c2_target__Targ
     v9.pairs.values[3] = a2->f0.pairs.values[3];
     v8 = c2_target_step__interface__linked(&v5, &v9);
     if (v8) {
-        v11.f0.device_id = a2->f0.device_id;
-        v11.f0.fpdat = a2->f0.fpdat;
-        v11.f0.page_size = a2->f0.page_size;
-        v11.f0.page_count = a2->f0.page_count;
-        v11.f0.wait_limit = a2->f0.wait_limit;
-        v11.f0.pairs.count = a2->f0.pairs.count;
-        v11.f0.pairs.registers[0] = a2->f0.pairs.registers[0];
-        v11.f0.pairs.registers[1] = a2->f0.pairs.registers[1];
-        v11.f0.pairs.registers[2] = a2->f0.pairs.registers[2];
-        v11.f0.pairs.registers[3] = a2->f0.pairs.registers[3];
-        v11.f0.pairs.values[0] = a2->f0.pairs.values[0];
-        v11.f0.pairs.values[1] = a2->f0.pairs.values[1];
-        v11.f0.pairs.values[2] = a2->f0.pairs.values[2];
-        v11.f0.pairs.values[3] = a2->f0.pairs.values[3];
-        v11.f1.count = a2->f1.count;
-        v11.f1.registers[0] = a2->f1.registers[0];
-        v11.f1.registers[1] = a2->f1.registers[1];
-        v11.f1.registers[2] = a2->f1.registers[2];
-        v11.f1.registers[3] = a2->f1.registers[3];
-        v11.f1.values[0] = a2->f1.values[0];
-        v11.f1.values[1] = a2->f1.values[1];
-        v11.f1.values[2] = a2->f1.values[2];
-        v11.f1.values[3] = a2->f1.values[3];
-        v11.f2.at = a2->f2.at;
-        v11.f2.length = a2->f2.length;
-        v10 = c2_target_step__interface__puts(a1, &v11, v6, a3, a4);
+        v10 = c2_target_step__interface__puts(a1, a2, v6, a3, a4);
     } else {
-        v12.count = a2->f1.count;
-        v12.registers[0] = a2->f1.registers[0];
-        v12.registers[1] = a2->f1.registers[1];
-        v12.registers[2] = a2->f1.registers[2];
-        v12.registers[3] = a2->f1.registers[3];
-        v12.values[0] = a2->f1.values[0];
-        v12.values[1] = a2->f1.values[1];
-        v12.values[2] = a2->f1.values[2];
-        v12.values[3] = a2->f1.values[3];
-        v13 = core__convert__UsizeFromU8__from(a3);
-        v14.f0 = v5.f3.f0;
-        v14.f1 = v5.f3.f1;
-        v14.f2 = v5.f3.f2;
-        v14.f3 = v5.f3.f3;
-        v7 = c2_target_wanted__met_written(&v12, v5.f0, v13, &v14);
-        v15 = v5.f0;
-        v16 = v5.f1;
-        v17.f0.tag = v5.f4.f0.tag;
-        v17.f0.u64_0 = v5.f4.f0.u64_0;
-        v17.f0.bool_0 = v5.f4.f0.bool_0;
-        v17.f0.u64_1 = v5.f4.f0.u64_1;
-        v17.f1.tag = v5.f4.f1.tag;
-        v17.f1.bool_0 = v5.f4.f1.bool_0;
-        v17.f1.u64_0 = v5.f4.f1.u64_0;
-        v17.f1.u64_1 = v5.f4.f1.u64_1;
-        v17.f2 = v5.f4.f2;
-        v17.f3 = v5.f4.f3;
-        v18.f0 = v15;
-        v18.f1 = v16;
-        v18.f2 = v6;
-        v18.f3.f0 = v7.f0;
-        v18.f3.f1 = v7.f1;
-        v18.f3.f2 = v7.f2;
-        v18.f3.f3 = v7.f3;
-        v18.f4.f0.tag = v17.f0.tag;
-        v18.f4.f0.u64_0 = v17.f0.u64_0;
-        v18.f4.f0.bool_0 = v17.f0.bool_0;
-        v18.f4.f0.u64_1 = v17.f0.u64_1;
-        v18.f4.f1.tag = v17.f1.tag;
-        v18.f4.f1.bool_0 = v17.f1.bool_0;
-        v18.f4.f1.u64_0 = v17.f1.u64_0;
-        v18.f4.f1.u64_1 = v17.f1.u64_1;
-        v18.f4.f2 = v17.f2;
-        v18.f4.f3 = v17.f3;
-        v10 = c2_target_step__interface__idle(a1, a1->f1, &v18);
+        v11.count = a2->f1.count;
+        v11.registers[0] = a2->f1.registers[0];
+        v11.registers[1] = a2->f1.registers[1];
+        v11.registers[2] = a2->f1.registers[2];
+        v11.registers[3] = a2->f1.registers[3];
+        v11.values[0] = a2->f1.values[0];
+        v11.values[1] = a2->f1.values[1];
+        v11.values[2] = a2->f1.values[2];
+        v11.values[3] = a2->f1.values[3];
+        v12 = core__convert__UsizeFromU8__from(a3);
+        v13.f0 = v5.f3.f0;
+        v13.f1 = v5.f3.f1;
+        v13.f2 = v5.f3.f2;
+        v13.f3 = v5.f3.f3;
+        v7 = c2_target_wanted__met_written(&v11, v5.f0, v12, &v13);
+        v14 = v5.f0;
+        v15 = v5.f1;
+        v16.f0.tag = v5.f4.f0.tag;
+        v16.f0.u64_0 = v5.f4.f0.u64_0;
+        v16.f0.bool_0 = v5.f4.f0.bool_0;
+        v16.f0.u64_1 = v5.f4.f0.u64_1;
+        v16.f1.tag = v5.f4.f1.tag;
+        v16.f1.bool_0 = v5.f4.f1.bool_0;
+        v16.f1.u64_0 = v5.f4.f1.u64_0;
+        v16.f1.u64_1 = v5.f4.f1.u64_1;
+        v16.f2 = v5.f4.f2;
+        v16.f3 = v5.f4.f3;
+        v17.f0 = v14;
+        v17.f1 = v15;
+        v17.f2 = v6;
+        v17.f3.f0 = v7.f0;
+        v17.f3.f1 = v7.f1;
+        v17.f3.f2 = v7.f2;
+        v17.f3.f3 = v7.f3;
+        v17.f4.f0.tag = v16.f0.tag;
+        v17.f4.f0.u64_0 = v16.f0.u64_0;
+        v17.f4.f0.bool_0 = v16.f0.bool_0;
+        v17.f4.f0.u64_1 = v16.f0.u64_1;
+        v17.f4.f1.tag = v16.f1.tag;
+        v17.f4.f1.bool_0 = v16.f1.bool_0;
+        v17.f4.f1.u64_0 = v16.f1.u64_0;
+        v17.f4.f1.u64_1 = v16.f1.u64_1;
+        v17.f4.f2 = v16.f2;
+        v17.f4.f3 = v16.f3;
+        v10 = c2_target_step__interface__idle(a1, a1->f1, &v17);
     }
     result.f0.tag = v10.f0.tag;
     result.f0.u64_0 = v10.f0.u64_0;
@@ -5553,10 +6248,8 @@ static c2_target__Target c2_target_step__interface__does(const c2_target__Target
     c2_target__Met v11;
     c2_target__Link v12;
     c2_target__Device v13;
-    c2_target_step__Lent v14;
-    uint8_t v15;
-    c2_settings v16;
-    c2_target_step__Lent v17;
+    uint8_t v14;
+    c2_settings v15;
     switch (a3->tag) {
     case 0u:
         v8.f0 = a1->f3.f0;
@@ -5617,78 +6310,28 @@ static c2_target__Target c2_target_step__interface__does(const c2_target__Target
         break;
     case 2u:
         v6 = a3->u64_0;
-        v14.f0.device_id = a2->f0.device_id;
-        v14.f0.fpdat = a2->f0.fpdat;
-        v14.f0.page_size = a2->f0.page_size;
-        v14.f0.page_count = a2->f0.page_count;
-        v14.f0.wait_limit = a2->f0.wait_limit;
-        v14.f0.pairs.count = a2->f0.pairs.count;
-        v14.f0.pairs.registers[0] = a2->f0.pairs.registers[0];
-        v14.f0.pairs.registers[1] = a2->f0.pairs.registers[1];
-        v14.f0.pairs.registers[2] = a2->f0.pairs.registers[2];
-        v14.f0.pairs.registers[3] = a2->f0.pairs.registers[3];
-        v14.f0.pairs.values[0] = a2->f0.pairs.values[0];
-        v14.f0.pairs.values[1] = a2->f0.pairs.values[1];
-        v14.f0.pairs.values[2] = a2->f0.pairs.values[2];
-        v14.f0.pairs.values[3] = a2->f0.pairs.values[3];
-        v14.f1.count = a2->f1.count;
-        v14.f1.registers[0] = a2->f1.registers[0];
-        v14.f1.registers[1] = a2->f1.registers[1];
-        v14.f1.registers[2] = a2->f1.registers[2];
-        v14.f1.registers[3] = a2->f1.registers[3];
-        v14.f1.values[0] = a2->f1.values[0];
-        v14.f1.values[1] = a2->f1.values[1];
-        v14.f1.values[2] = a2->f1.values[2];
-        v14.f1.values[3] = a2->f1.values[3];
-        v14.f2.at = a2->f2.at;
-        v14.f2.length = a2->f2.length;
-        v15 = (uint8_t)v6;
-        v7 = c2_target_step__interface__writes(a1, &v14, v15, a4);
+        v14 = (uint8_t)v6;
+        v7 = c2_target_step__interface__writes(a1, a2, v14, a4);
         break;
     case 3u:
-        v16.device_id = a2->f0.device_id;
-        v16.fpdat = a2->f0.fpdat;
-        v16.page_size = a2->f0.page_size;
-        v16.page_count = a2->f0.page_count;
-        v16.wait_limit = a2->f0.wait_limit;
-        v16.pairs.count = a2->f0.pairs.count;
-        v16.pairs.registers[0] = a2->f0.pairs.registers[0];
-        v16.pairs.registers[1] = a2->f0.pairs.registers[1];
-        v16.pairs.registers[2] = a2->f0.pairs.registers[2];
-        v16.pairs.registers[3] = a2->f0.pairs.registers[3];
-        v16.pairs.values[0] = a2->f0.pairs.values[0];
-        v16.pairs.values[1] = a2->f0.pairs.values[1];
-        v16.pairs.values[2] = a2->f0.pairs.values[2];
-        v16.pairs.values[3] = a2->f0.pairs.values[3];
-        v7 = c2_target_step__interface__counts_down(a1, &v16);
+        v15.device_id = a2->f0.device_id;
+        v15.fpdat = a2->f0.fpdat;
+        v15.page_size = a2->f0.page_size;
+        v15.page_count = a2->f0.page_count;
+        v15.wait_limit = a2->f0.wait_limit;
+        v15.pairs.count = a2->f0.pairs.count;
+        v15.pairs.registers[0] = a2->f0.pairs.registers[0];
+        v15.pairs.registers[1] = a2->f0.pairs.registers[1];
+        v15.pairs.registers[2] = a2->f0.pairs.registers[2];
+        v15.pairs.registers[3] = a2->f0.pairs.registers[3];
+        v15.pairs.values[0] = a2->f0.pairs.values[0];
+        v15.pairs.values[1] = a2->f0.pairs.values[1];
+        v15.pairs.values[2] = a2->f0.pairs.values[2];
+        v15.pairs.values[3] = a2->f0.pairs.values[3];
+        v7 = c2_target_step__interface__counts_down(a1, &v15);
         break;
     default: /* 4 */
-        v17.f0.device_id = a2->f0.device_id;
-        v17.f0.fpdat = a2->f0.fpdat;
-        v17.f0.page_size = a2->f0.page_size;
-        v17.f0.page_count = a2->f0.page_count;
-        v17.f0.wait_limit = a2->f0.wait_limit;
-        v17.f0.pairs.count = a2->f0.pairs.count;
-        v17.f0.pairs.registers[0] = a2->f0.pairs.registers[0];
-        v17.f0.pairs.registers[1] = a2->f0.pairs.registers[1];
-        v17.f0.pairs.registers[2] = a2->f0.pairs.registers[2];
-        v17.f0.pairs.registers[3] = a2->f0.pairs.registers[3];
-        v17.f0.pairs.values[0] = a2->f0.pairs.values[0];
-        v17.f0.pairs.values[1] = a2->f0.pairs.values[1];
-        v17.f0.pairs.values[2] = a2->f0.pairs.values[2];
-        v17.f0.pairs.values[3] = a2->f0.pairs.values[3];
-        v17.f1.count = a2->f1.count;
-        v17.f1.registers[0] = a2->f1.registers[0];
-        v17.f1.registers[1] = a2->f1.registers[1];
-        v17.f1.registers[2] = a2->f1.registers[2];
-        v17.f1.registers[3] = a2->f1.registers[3];
-        v17.f1.values[0] = a2->f1.values[0];
-        v17.f1.values[1] = a2->f1.values[1];
-        v17.f1.values[2] = a2->f1.values[2];
-        v17.f1.values[3] = a2->f1.values[3];
-        v17.f2.at = a2->f2.at;
-        v17.f2.length = a2->f2.length;
-        v7 = c2_target_step__interface__reads(a1, &v17, a4);
+        v7 = c2_target_step__interface__reads(a1, a2, a4);
         break;
     }
     result.f0.tag = v7.f0.tag;
@@ -5724,58 +6367,32 @@ static c2_target__Turned c2_target_step__strobes__stops(const c2_target__Target 
 {
     c2_target__Turned result;
     c2_target__Target v6;
-    c2_target_step__Lent v7;
-    c2_target__Point v8;
-    c2_target__Device v9;
-    v7.f0.device_id = a2->f0.device_id;
-    v7.f0.fpdat = a2->f0.fpdat;
-    v7.f0.page_size = a2->f0.page_size;
-    v7.f0.page_count = a2->f0.page_count;
-    v7.f0.wait_limit = a2->f0.wait_limit;
-    v7.f0.pairs.count = a2->f0.pairs.count;
-    v7.f0.pairs.registers[0] = a2->f0.pairs.registers[0];
-    v7.f0.pairs.registers[1] = a2->f0.pairs.registers[1];
-    v7.f0.pairs.registers[2] = a2->f0.pairs.registers[2];
-    v7.f0.pairs.registers[3] = a2->f0.pairs.registers[3];
-    v7.f0.pairs.values[0] = a2->f0.pairs.values[0];
-    v7.f0.pairs.values[1] = a2->f0.pairs.values[1];
-    v7.f0.pairs.values[2] = a2->f0.pairs.values[2];
-    v7.f0.pairs.values[3] = a2->f0.pairs.values[3];
-    v7.f1.count = a2->f1.count;
-    v7.f1.registers[0] = a2->f1.registers[0];
-    v7.f1.registers[1] = a2->f1.registers[1];
-    v7.f1.registers[2] = a2->f1.registers[2];
-    v7.f1.registers[3] = a2->f1.registers[3];
-    v7.f1.values[0] = a2->f1.values[0];
-    v7.f1.values[1] = a2->f1.values[1];
-    v7.f1.values[2] = a2->f1.values[2];
-    v7.f1.values[3] = a2->f1.values[3];
-    v7.f2.at = a2->f2.at;
-    v7.f2.length = a2->f2.length;
-    v6 = c2_target_step__interface__does(a1, &v7, a3, a4);
-    v8.tag = 0u;
-    v8.u64_0 = 0;
-    v8.u64_1 = 0;
-    v8.c2_target__Effect_0.tag = 0;
-    v8.c2_target__Effect_0.u64_0 = 0;
-    v9.f0 = v6.f3.f0;
-    v9.f1 = v6.f3.f1;
-    v9.f2 = v6.f3.f2;
-    v9.f3.f0 = v6.f3.f3.f0;
-    v9.f3.f1 = v6.f3.f3.f1;
-    v9.f3.f2 = v6.f3.f3.f2;
-    v9.f3.f3 = v6.f3.f3.f3;
-    v9.f4.f0.tag = v6.f3.f4.f0.tag;
-    v9.f4.f0.u64_0 = v6.f3.f4.f0.u64_0;
-    v9.f4.f0.bool_0 = v6.f3.f4.f0.bool_0;
-    v9.f4.f0.u64_1 = v6.f3.f4.f0.u64_1;
-    v9.f4.f1.tag = v6.f3.f4.f1.tag;
-    v9.f4.f1.bool_0 = v6.f3.f4.f1.bool_0;
-    v9.f4.f1.u64_0 = v6.f3.f4.f1.u64_0;
-    v9.f4.f1.u64_1 = v6.f3.f4.f1.u64_1;
-    v9.f4.f2 = v6.f3.f4.f2;
-    v9.f4.f3 = v6.f3.f4.f3;
-    result = c2_target_step__strobes__shows(a1, 1, a5, &v8, v6.f1, &v9);
+    c2_target__Point v7;
+    c2_target__Device v8;
+    v6 = c2_target_step__interface__does(a1, a2, a3, a4);
+    v7.tag = 0u;
+    v7.u64_0 = 0;
+    v7.u64_1 = 0;
+    v7.c2_target__Effect_0.tag = 0;
+    v7.c2_target__Effect_0.u64_0 = 0;
+    v8.f0 = v6.f3.f0;
+    v8.f1 = v6.f3.f1;
+    v8.f2 = v6.f3.f2;
+    v8.f3.f0 = v6.f3.f3.f0;
+    v8.f3.f1 = v6.f3.f3.f1;
+    v8.f3.f2 = v6.f3.f3.f2;
+    v8.f3.f3 = v6.f3.f3.f3;
+    v8.f4.f0.tag = v6.f3.f4.f0.tag;
+    v8.f4.f0.u64_0 = v6.f3.f4.f0.u64_0;
+    v8.f4.f0.bool_0 = v6.f3.f4.f0.bool_0;
+    v8.f4.f0.u64_1 = v6.f3.f4.f0.u64_1;
+    v8.f4.f1.tag = v6.f3.f4.f1.tag;
+    v8.f4.f1.bool_0 = v6.f3.f4.f1.bool_0;
+    v8.f4.f1.u64_0 = v6.f3.f4.f1.u64_0;
+    v8.f4.f1.u64_1 = v6.f3.f4.f1.u64_1;
+    v8.f4.f2 = v6.f3.f4.f2;
+    v8.f4.f3 = v6.f3.f4.f3;
+    result = c2_target_step__strobes__shows(a1, 1, a5, &v7, v6.f1, &v8);
     return result;
 }
 
@@ -5802,7 +6419,7 @@ static c2_target__Turned c2_target_step__strobes__strobed(const c2_target__Targe
     const c2_target_step__Lent *a2, slice_u8 a3, uint8_t a4)
 {
     c2_target__Turned result;
-    c2_target__Device v5;
+    uint64_t v5;
     uint64_t v6;
     uint64_t v7;
     uint64_t v8;
@@ -5814,23 +6431,23 @@ static c2_target__Turned c2_target_step__strobes__strobed(const c2_target__Targe
     uint64_t v14;
     uint64_t v15;
     uint64_t v16;
-    uint64_t v17;
+    c2_target__Effect v17;
     uint64_t v18;
-    c2_target__Effect v19;
-    uint64_t v20;
-    uint64_t v21;
-    c2_target__Effect v22;
-    c2_target__Point v23;
-    uint64_t v24;
-    uint64_t v25;
+    uint64_t v19;
+    c2_target__Effect v20;
+    c2_target__Point v21;
+    uint64_t v22;
+    uint64_t v23;
+    c2_target__Effect v24;
+    c2_target__Point v25;
     c2_target__Effect v26;
-    c2_target__Point v27;
-    c2_target__Effect v28;
-    c2_target__Turned v29;
-    c2_target__Point v30;
-    c2_target__Device v31;
-    c2_target__Point v32;
-    c2_settings v33;
+    c2_target__Turned v27;
+    c2_target__Point v28;
+    c2_target__Device v29;
+    c2_target__Device v30;
+    c2_target__Point v31;
+    c2_settings v32;
+    c2_target__Device v33;
     uint64_t v34;
     uint64_t v35;
     c2_target__Point v36;
@@ -5846,222 +6463,240 @@ static c2_target__Turned c2_target_step__strobes__strobed(const c2_target__Targe
     uint64_t v46;
     uint64_t v47;
     c2_target__Point v48;
-    c2_target_step__Lent v49;
-    c2_settings v50;
+    c2_settings v49;
+    c2_target__Device v50;
     _Bool v51;
-    uint64_t v52;
+    c2_target__Device v52;
     uint64_t v53;
-    _Bool v54;
-    c2_target_step__Lent v55;
-    v5.f0 = a1->f3.f0;
-    v5.f1 = a1->f3.f1;
-    v5.f2 = a1->f3.f2;
-    v5.f3.f0 = a1->f3.f3.f0;
-    v5.f3.f1 = a1->f3.f3.f1;
-    v5.f3.f2 = a1->f3.f3.f2;
-    v5.f3.f3 = a1->f3.f3.f3;
-    v5.f4.f0.tag = a1->f3.f4.f0.tag;
-    v5.f4.f0.u64_0 = a1->f3.f4.f0.u64_0;
-    v5.f4.f0.bool_0 = a1->f3.f4.f0.bool_0;
-    v5.f4.f0.u64_1 = a1->f3.f4.f0.u64_1;
-    v5.f4.f1.tag = a1->f3.f4.f1.tag;
-    v5.f4.f1.bool_0 = a1->f3.f4.f1.bool_0;
-    v5.f4.f1.u64_0 = a1->f3.f4.f1.u64_0;
-    v5.f4.f1.u64_1 = a1->f3.f4.f1.u64_1;
-    v5.f4.f2 = a1->f3.f4.f2;
-    v5.f4.f3 = a1->f3.f4.f3;
-    v6 = a1->f1;
+    uint64_t v54;
+    _Bool v55;
+    c2_target__Device v56;
     switch (a1->f0.tag) {
     case 0u:
-        v30.tag = 1u;
-        v30.u64_0 = UINT64_C(0);
-        v30.u64_1 = UINT64_C(0);
-        v30.c2_target__Effect_0.tag = 0;
-        v30.c2_target__Effect_0.u64_0 = 0;
-        v31 = c2_target_step__interface__begun(&v5);
-        v29 = c2_target_step__strobes__shows(a1, 1, a4, &v30, v6, &v31);
+        v28.tag = 1u;
+        v28.u64_0 = UINT64_C(0);
+        v28.u64_1 = UINT64_C(0);
+        v28.c2_target__Effect_0.tag = 0;
+        v28.c2_target__Effect_0.u64_0 = 0;
+        v30.f0 = a1->f3.f0;
+        v30.f1 = a1->f3.f1;
+        v30.f2 = a1->f3.f2;
+        v30.f3.f0 = a1->f3.f3.f0;
+        v30.f3.f1 = a1->f3.f3.f1;
+        v30.f3.f2 = a1->f3.f3.f2;
+        v30.f3.f3 = a1->f3.f3.f3;
+        v30.f4.f0.tag = a1->f3.f4.f0.tag;
+        v30.f4.f0.u64_0 = a1->f3.f4.f0.u64_0;
+        v30.f4.f0.bool_0 = a1->f3.f4.f0.bool_0;
+        v30.f4.f0.u64_1 = a1->f3.f4.f0.u64_1;
+        v30.f4.f1.tag = a1->f3.f4.f1.tag;
+        v30.f4.f1.bool_0 = a1->f3.f4.f1.bool_0;
+        v30.f4.f1.u64_0 = a1->f3.f4.f1.u64_0;
+        v30.f4.f1.u64_1 = a1->f3.f4.f1.u64_1;
+        v30.f4.f2 = a1->f3.f4.f2;
+        v30.f4.f3 = a1->f3.f4.f3;
+        v29 = c2_target_step__interface__begun(&v30);
+        v27 = c2_target_step__strobes__shows(a1, 1, a4, &v28, a1->f1, &v29);
         break;
     case 1u:
-        v7 = a1->f0.u64_0;
-        v8 = a1->f0.u64_1;
-        v33.device_id = a2->f0.device_id;
-        v33.fpdat = a2->f0.fpdat;
-        v33.page_size = a2->f0.page_size;
-        v33.page_count = a2->f0.page_count;
-        v33.wait_limit = a2->f0.wait_limit;
-        v33.pairs.count = a2->f0.pairs.count;
-        v33.pairs.registers[0] = a2->f0.pairs.registers[0];
-        v33.pairs.registers[1] = a2->f0.pairs.registers[1];
-        v33.pairs.registers[2] = a2->f0.pairs.registers[2];
-        v33.pairs.registers[3] = a2->f0.pairs.registers[3];
-        v33.pairs.values[0] = a2->f0.pairs.values[0];
-        v33.pairs.values[1] = a2->f0.pairs.values[1];
-        v33.pairs.values[2] = a2->f0.pairs.values[2];
-        v33.pairs.values[3] = a2->f0.pairs.values[3];
-        v34 = v7 + UINT64_C(1);
-        v35 = c2_target_step__strobes__with_bit(v7, v8, a4);
-        v32 = c2_target_step__strobes__after_ins(&v33, &v5, v34, v35);
-        v29 = c2_target_step__strobes__hears(a1, a4, &v32);
+        v5 = a1->f0.u64_0;
+        v6 = a1->f0.u64_1;
+        v32.device_id = a2->f0.device_id;
+        v32.fpdat = a2->f0.fpdat;
+        v32.page_size = a2->f0.page_size;
+        v32.page_count = a2->f0.page_count;
+        v32.wait_limit = a2->f0.wait_limit;
+        v32.pairs.count = a2->f0.pairs.count;
+        v32.pairs.registers[0] = a2->f0.pairs.registers[0];
+        v32.pairs.registers[1] = a2->f0.pairs.registers[1];
+        v32.pairs.registers[2] = a2->f0.pairs.registers[2];
+        v32.pairs.registers[3] = a2->f0.pairs.registers[3];
+        v32.pairs.values[0] = a2->f0.pairs.values[0];
+        v32.pairs.values[1] = a2->f0.pairs.values[1];
+        v32.pairs.values[2] = a2->f0.pairs.values[2];
+        v32.pairs.values[3] = a2->f0.pairs.values[3];
+        v33.f0 = a1->f3.f0;
+        v33.f1 = a1->f3.f1;
+        v33.f2 = a1->f3.f2;
+        v33.f3.f0 = a1->f3.f3.f0;
+        v33.f3.f1 = a1->f3.f3.f1;
+        v33.f3.f2 = a1->f3.f3.f2;
+        v33.f3.f3 = a1->f3.f3.f3;
+        v33.f4.f0.tag = a1->f3.f4.f0.tag;
+        v33.f4.f0.u64_0 = a1->f3.f4.f0.u64_0;
+        v33.f4.f0.bool_0 = a1->f3.f4.f0.bool_0;
+        v33.f4.f0.u64_1 = a1->f3.f4.f0.u64_1;
+        v33.f4.f1.tag = a1->f3.f4.f1.tag;
+        v33.f4.f1.bool_0 = a1->f3.f4.f1.bool_0;
+        v33.f4.f1.u64_0 = a1->f3.f4.f1.u64_0;
+        v33.f4.f1.u64_1 = a1->f3.f4.f1.u64_1;
+        v33.f4.f2 = a1->f3.f4.f2;
+        v33.f4.f3 = a1->f3.f4.f3;
+        v34 = v5 + UINT64_C(1);
+        v35 = c2_target_step__strobes__with_bit(v5, v6, a4);
+        v31 = c2_target_step__strobes__after_ins(&v32, &v33, v34, v35);
+        v27 = c2_target_step__strobes__hears(a1, a4, &v31);
         break;
     case 2u:
-        v9 = a1->f0.u64_0;
-        v10 = a1->f0.u64_1;
-        v37 = v9 + UINT64_C(1);
-        v38 = c2_target_step__strobes__with_bit(v9, v10, a4);
+        v7 = a1->f0.u64_0;
+        v8 = a1->f0.u64_1;
+        v37 = v7 + UINT64_C(1);
+        v38 = c2_target_step__strobes__with_bit(v7, v8, a4);
         v36 = c2_target_step__strobes__after_write_length(v37, v38);
-        v29 = c2_target_step__strobes__hears(a1, a4, &v36);
+        v27 = c2_target_step__strobes__hears(a1, a4, &v36);
         break;
     case 3u:
-        v11 = a1->f0.u64_0;
-        v12 = a1->f0.u64_1;
-        v40 = v11 + UINT64_C(1);
-        v41 = c2_target_step__strobes__with_bit(v11, v12, a4);
+        v9 = a1->f0.u64_0;
+        v10 = a1->f0.u64_1;
+        v40 = v9 + UINT64_C(1);
+        v41 = c2_target_step__strobes__with_bit(v9, v10, a4);
         v39 = c2_target_step__strobes__after_read_length(v40, v41);
-        v29 = c2_target_step__strobes__hears(a1, a4, &v39);
+        v27 = c2_target_step__strobes__hears(a1, a4, &v39);
         break;
     case 4u:
-        v13 = a1->f0.u64_0;
-        v14 = a1->f0.u64_1;
-        v43 = v13 + UINT64_C(1);
-        v44 = c2_target_step__strobes__with_bit(v13, v14, a4);
+        v11 = a1->f0.u64_0;
+        v12 = a1->f0.u64_1;
+        v43 = v11 + UINT64_C(1);
+        v44 = c2_target_step__strobes__with_bit(v11, v12, a4);
         v42 = c2_target_step__strobes__after_address(v43, v44);
-        v29 = c2_target_step__strobes__hears(a1, a4, &v42);
+        v27 = c2_target_step__strobes__hears(a1, a4, &v42);
         break;
     case 5u:
-        v15 = a1->f0.u64_0;
-        v16 = a1->f0.u64_1;
-        v46 = v15 + UINT64_C(1);
-        v47 = c2_target_step__strobes__with_bit(v15, v16, a4);
+        v13 = a1->f0.u64_0;
+        v14 = a1->f0.u64_1;
+        v46 = v13 + UINT64_C(1);
+        v47 = c2_target_step__strobes__with_bit(v13, v14, a4);
         v45 = c2_target_step__strobes__after_data(v46, v47);
-        v29 = c2_target_step__strobes__hears(a1, a4, &v45);
+        v27 = c2_target_step__strobes__hears(a1, a4, &v45);
         break;
     case 6u:
-        v17 = a1->f0.u64_0;
-        v48 = c2_target_step__strobes__after_long_data(v17);
-        v29 = c2_target_step__strobes__hears(a1, a4, &v48);
+        v15 = a1->f0.u64_0;
+        v48 = c2_target_step__strobes__after_long_data(v15);
+        v27 = c2_target_step__strobes__hears(a1, a4, &v48);
         break;
     case 7u:
-        v18 = a1->f0.u64_0;
-        v19.tag = a1->f0.c2_target__Effect_0.tag;
-        v19.u64_0 = a1->f0.c2_target__Effect_0.u64_0;
-        v49.f0.device_id = a2->f0.device_id;
-        v49.f0.fpdat = a2->f0.fpdat;
-        v49.f0.page_size = a2->f0.page_size;
-        v49.f0.page_count = a2->f0.page_count;
-        v49.f0.wait_limit = a2->f0.wait_limit;
-        v49.f0.pairs.count = a2->f0.pairs.count;
-        v49.f0.pairs.registers[0] = a2->f0.pairs.registers[0];
-        v49.f0.pairs.registers[1] = a2->f0.pairs.registers[1];
-        v49.f0.pairs.registers[2] = a2->f0.pairs.registers[2];
-        v49.f0.pairs.registers[3] = a2->f0.pairs.registers[3];
-        v49.f0.pairs.values[0] = a2->f0.pairs.values[0];
-        v49.f0.pairs.values[1] = a2->f0.pairs.values[1];
-        v49.f0.pairs.values[2] = a2->f0.pairs.values[2];
-        v49.f0.pairs.values[3] = a2->f0.pairs.values[3];
-        v49.f1.count = a2->f1.count;
-        v49.f1.registers[0] = a2->f1.registers[0];
-        v49.f1.registers[1] = a2->f1.registers[1];
-        v49.f1.registers[2] = a2->f1.registers[2];
-        v49.f1.registers[3] = a2->f1.registers[3];
-        v49.f1.values[0] = a2->f1.values[0];
-        v49.f1.values[1] = a2->f1.values[1];
-        v49.f1.values[2] = a2->f1.values[2];
-        v49.f1.values[3] = a2->f1.values[3];
-        v49.f2.at = a2->f2.at;
-        v49.f2.length = a2->f2.length;
-        v29 = c2_target_step__strobes__begins_wait(a1, &v49, v18, &v19, a3, a4);
+        v16 = a1->f0.u64_0;
+        v17.tag = a1->f0.c2_target__Effect_0.tag;
+        v17.u64_0 = a1->f0.c2_target__Effect_0.u64_0;
+        v27 = c2_target_step__strobes__begins_wait(a1, a2, v16, &v17, a3, a4);
         break;
     case 8u:
-        v20 = a1->f0.u64_0;
-        v21 = a1->f0.u64_1;
-        v22.tag = a1->f0.c2_target__Effect_0.tag;
-        v22.u64_0 = a1->f0.c2_target__Effect_0.u64_0;
-        v50.device_id = a2->f0.device_id;
-        v50.fpdat = a2->f0.fpdat;
-        v50.page_size = a2->f0.page_size;
-        v50.page_count = a2->f0.page_count;
-        v50.wait_limit = a2->f0.wait_limit;
-        v50.pairs.count = a2->f0.pairs.count;
-        v50.pairs.registers[0] = a2->f0.pairs.registers[0];
-        v50.pairs.registers[1] = a2->f0.pairs.registers[1];
-        v50.pairs.registers[2] = a2->f0.pairs.registers[2];
-        v50.pairs.registers[3] = a2->f0.pairs.registers[3];
-        v50.pairs.values[0] = a2->f0.pairs.values[0];
-        v50.pairs.values[1] = a2->f0.pairs.values[1];
-        v50.pairs.values[2] = a2->f0.pairs.values[2];
-        v50.pairs.values[3] = a2->f0.pairs.values[3];
-        v23 = c2_target_step__strobes__after_wait(&v50, v20, v21, &v22, &v5, a3);
-        v51 = v20 == UINT64_C(0);
-        v29 = c2_target_step__strobes__shows(a1, v51, a4, &v23, v6, &v5);
+        v18 = a1->f0.u64_0;
+        v19 = a1->f0.u64_1;
+        v20.tag = a1->f0.c2_target__Effect_0.tag;
+        v20.u64_0 = a1->f0.c2_target__Effect_0.u64_0;
+        v49.device_id = a2->f0.device_id;
+        v49.fpdat = a2->f0.fpdat;
+        v49.page_size = a2->f0.page_size;
+        v49.page_count = a2->f0.page_count;
+        v49.wait_limit = a2->f0.wait_limit;
+        v49.pairs.count = a2->f0.pairs.count;
+        v49.pairs.registers[0] = a2->f0.pairs.registers[0];
+        v49.pairs.registers[1] = a2->f0.pairs.registers[1];
+        v49.pairs.registers[2] = a2->f0.pairs.registers[2];
+        v49.pairs.registers[3] = a2->f0.pairs.registers[3];
+        v49.pairs.values[0] = a2->f0.pairs.values[0];
+        v49.pairs.values[1] = a2->f0.pairs.values[1];
+        v49.pairs.values[2] = a2->f0.pairs.values[2];
+        v49.pairs.values[3] = a2->f0.pairs.values[3];
+        v50.f0 = a1->f3.f0;
+        v50.f1 = a1->f3.f1;
+        v50.f2 = a1->f3.f2;
+        v50.f3.f0 = a1->f3.f3.f0;
+        v50.f3.f1 = a1->f3.f3.f1;
+        v50.f3.f2 = a1->f3.f3.f2;
+        v50.f3.f3 = a1->f3.f3.f3;
+        v50.f4.f0.tag = a1->f3.f4.f0.tag;
+        v50.f4.f0.u64_0 = a1->f3.f4.f0.u64_0;
+        v50.f4.f0.bool_0 = a1->f3.f4.f0.bool_0;
+        v50.f4.f0.u64_1 = a1->f3.f4.f0.u64_1;
+        v50.f4.f1.tag = a1->f3.f4.f1.tag;
+        v50.f4.f1.bool_0 = a1->f3.f4.f1.bool_0;
+        v50.f4.f1.u64_0 = a1->f3.f4.f1.u64_0;
+        v50.f4.f1.u64_1 = a1->f3.f4.f1.u64_1;
+        v50.f4.f2 = a1->f3.f4.f2;
+        v50.f4.f3 = a1->f3.f4.f3;
+        v21 = c2_target_step__strobes__after_wait(&v49, v18, v19, &v20, &v50, a3);
+        v51 = v18 == UINT64_C(0);
+        v52.f0 = a1->f3.f0;
+        v52.f1 = a1->f3.f1;
+        v52.f2 = a1->f3.f2;
+        v52.f3.f0 = a1->f3.f3.f0;
+        v52.f3.f1 = a1->f3.f3.f1;
+        v52.f3.f2 = a1->f3.f3.f2;
+        v52.f3.f3 = a1->f3.f3.f3;
+        v52.f4.f0.tag = a1->f3.f4.f0.tag;
+        v52.f4.f0.u64_0 = a1->f3.f4.f0.u64_0;
+        v52.f4.f0.bool_0 = a1->f3.f4.f0.bool_0;
+        v52.f4.f0.u64_1 = a1->f3.f4.f0.u64_1;
+        v52.f4.f1.tag = a1->f3.f4.f1.tag;
+        v52.f4.f1.bool_0 = a1->f3.f4.f1.bool_0;
+        v52.f4.f1.u64_0 = a1->f3.f4.f1.u64_0;
+        v52.f4.f1.u64_1 = a1->f3.f4.f1.u64_1;
+        v52.f4.f2 = a1->f3.f4.f2;
+        v52.f4.f3 = a1->f3.f4.f3;
+        v27 = c2_target_step__strobes__shows(a1, v51, a4, &v21, a1->f1, &v52);
         break;
     case 9u:
-        v24 = a1->f0.u64_0;
-        v25 = a1->f0.u64_1;
-        v26.tag = a1->f0.c2_target__Effect_0.tag;
-        v26.u64_0 = a1->f0.c2_target__Effect_0.u64_0;
-        v52 = core__int__usize__saturating_sub(v24, UINT64_C(1));
-        v53 = v25 / UINT64_C(2);
-        v27 = c2_target_step__strobes__sending(v52, v53, &v26);
-        v52 = v25 % UINT64_C(2);
-        v54 = v52 == UINT64_C(1);
-        v29 = c2_target_step__strobes__shows(a1, v54, a4, &v27, v6, &v5);
+        v22 = a1->f0.u64_0;
+        v23 = a1->f0.u64_1;
+        v24.tag = a1->f0.c2_target__Effect_0.tag;
+        v24.u64_0 = a1->f0.c2_target__Effect_0.u64_0;
+        v53 = core__int__usize__saturating_sub(v22, UINT64_C(1));
+        v54 = v23 / UINT64_C(2);
+        v25 = c2_target_step__strobes__sending(v53, v54, &v24);
+        v53 = v23 % UINT64_C(2);
+        v55 = v53 == UINT64_C(1);
+        v56.f0 = a1->f3.f0;
+        v56.f1 = a1->f3.f1;
+        v56.f2 = a1->f3.f2;
+        v56.f3.f0 = a1->f3.f3.f0;
+        v56.f3.f1 = a1->f3.f3.f1;
+        v56.f3.f2 = a1->f3.f3.f2;
+        v56.f3.f3 = a1->f3.f3.f3;
+        v56.f4.f0.tag = a1->f3.f4.f0.tag;
+        v56.f4.f0.u64_0 = a1->f3.f4.f0.u64_0;
+        v56.f4.f0.bool_0 = a1->f3.f4.f0.bool_0;
+        v56.f4.f0.u64_1 = a1->f3.f4.f0.u64_1;
+        v56.f4.f1.tag = a1->f3.f4.f1.tag;
+        v56.f4.f1.bool_0 = a1->f3.f4.f1.bool_0;
+        v56.f4.f1.u64_0 = a1->f3.f4.f1.u64_0;
+        v56.f4.f1.u64_1 = a1->f3.f4.f1.u64_1;
+        v56.f4.f2 = a1->f3.f4.f2;
+        v56.f4.f3 = a1->f3.f4.f3;
+        v27 = c2_target_step__strobes__shows(a1, v55, a4, &v25, a1->f1, &v56);
         break;
     default: /* 10 */
-        v28.tag = a1->f0.c2_target__Effect_0.tag;
-        v28.u64_0 = a1->f0.c2_target__Effect_0.u64_0;
-        v55.f0.device_id = a2->f0.device_id;
-        v55.f0.fpdat = a2->f0.fpdat;
-        v55.f0.page_size = a2->f0.page_size;
-        v55.f0.page_count = a2->f0.page_count;
-        v55.f0.wait_limit = a2->f0.wait_limit;
-        v55.f0.pairs.count = a2->f0.pairs.count;
-        v55.f0.pairs.registers[0] = a2->f0.pairs.registers[0];
-        v55.f0.pairs.registers[1] = a2->f0.pairs.registers[1];
-        v55.f0.pairs.registers[2] = a2->f0.pairs.registers[2];
-        v55.f0.pairs.registers[3] = a2->f0.pairs.registers[3];
-        v55.f0.pairs.values[0] = a2->f0.pairs.values[0];
-        v55.f0.pairs.values[1] = a2->f0.pairs.values[1];
-        v55.f0.pairs.values[2] = a2->f0.pairs.values[2];
-        v55.f0.pairs.values[3] = a2->f0.pairs.values[3];
-        v55.f1.count = a2->f1.count;
-        v55.f1.registers[0] = a2->f1.registers[0];
-        v55.f1.registers[1] = a2->f1.registers[1];
-        v55.f1.registers[2] = a2->f1.registers[2];
-        v55.f1.registers[3] = a2->f1.registers[3];
-        v55.f1.values[0] = a2->f1.values[0];
-        v55.f1.values[1] = a2->f1.values[1];
-        v55.f1.values[2] = a2->f1.values[2];
-        v55.f1.values[3] = a2->f1.values[3];
-        v55.f2.at = a2->f2.at;
-        v55.f2.length = a2->f2.length;
-        v29 = c2_target_step__strobes__stops(a1, &v55, &v28, a3, a4);
+        v26.tag = a1->f0.c2_target__Effect_0.tag;
+        v26.u64_0 = a1->f0.c2_target__Effect_0.u64_0;
+        v27 = c2_target_step__strobes__stops(a1, a2, &v26, a3, a4);
         break;
     }
-    result.f0 = v29.f0;
-    result.f1.f0.tag = v29.f1.f0.tag;
-    result.f1.f0.u64_0 = v29.f1.f0.u64_0;
-    result.f1.f0.u64_1 = v29.f1.f0.u64_1;
-    result.f1.f0.c2_target__Effect_0.tag = v29.f1.f0.c2_target__Effect_0.tag;
-    result.f1.f0.c2_target__Effect_0.u64_0 = v29.f1.f0.c2_target__Effect_0.u64_0;
-    result.f1.f1 = v29.f1.f1;
-    result.f1.f2 = v29.f1.f2;
-    result.f1.f3.f0 = v29.f1.f3.f0;
-    result.f1.f3.f1 = v29.f1.f3.f1;
-    result.f1.f3.f2 = v29.f1.f3.f2;
-    result.f1.f3.f3.f0 = v29.f1.f3.f3.f0;
-    result.f1.f3.f3.f1 = v29.f1.f3.f3.f1;
-    result.f1.f3.f3.f2 = v29.f1.f3.f3.f2;
-    result.f1.f3.f3.f3 = v29.f1.f3.f3.f3;
-    result.f1.f3.f4.f0.tag = v29.f1.f3.f4.f0.tag;
-    result.f1.f3.f4.f0.u64_0 = v29.f1.f3.f4.f0.u64_0;
-    result.f1.f3.f4.f0.bool_0 = v29.f1.f3.f4.f0.bool_0;
-    result.f1.f3.f4.f0.u64_1 = v29.f1.f3.f4.f0.u64_1;
-    result.f1.f3.f4.f1.tag = v29.f1.f3.f4.f1.tag;
-    result.f1.f3.f4.f1.bool_0 = v29.f1.f3.f4.f1.bool_0;
-    result.f1.f3.f4.f1.u64_0 = v29.f1.f3.f4.f1.u64_0;
-    result.f1.f3.f4.f1.u64_1 = v29.f1.f3.f4.f1.u64_1;
-    result.f1.f3.f4.f2 = v29.f1.f3.f4.f2;
-    result.f1.f3.f4.f3 = v29.f1.f3.f4.f3;
+    result.f0 = v27.f0;
+    result.f1.f0.tag = v27.f1.f0.tag;
+    result.f1.f0.u64_0 = v27.f1.f0.u64_0;
+    result.f1.f0.u64_1 = v27.f1.f0.u64_1;
+    result.f1.f0.c2_target__Effect_0.tag = v27.f1.f0.c2_target__Effect_0.tag;
+    result.f1.f0.c2_target__Effect_0.u64_0 = v27.f1.f0.c2_target__Effect_0.u64_0;
+    result.f1.f1 = v27.f1.f1;
+    result.f1.f2 = v27.f1.f2;
+    result.f1.f3.f0 = v27.f1.f3.f0;
+    result.f1.f3.f1 = v27.f1.f3.f1;
+    result.f1.f3.f2 = v27.f1.f3.f2;
+    result.f1.f3.f3.f0 = v27.f1.f3.f3.f0;
+    result.f1.f3.f3.f1 = v27.f1.f3.f3.f1;
+    result.f1.f3.f3.f2 = v27.f1.f3.f3.f2;
+    result.f1.f3.f3.f3 = v27.f1.f3.f3.f3;
+    result.f1.f3.f4.f0.tag = v27.f1.f3.f4.f0.tag;
+    result.f1.f3.f4.f0.u64_0 = v27.f1.f3.f4.f0.u64_0;
+    result.f1.f3.f4.f0.bool_0 = v27.f1.f3.f4.f0.bool_0;
+    result.f1.f3.f4.f0.u64_1 = v27.f1.f3.f4.f0.u64_1;
+    result.f1.f3.f4.f1.tag = v27.f1.f3.f4.f1.tag;
+    result.f1.f3.f4.f1.bool_0 = v27.f1.f3.f4.f1.bool_0;
+    result.f1.f3.f4.f1.u64_0 = v27.f1.f3.f4.f1.u64_0;
+    result.f1.f3.f4.f1.u64_1 = v27.f1.f3.f4.f1.u64_1;
+    result.f1.f3.f4.f2 = v27.f1.f3.f4.f2;
+    result.f1.f3.f4.f3 = v27.f1.f3.f4.f3;
     return result;
 }
 
@@ -6073,61 +6708,35 @@ static c2_target__Turned c2_target_step__steps__stepped(const c2_target_step__Le
     c2_target__Turned v5;
     _Bool v6;
     c2_target__Turned v7;
-    c2_target_step__Lent v8;
-    const uint8_t *v9;
-    slice_u8 v10;
-    c2_settings v12;
-    uint8_t *v13;
-    slice_mut_u8 v14;
+    const uint8_t *v8;
+    slice_u8 v9;
+    c2_settings v11;
+    uint8_t *v12;
+    slice_mut_u8 v13;
     v6 = a4 < 4u;
     if (v6) {
-        v8.f0.device_id = a1->f0.device_id;
-        v8.f0.fpdat = a1->f0.fpdat;
-        v8.f0.page_size = a1->f0.page_size;
-        v8.f0.page_count = a1->f0.page_count;
-        v8.f0.wait_limit = a1->f0.wait_limit;
-        v8.f0.pairs.count = a1->f0.pairs.count;
-        v8.f0.pairs.registers[0] = a1->f0.pairs.registers[0];
-        v8.f0.pairs.registers[1] = a1->f0.pairs.registers[1];
-        v8.f0.pairs.registers[2] = a1->f0.pairs.registers[2];
-        v8.f0.pairs.registers[3] = a1->f0.pairs.registers[3];
-        v8.f0.pairs.values[0] = a1->f0.pairs.values[0];
-        v8.f0.pairs.values[1] = a1->f0.pairs.values[1];
-        v8.f0.pairs.values[2] = a1->f0.pairs.values[2];
-        v8.f0.pairs.values[3] = a1->f0.pairs.values[3];
-        v8.f1.count = a1->f1.count;
-        v8.f1.registers[0] = a1->f1.registers[0];
-        v8.f1.registers[1] = a1->f1.registers[1];
-        v8.f1.registers[2] = a1->f1.registers[2];
-        v8.f1.registers[3] = a1->f1.registers[3];
-        v8.f1.values[0] = a1->f1.values[0];
-        v8.f1.values[1] = a1->f1.values[1];
-        v8.f1.values[2] = a1->f1.values[2];
-        v8.f1.values[3] = a1->f1.values[3];
-        v8.f2.at = a1->f2.at;
-        v8.f2.length = a1->f2.length;
-        v9 = a3.at;
-        v10.at = v9;
-        v10.length = a3.length;
-        v5 = c2_target_step__strobes__strobed(a2, &v8, v10, a4);
-        v12.device_id = a1->f0.device_id;
-        v12.fpdat = a1->f0.fpdat;
-        v12.page_size = a1->f0.page_size;
-        v12.page_count = a1->f0.page_count;
-        v12.wait_limit = a1->f0.wait_limit;
-        v12.pairs.count = a1->f0.pairs.count;
-        v12.pairs.registers[0] = a1->f0.pairs.registers[0];
-        v12.pairs.registers[1] = a1->f0.pairs.registers[1];
-        v12.pairs.registers[2] = a1->f0.pairs.registers[2];
-        v12.pairs.registers[3] = a1->f0.pairs.registers[3];
-        v12.pairs.values[0] = a1->f0.pairs.values[0];
-        v12.pairs.values[1] = a1->f0.pairs.values[1];
-        v12.pairs.values[2] = a1->f0.pairs.values[2];
-        v12.pairs.values[3] = a1->f0.pairs.values[3];
-        v13 = a3.at;
-        v14.at = v13;
-        v14.length = a3.length;
-        c2_target_step__strobes__strobe_writes(&v12, a2, v14);
+        v8 = a3.at;
+        v9.at = v8;
+        v9.length = a3.length;
+        v5 = c2_target_step__strobes__strobed(a2, a1, v9, a4);
+        v11.device_id = a1->f0.device_id;
+        v11.fpdat = a1->f0.fpdat;
+        v11.page_size = a1->f0.page_size;
+        v11.page_count = a1->f0.page_count;
+        v11.wait_limit = a1->f0.wait_limit;
+        v11.pairs.count = a1->f0.pairs.count;
+        v11.pairs.registers[0] = a1->f0.pairs.registers[0];
+        v11.pairs.registers[1] = a1->f0.pairs.registers[1];
+        v11.pairs.registers[2] = a1->f0.pairs.registers[2];
+        v11.pairs.registers[3] = a1->f0.pairs.registers[3];
+        v11.pairs.values[0] = a1->f0.pairs.values[0];
+        v11.pairs.values[1] = a1->f0.pairs.values[1];
+        v11.pairs.values[2] = a1->f0.pairs.values[2];
+        v11.pairs.values[3] = a1->f0.pairs.values[3];
+        v12 = a3.at;
+        v13.at = v12;
+        v13.length = a3.length;
+        c2_target_step__strobes__strobe_writes(&v11, a2, v13);
         v7.f0 = v5.f0;
         v7.f1.f0.tag = v5.f1.f0.tag;
         v7.f1.f0.u64_0 = v5.f1.f0.u64_0;
@@ -6185,7 +6794,7 @@ static c2_target__Turned c2_target_step__steps__stepped(const c2_target_step__Le
 }
 
 /* core::ResultFromResidualErrResidual::from_residua_47cf13 */
-static core__Result_Turned_Refusal core__ResultFromResidualErrResidual__from_residua_47cf13(
+INLINED core__Result_Turned_Refusal core__ResultFromResidualErrResidual__from_residua_47cf13(
     const core__ErrResidual_Refusal *a1)
 {
     core__Result_Turned_Refusal result;
@@ -6235,7 +6844,7 @@ static core__Result_Turned_Refusal c2_target_step__steps__step(const c2_settings
     const uint8_t *v12;
     slice_u8 v13;
     c2_target__Turned v14;
-    c2_target_step__Lent v15;
+    const c2_target_step__Lent *v15;
     uint8_t *v16;
     slice_mut_u8 v17;
     v12 = a4.at;
@@ -6251,60 +6860,12 @@ static core__Result_Turned_Refusal c2_target_step__steps__step(const c2_settings
         result = core__ResultFromResidualErrResidual__from_residua_47cf13(&v8);
         return result;
     }
-    v9.f0.device_id = a1->device_id;
-    v9.f0.fpdat = a1->fpdat;
-    v9.f0.page_size = a1->page_size;
-    v9.f0.page_count = a1->page_count;
-    v9.f0.wait_limit = a1->wait_limit;
-    v9.f0.pairs.count = a1->pairs.count;
-    v9.f0.pairs.registers[0] = a1->pairs.registers[0];
-    v9.f0.pairs.registers[1] = a1->pairs.registers[1];
-    v9.f0.pairs.registers[2] = a1->pairs.registers[2];
-    v9.f0.pairs.registers[3] = a1->pairs.registers[3];
-    v9.f0.pairs.values[0] = a1->pairs.values[0];
-    v9.f0.pairs.values[1] = a1->pairs.values[1];
-    v9.f0.pairs.values[2] = a1->pairs.values[2];
-    v9.f0.pairs.values[3] = a1->pairs.values[3];
-    v9.f1.count = a2->count;
-    v9.f1.registers[0] = a2->registers[0];
-    v9.f1.registers[1] = a2->registers[1];
-    v9.f1.registers[2] = a2->registers[2];
-    v9.f1.registers[3] = a2->registers[3];
-    v9.f1.values[0] = a2->values[0];
-    v9.f1.values[1] = a2->values[1];
-    v9.f1.values[2] = a2->values[2];
-    v9.f1.values[3] = a2->values[3];
-    v9.f2.at = a5.at;
-    v9.f2.length = a5.length;
-    v15.f0.device_id = v9.f0.device_id;
-    v15.f0.fpdat = v9.f0.fpdat;
-    v15.f0.page_size = v9.f0.page_size;
-    v15.f0.page_count = v9.f0.page_count;
-    v15.f0.wait_limit = v9.f0.wait_limit;
-    v15.f0.pairs.count = v9.f0.pairs.count;
-    v15.f0.pairs.registers[0] = v9.f0.pairs.registers[0];
-    v15.f0.pairs.registers[1] = v9.f0.pairs.registers[1];
-    v15.f0.pairs.registers[2] = v9.f0.pairs.registers[2];
-    v15.f0.pairs.registers[3] = v9.f0.pairs.registers[3];
-    v15.f0.pairs.values[0] = v9.f0.pairs.values[0];
-    v15.f0.pairs.values[1] = v9.f0.pairs.values[1];
-    v15.f0.pairs.values[2] = v9.f0.pairs.values[2];
-    v15.f0.pairs.values[3] = v9.f0.pairs.values[3];
-    v15.f1.count = v9.f1.count;
-    v15.f1.registers[0] = v9.f1.registers[0];
-    v15.f1.registers[1] = v9.f1.registers[1];
-    v15.f1.registers[2] = v9.f1.registers[2];
-    v15.f1.registers[3] = v9.f1.registers[3];
-    v15.f1.values[0] = v9.f1.values[0];
-    v15.f1.values[1] = v9.f1.values[1];
-    v15.f1.values[2] = v9.f1.values[2];
-    v15.f1.values[3] = v9.f1.values[3];
-    v15.f2.at = v9.f2.at;
-    v15.f2.length = v9.f2.length;
+    v9 = (c2_target_step__Lent){.f0 = *a1, .f1 = *a2, .f2 = a5};
+    v15 = &v9;
     v16 = a4.at;
     v17.at = v16;
     v17.length = a4.length;
-    v14 = c2_target_step__steps__stepped(&v15, a3, v17, a6);
+    v14 = c2_target_step__steps__stepped(v15, a3, v17, a6);
     result.tag = 0u;
     result.c2_target__Turned_0.f0 = v14.f0;
     result.c2_target__Turned_0.f1.f0.tag = v14.f1.f0.tag;
@@ -6335,1358 +6896,259 @@ static core__Result_Turned_Refusal c2_target_step__steps__step(const c2_settings
     return result;
 }
 
-/* c2_target_state::encode::state_with */
-static c2_target c2_target_state__encode__state_with(const c2_target__Target *a1,
-    const c2_target_state__PointFields *a2, const c2_target_state__CommandFields *a3,
-    const c2_target_state__OutputFields *a4)
-{
-    c2_target result;
-    c2_target__Device v5;
-    c2_target__Met v6;
-    uint64_t v7;
-    uint8_t v8;
-    uint8_t v9;
-    uint8_t v10;
-    uint8_t v11;
-    uint8_t v12;
-    uint8_t v13;
-    uint8_t v14;
-    uint8_t v15;
-    uint8_t v16;
-    uint8_t v17;
-    v5.f0 = a1->f3.f0;
-    v5.f1 = a1->f3.f1;
-    v5.f2 = a1->f3.f2;
-    v5.f3.f0 = a1->f3.f3.f0;
-    v5.f3.f1 = a1->f3.f3.f1;
-    v5.f3.f2 = a1->f3.f3.f2;
-    v5.f3.f3 = a1->f3.f3.f3;
-    v5.f4.f0.tag = a1->f3.f4.f0.tag;
-    v5.f4.f0.u64_0 = a1->f3.f4.f0.u64_0;
-    v5.f4.f0.bool_0 = a1->f3.f4.f0.bool_0;
-    v5.f4.f0.u64_1 = a1->f3.f4.f0.u64_1;
-    v5.f4.f1.tag = a1->f3.f4.f1.tag;
-    v5.f4.f1.bool_0 = a1->f3.f4.f1.bool_0;
-    v5.f4.f1.u64_0 = a1->f3.f4.f1.u64_0;
-    v5.f4.f1.u64_1 = a1->f3.f4.f1.u64_1;
-    v5.f4.f2 = a1->f3.f4.f2;
-    v5.f4.f3 = a1->f3.f4.f3;
-    v6.f0 = v5.f3.f0;
-    v6.f1 = v5.f3.f1;
-    v6.f2 = v5.f3.f2;
-    v6.f3 = v5.f3.f3;
-    v7 = a1->f1;
-    v8 = core__AnyInto__into_bool_u8(a1->f2);
-    v9 = c2_target_state__fields__low(v5.f0);
-    v10 = core__AnyInto__into_bool_u8(v5.f1);
-    v11 = c2_target_state__fields__low(v5.f2);
-    v12 = core__AnyInto__into_bool_u8(v6.f0);
-    v13 = core__AnyInto__into_bool_u8(v6.f1);
-    v14 = core__AnyInto__into_bool_u8(v6.f2);
-    v15 = core__AnyInto__into_bool_u8(v6.f3);
-    v16 = c2_target_state__fields__low(v5.f4.f2);
-    v17 = c2_target_state__fields__low(v5.f4.f3);
-    result.place = v7;
-    result.start = a3->f4;
-    result.rest = a3->f5;
-    result.next = a4->f2;
-    result.count = a4->f3;
-    result.point = a2->f0;
-    result.heard = a2->f1;
-    result.value = a2->f2;
-    result.left = a2->f3;
-    result.zeros = a2->f4;
-    result.effect = a2->f5;
-    result.byte = a2->f6;
-    result.collision = v8;
-    result.address = v9;
-    result.on = v10;
-    result.keys = v11;
-    result.met1 = v12;
-    result.met2 = v13;
-    result.met3 = v14;
-    result.met4 = v15;
-    result.command = a3->f0;
-    result.write = a3->f1;
-    result.page = a3->f2;
-    result.high = a3->f3;
-    result.output = a4->f0;
-    result.passed = a4->f1;
-    result.busy = v16;
-    result.late = v17;
-    return result;
-}
-
-/* core::default::U16Default::default */
-static uint16_t core__default__U16Default__default(void)
-{
-    uint16_t result;
-    result = 0u;
-    return result;
-}
-
-/* c2_target_state::CommandFieldsDefault::default */
-static c2_target_state__CommandFields c2_target_state__CommandFieldsDefault__default(void)
-{
-    c2_target_state__CommandFields result;
-    uint8_t v1;
-    uint8_t v2;
-    uint8_t v3;
-    uint8_t v4;
-    uint16_t v5;
-    uint16_t v6;
-    v1 = core__default__U8Default__default();
-    v2 = core__default__U8Default__default();
-    v3 = core__default__U8Default__default();
-    v4 = core__default__U8Default__default();
-    v5 = core__default__U16Default__default();
-    v6 = core__default__U16Default__default();
-    result.f0 = v1;
-    result.f1 = v2;
-    result.f2 = v3;
-    result.f3 = v4;
-    result.f4 = v5;
-    result.f5 = v6;
-    return result;
-}
-
-/* c2_target_state::encode::of_block */
-static c2_target_state__CommandFields c2_target_state__encode__of_block(uint8_t a1, _Bool a2)
-{
-    c2_target_state__CommandFields result;
-    uint8_t v3;
-    c2_target_state__CommandFields v4;
-    uint8_t v5;
-    uint8_t v6;
-    uint16_t v7;
-    uint16_t v8;
-    v3 = core__AnyInto__into_bool_u8(a2);
-    v4 = c2_target_state__CommandFieldsDefault__default();
-    v5 = v4.f2;
-    v6 = v4.f3;
-    v7 = v4.f4;
-    v8 = v4.f5;
-    result.f0 = a1;
-    result.f1 = v3;
-    result.f2 = v5;
-    result.f3 = v6;
-    result.f4 = v7;
-    result.f5 = v8;
-    return result;
-}
-
-/* c2_target_state::fields::word */
-static uint16_t c2_target_state__fields__word(uint64_t a1)
-{
-    uint16_t result;
-    uint64_t v2;
-    v2 = a1 % UINT64_C(65536);
-    result = (uint16_t)v2;
-    return result;
-}
-
-/* c2_target_state::encode::CommandFieldsFromCommand::from */
-static c2_target_state__CommandFields c2_target_state__encode__CommandFieldsFromCommand__from(
-    const c2_target__Command *a1)
-{
-    c2_target_state__CommandFields result;
-    c2_target_state__CommandFields v2;
-    uint64_t v3;
-    _Bool v4;
-    _Bool v5;
-    uint64_t v6;
-    _Bool v7;
-    uint64_t v8;
-    uint64_t v9;
-    uint64_t v10;
-    uint64_t v11;
-    c2_target_state__CommandFields v12;
-    uint8_t v13;
-    uint8_t v14;
-    uint8_t v15;
-    uint16_t v16;
-    uint16_t v17;
-    uint8_t v18;
-    uint8_t v19;
-    uint8_t v20;
-    uint16_t v21;
-    uint16_t v22;
-    uint8_t v23;
-    c2_target_state__CommandFields v24;
-    uint8_t v25;
-    uint8_t v26;
-    uint8_t v27;
-    uint16_t v28;
-    uint16_t v29;
-    uint16_t v30;
-    c2_target_state__CommandFields v31;
-    uint8_t v32;
-    uint8_t v33;
-    uint8_t v34;
-    uint8_t v35;
-    uint16_t v36;
-    uint16_t v37;
-    uint16_t v38;
-    uint8_t v39;
-    uint8_t v40;
-    uint8_t v41;
-    uint16_t v42;
-    uint8_t v43;
-    uint8_t v44;
-    uint8_t v45;
-    uint16_t v46;
-    v2 = c2_target_state__CommandFieldsDefault__default();
-    switch (a1->tag) {
-    case 0u:
-        v12.f0 = v2.f0;
-        v12.f1 = v2.f1;
-        v12.f2 = v2.f2;
-        v12.f3 = v2.f3;
-        v12.f4 = v2.f4;
-        v12.f5 = v2.f5;
-        break;
-    case 1u:
-        v13 = v2.f1;
-        v14 = v2.f2;
-        v15 = v2.f3;
-        v16 = v2.f4;
-        v17 = v2.f5;
-        v12.f0 = 1u;
-        v12.f1 = v13;
-        v12.f2 = v14;
-        v12.f3 = v15;
-        v12.f4 = v16;
-        v12.f5 = v17;
-        break;
-    case 2u:
-        v3 = a1->u64_0;
-        v18 = c2_target_state__fields__low(v3);
-        v19 = v2.f1;
-        v20 = v2.f3;
-        v21 = v2.f4;
-        v22 = v2.f5;
-        v12.f0 = 2u;
-        v12.f1 = v19;
-        v12.f2 = v18;
-        v12.f3 = v20;
-        v12.f4 = v21;
-        v12.f5 = v22;
-        break;
-    case 3u:
-        v4 = a1->bool_0;
-        v12 = c2_target_state__encode__of_block(3u, v4);
-        break;
-    case 4u:
-        v5 = a1->bool_0;
-        v6 = a1->u64_0;
-        v23 = c2_target_state__fields__low(v6);
-        v24 = c2_target_state__encode__of_block(4u, v5);
-        v25 = v24.f0;
-        v26 = v24.f1;
-        v27 = v24.f2;
-        v28 = v24.f4;
-        v29 = v24.f5;
-        v12.f0 = v25;
-        v12.f1 = v26;
-        v12.f2 = v27;
-        v12.f3 = v23;
-        v12.f4 = v28;
-        v12.f5 = v29;
-        break;
-    case 5u:
-        v7 = a1->bool_0;
-        v8 = a1->u64_0;
-        v30 = c2_target_state__fields__word(v8);
-        v31 = c2_target_state__encode__of_block(5u, v7);
-        v32 = v31.f0;
-        v33 = v31.f1;
-        v34 = v31.f2;
-        v35 = v31.f3;
-        v36 = v31.f5;
-        v12.f0 = v32;
-        v12.f1 = v33;
-        v12.f2 = v34;
-        v12.f3 = v35;
-        v12.f4 = v30;
-        v12.f5 = v36;
-        break;
-    case 6u:
-        v9 = a1->u64_0;
-        v10 = a1->u64_1;
-        v37 = c2_target_state__fields__word(v9);
-        v38 = c2_target_state__fields__word(v10);
-        v39 = v2.f1;
-        v40 = v2.f2;
-        v41 = v2.f3;
-        v12.f0 = 6u;
-        v12.f1 = v39;
-        v12.f2 = v40;
-        v12.f3 = v41;
-        v12.f4 = v37;
-        v12.f5 = v38;
-        break;
-    default: /* 7 */
-        v11 = a1->u64_0;
-        v42 = c2_target_state__fields__word(v11);
-        v43 = v2.f1;
-        v44 = v2.f2;
-        v45 = v2.f3;
-        v46 = v2.f4;
-        v12.f0 = 7u;
-        v12.f1 = v43;
-        v12.f2 = v44;
-        v12.f3 = v45;
-        v12.f4 = v46;
-        v12.f5 = v42;
-        break;
-    }
-    result.f0 = v12.f0;
-    result.f1 = v12.f1;
-    result.f2 = v12.f2;
-    result.f3 = v12.f3;
-    result.f4 = v12.f4;
-    result.f5 = v12.f5;
-    return result;
-}
-
-/* core::AnyInto::into_Command_CommandFields */
-static c2_target_state__CommandFields core__AnyInto__into_Command_CommandFields(const c2_target__Command *a1)
-{
-    c2_target_state__CommandFields result;
-    c2_target__Command v2;
-    v2.tag = a1->tag;
-    v2.u64_0 = a1->u64_0;
-    v2.bool_0 = a1->bool_0;
-    v2.u64_1 = a1->u64_1;
-    result = c2_target_state__encode__CommandFieldsFromCommand__from(&v2);
-    return result;
-}
-
-/* c2_target_state::OutputFieldsDefault::default */
-static c2_target_state__OutputFields c2_target_state__OutputFieldsDefault__default(void)
-{
-    c2_target_state__OutputFields result;
-    uint8_t v1;
-    uint8_t v2;
-    uint16_t v3;
-    uint16_t v4;
-    v1 = core__default__U8Default__default();
-    v2 = core__default__U8Default__default();
-    v3 = core__default__U16Default__default();
-    v4 = core__default__U16Default__default();
-    result.f0 = v1;
-    result.f1 = v2;
-    result.f2 = v3;
-    result.f3 = v4;
-    return result;
-}
-
-/* c2_target_state::encode::OutputFieldsFromOutput::from */
-static c2_target_state__OutputFields c2_target_state__encode__OutputFieldsFromOutput__from(
-    const c2_target__Output *a1)
-{
-    c2_target_state__OutputFields result;
-    c2_target_state__OutputFields v2;
-    _Bool v3;
-    uint64_t v4;
-    uint64_t v5;
-    uint64_t v6;
-    uint64_t v7;
-    c2_target_state__OutputFields v8;
-    uint8_t v9;
-    uint16_t v10;
-    uint16_t v11;
-    uint16_t v12;
-    uint16_t v13;
-    uint8_t v14;
-    uint16_t v15;
-    uint16_t v16;
-    uint8_t v17;
-    v2 = c2_target_state__OutputFieldsDefault__default();
-    switch (a1->tag) {
-    case 0u:
-        v8.f0 = v2.f0;
-        v8.f1 = v2.f1;
-        v8.f2 = v2.f2;
-        v8.f3 = v2.f3;
-        break;
-    case 1u:
-        v3 = a1->bool_0;
-        v9 = core__AnyInto__into_bool_u8(v3);
-        v10 = v2.f2;
-        v11 = v2.f3;
-        v8.f0 = 1u;
-        v8.f1 = v9;
-        v8.f2 = v10;
-        v8.f3 = v11;
-        break;
-    case 2u:
-        v4 = a1->u64_0;
-        v5 = a1->u64_1;
-        v12 = c2_target_state__fields__word(v4);
-        v13 = c2_target_state__fields__word(v5);
-        v14 = v2.f1;
-        v8.f0 = 2u;
-        v8.f1 = v14;
-        v8.f2 = v12;
-        v8.f3 = v13;
-        break;
-    default: /* 3 */
-        v6 = a1->u64_0;
-        v7 = a1->u64_1;
-        v15 = c2_target_state__fields__word(v6);
-        v16 = c2_target_state__fields__word(v7);
-        v17 = v2.f1;
-        v8.f0 = 3u;
-        v8.f1 = v17;
-        v8.f2 = v15;
-        v8.f3 = v16;
-        break;
-    }
-    result.f0 = v8.f0;
-    result.f1 = v8.f1;
-    result.f2 = v8.f2;
-    result.f3 = v8.f3;
-    return result;
-}
-
-/* core::AnyInto::into_Output_OutputFields */
-static c2_target_state__OutputFields core__AnyInto__into_Output_OutputFields(const c2_target__Output *a1)
-{
-    c2_target_state__OutputFields result;
-    c2_target__Output v2;
-    v2.tag = a1->tag;
-    v2.bool_0 = a1->bool_0;
-    v2.u64_0 = a1->u64_0;
-    v2.u64_1 = a1->u64_1;
-    result = c2_target_state__encode__OutputFieldsFromOutput__from(&v2);
-    return result;
-}
-
-/* core::AnyInto::into_Point_PointFields */
-static c2_target_state__PointFields core__AnyInto__into_Point_PointFields(const c2_target__Point *a1)
-{
-    c2_target_state__PointFields result;
-    c2_target__Point v2;
-    v2.tag = a1->tag;
-    v2.u64_0 = a1->u64_0;
-    v2.u64_1 = a1->u64_1;
-    v2.c2_target__Effect_0.tag = a1->c2_target__Effect_0.tag;
-    v2.c2_target__Effect_0.u64_0 = a1->c2_target__Effect_0.u64_0;
-    result = c2_target_state__encode__PointFieldsFromPoint__from(&v2);
-    return result;
-}
-
-/* c2_target_state::encode::StateFromTarget::from */
-static c2_target c2_target_state__encode__StateFromTarget__from(const c2_target__Target *a1)
-{
-    c2_target result;
-    c2_target__Link v2;
-    c2_target_state__PointFields v3;
-    c2_target__Point v4;
-    c2_target_state__CommandFields v5;
-    c2_target__Command v6;
-    c2_target_state__OutputFields v7;
-    c2_target__Output v8;
-    v2.f0.tag = a1->f3.f4.f0.tag;
-    v2.f0.u64_0 = a1->f3.f4.f0.u64_0;
-    v2.f0.bool_0 = a1->f3.f4.f0.bool_0;
-    v2.f0.u64_1 = a1->f3.f4.f0.u64_1;
-    v2.f1.tag = a1->f3.f4.f1.tag;
-    v2.f1.bool_0 = a1->f3.f4.f1.bool_0;
-    v2.f1.u64_0 = a1->f3.f4.f1.u64_0;
-    v2.f1.u64_1 = a1->f3.f4.f1.u64_1;
-    v2.f2 = a1->f3.f4.f2;
-    v2.f3 = a1->f3.f4.f3;
-    v4.tag = a1->f0.tag;
-    v4.u64_0 = a1->f0.u64_0;
-    v4.u64_1 = a1->f0.u64_1;
-    v4.c2_target__Effect_0.tag = a1->f0.c2_target__Effect_0.tag;
-    v4.c2_target__Effect_0.u64_0 = a1->f0.c2_target__Effect_0.u64_0;
-    v3 = core__AnyInto__into_Point_PointFields(&v4);
-    v6.tag = v2.f0.tag;
-    v6.u64_0 = v2.f0.u64_0;
-    v6.bool_0 = v2.f0.bool_0;
-    v6.u64_1 = v2.f0.u64_1;
-    v5 = core__AnyInto__into_Command_CommandFields(&v6);
-    v8.tag = v2.f1.tag;
-    v8.bool_0 = v2.f1.bool_0;
-    v8.u64_0 = v2.f1.u64_0;
-    v8.u64_1 = v2.f1.u64_1;
-    v7 = core__AnyInto__into_Output_OutputFields(&v8);
-    result = c2_target_state__encode__state_with(a1, &v3, &v5, &v7);
-    return result;
-}
-
-/* core::AnyInto::into_Target_State */
-static c2_target core__AnyInto__into_Target_State(const c2_target__Target *a1)
-{
-    c2_target result;
-    c2_target__Target v2;
-    v2.f0.tag = a1->f0.tag;
-    v2.f0.u64_0 = a1->f0.u64_0;
-    v2.f0.u64_1 = a1->f0.u64_1;
-    v2.f0.c2_target__Effect_0.tag = a1->f0.c2_target__Effect_0.tag;
-    v2.f0.c2_target__Effect_0.u64_0 = a1->f0.c2_target__Effect_0.u64_0;
-    v2.f1 = a1->f1;
-    v2.f2 = a1->f2;
-    v2.f3.f0 = a1->f3.f0;
-    v2.f3.f1 = a1->f3.f1;
-    v2.f3.f2 = a1->f3.f2;
-    v2.f3.f3.f0 = a1->f3.f3.f0;
-    v2.f3.f3.f1 = a1->f3.f3.f1;
-    v2.f3.f3.f2 = a1->f3.f3.f2;
-    v2.f3.f3.f3 = a1->f3.f3.f3;
-    v2.f3.f4.f0.tag = a1->f3.f4.f0.tag;
-    v2.f3.f4.f0.u64_0 = a1->f3.f4.f0.u64_0;
-    v2.f3.f4.f0.bool_0 = a1->f3.f4.f0.bool_0;
-    v2.f3.f4.f0.u64_1 = a1->f3.f4.f0.u64_1;
-    v2.f3.f4.f1.tag = a1->f3.f4.f1.tag;
-    v2.f3.f4.f1.bool_0 = a1->f3.f4.f1.bool_0;
-    v2.f3.f4.f1.u64_0 = a1->f3.f4.f1.u64_0;
-    v2.f3.f4.f1.u64_1 = a1->f3.f4.f1.u64_1;
-    v2.f3.f4.f2 = a1->f3.f4.f2;
-    v2.f3.f4.f3 = a1->f3.f4.f3;
-    result = c2_target_state__encode__StateFromTarget__from(&v2);
-    return result;
-}
-
-/* core::convert::others::U32FromBool::from */
-static uint32_t core__convert__others__U32FromBool__from(_Bool a1)
-{
-    uint32_t result;
-    result = (uint32_t)a1;
-    return result;
-}
-
-/* core::AnyInto::into_bool_u32 */
-static uint32_t core__AnyInto__into_bool_u32(_Bool a1)
-{
-    uint32_t result;
-    _Bool v2;
-    v2 = a1;
-    result = core__convert__others__U32FromBool__from(v2);
-    return result;
-}
-
-/* core::ResultFromResidualErrResidual::from_residua_368e9c */
-static core__Result_ModelReplied_Refusal core__ResultFromResidualErrResidual__from_residua_368e9c(
-    const core__ErrResidual_Refusal *a1)
-{
-    core__Result_ModelReplied_Refusal result;
-    numbers__Refusal v2;
-    numbers__Refusal v3;
-    v3 = a1->f0;
-    v2 = core__AnyFrom__from_Refusal(v3);
-    result.tag = 1u;
-    result.numbers__Refusal_0 = v2;
-    result.c2_target_state__ModelReplied_0.number = 0;
-    result.c2_target_state__ModelReplied_0.reply = 0;
-    result.c2_target_state__ModelReplied_0.target.place = 0;
-    result.c2_target_state__ModelReplied_0.target.start = 0;
-    result.c2_target_state__ModelReplied_0.target.rest = 0;
-    result.c2_target_state__ModelReplied_0.target.next = 0;
-    result.c2_target_state__ModelReplied_0.target.count = 0;
-    result.c2_target_state__ModelReplied_0.target.point = 0;
-    result.c2_target_state__ModelReplied_0.target.heard = 0;
-    result.c2_target_state__ModelReplied_0.target.value = 0;
-    result.c2_target_state__ModelReplied_0.target.left = 0;
-    result.c2_target_state__ModelReplied_0.target.zeros = 0;
-    result.c2_target_state__ModelReplied_0.target.effect = 0;
-    result.c2_target_state__ModelReplied_0.target.byte = 0;
-    result.c2_target_state__ModelReplied_0.target.collision = 0;
-    result.c2_target_state__ModelReplied_0.target.address = 0;
-    result.c2_target_state__ModelReplied_0.target.on = 0;
-    result.c2_target_state__ModelReplied_0.target.keys = 0;
-    result.c2_target_state__ModelReplied_0.target.met1 = 0;
-    result.c2_target_state__ModelReplied_0.target.met2 = 0;
-    result.c2_target_state__ModelReplied_0.target.met3 = 0;
-    result.c2_target_state__ModelReplied_0.target.met4 = 0;
-    result.c2_target_state__ModelReplied_0.target.command = 0;
-    result.c2_target_state__ModelReplied_0.target.write = 0;
-    result.c2_target_state__ModelReplied_0.target.page = 0;
-    result.c2_target_state__ModelReplied_0.target.high = 0;
-    result.c2_target_state__ModelReplied_0.target.output = 0;
-    result.c2_target_state__ModelReplied_0.target.passed = 0;
-    result.c2_target_state__ModelReplied_0.target.busy = 0;
-    result.c2_target_state__ModelReplied_0.target.late = 0;
-    return result;
-}
-
-/* core::ResultTry::branch_Turned_Refusal */
-static core__ControlFlow_ErrResidual_Refusal_Turned core__ResultTry__branch_Turned_Refusal(
-    const core__Result_Turned_Refusal *a1)
-{
-    core__ControlFlow_ErrResidual_Refusal_Turned result;
-    c2_target__Turned v2;
-    numbers__Refusal v3;
-    core__ControlFlow_ErrResidual_Refusal_Turned v4;
-    c2_target__Turned v5;
-    numbers__Refusal v6;
-    core__ErrResidual_Refusal v7;
-    switch (a1->tag) {
-    case 0u:
-        v2.f0 = a1->c2_target__Turned_0.f0;
-        v2.f1.f0.tag = a1->c2_target__Turned_0.f1.f0.tag;
-        v2.f1.f0.u64_0 = a1->c2_target__Turned_0.f1.f0.u64_0;
-        v2.f1.f0.u64_1 = a1->c2_target__Turned_0.f1.f0.u64_1;
-        v2.f1.f0.c2_target__Effect_0.tag = a1->c2_target__Turned_0.f1.f0.c2_target__Effect_0.tag;
-        v2.f1.f0.c2_target__Effect_0.u64_0 = a1->c2_target__Turned_0.f1.f0.c2_target__Effect_0.u64_0;
-        v2.f1.f1 = a1->c2_target__Turned_0.f1.f1;
-        v2.f1.f2 = a1->c2_target__Turned_0.f1.f2;
-        v2.f1.f3.f0 = a1->c2_target__Turned_0.f1.f3.f0;
-        v2.f1.f3.f1 = a1->c2_target__Turned_0.f1.f3.f1;
-        v2.f1.f3.f2 = a1->c2_target__Turned_0.f1.f3.f2;
-        v2.f1.f3.f3.f0 = a1->c2_target__Turned_0.f1.f3.f3.f0;
-        v2.f1.f3.f3.f1 = a1->c2_target__Turned_0.f1.f3.f3.f1;
-        v2.f1.f3.f3.f2 = a1->c2_target__Turned_0.f1.f3.f3.f2;
-        v2.f1.f3.f3.f3 = a1->c2_target__Turned_0.f1.f3.f3.f3;
-        v2.f1.f3.f4.f0.tag = a1->c2_target__Turned_0.f1.f3.f4.f0.tag;
-        v2.f1.f3.f4.f0.u64_0 = a1->c2_target__Turned_0.f1.f3.f4.f0.u64_0;
-        v2.f1.f3.f4.f0.bool_0 = a1->c2_target__Turned_0.f1.f3.f4.f0.bool_0;
-        v2.f1.f3.f4.f0.u64_1 = a1->c2_target__Turned_0.f1.f3.f4.f0.u64_1;
-        v2.f1.f3.f4.f1.tag = a1->c2_target__Turned_0.f1.f3.f4.f1.tag;
-        v2.f1.f3.f4.f1.bool_0 = a1->c2_target__Turned_0.f1.f3.f4.f1.bool_0;
-        v2.f1.f3.f4.f1.u64_0 = a1->c2_target__Turned_0.f1.f3.f4.f1.u64_0;
-        v2.f1.f3.f4.f1.u64_1 = a1->c2_target__Turned_0.f1.f3.f4.f1.u64_1;
-        v2.f1.f3.f4.f2 = a1->c2_target__Turned_0.f1.f3.f4.f2;
-        v2.f1.f3.f4.f3 = a1->c2_target__Turned_0.f1.f3.f4.f3;
-        v5.f0 = v2.f0;
-        v5.f1.f0.tag = v2.f1.f0.tag;
-        v5.f1.f0.u64_0 = v2.f1.f0.u64_0;
-        v5.f1.f0.u64_1 = v2.f1.f0.u64_1;
-        v5.f1.f0.c2_target__Effect_0.tag = v2.f1.f0.c2_target__Effect_0.tag;
-        v5.f1.f0.c2_target__Effect_0.u64_0 = v2.f1.f0.c2_target__Effect_0.u64_0;
-        v5.f1.f1 = v2.f1.f1;
-        v5.f1.f2 = v2.f1.f2;
-        v5.f1.f3.f0 = v2.f1.f3.f0;
-        v5.f1.f3.f1 = v2.f1.f3.f1;
-        v5.f1.f3.f2 = v2.f1.f3.f2;
-        v5.f1.f3.f3.f0 = v2.f1.f3.f3.f0;
-        v5.f1.f3.f3.f1 = v2.f1.f3.f3.f1;
-        v5.f1.f3.f3.f2 = v2.f1.f3.f3.f2;
-        v5.f1.f3.f3.f3 = v2.f1.f3.f3.f3;
-        v5.f1.f3.f4.f0.tag = v2.f1.f3.f4.f0.tag;
-        v5.f1.f3.f4.f0.u64_0 = v2.f1.f3.f4.f0.u64_0;
-        v5.f1.f3.f4.f0.bool_0 = v2.f1.f3.f4.f0.bool_0;
-        v5.f1.f3.f4.f0.u64_1 = v2.f1.f3.f4.f0.u64_1;
-        v5.f1.f3.f4.f1.tag = v2.f1.f3.f4.f1.tag;
-        v5.f1.f3.f4.f1.bool_0 = v2.f1.f3.f4.f1.bool_0;
-        v5.f1.f3.f4.f1.u64_0 = v2.f1.f3.f4.f1.u64_0;
-        v5.f1.f3.f4.f1.u64_1 = v2.f1.f3.f4.f1.u64_1;
-        v5.f1.f3.f4.f2 = v2.f1.f3.f4.f2;
-        v5.f1.f3.f4.f3 = v2.f1.f3.f4.f3;
-        v4.tag = 0u;
-        v4.c2_target__Turned_0.f0 = v5.f0;
-        v4.c2_target__Turned_0.f1.f0.tag = v5.f1.f0.tag;
-        v4.c2_target__Turned_0.f1.f0.u64_0 = v5.f1.f0.u64_0;
-        v4.c2_target__Turned_0.f1.f0.u64_1 = v5.f1.f0.u64_1;
-        v4.c2_target__Turned_0.f1.f0.c2_target__Effect_0.tag = v5.f1.f0.c2_target__Effect_0.tag;
-        v4.c2_target__Turned_0.f1.f0.c2_target__Effect_0.u64_0 = v5.f1.f0.c2_target__Effect_0.u64_0;
-        v4.c2_target__Turned_0.f1.f1 = v5.f1.f1;
-        v4.c2_target__Turned_0.f1.f2 = v5.f1.f2;
-        v4.c2_target__Turned_0.f1.f3.f0 = v5.f1.f3.f0;
-        v4.c2_target__Turned_0.f1.f3.f1 = v5.f1.f3.f1;
-        v4.c2_target__Turned_0.f1.f3.f2 = v5.f1.f3.f2;
-        v4.c2_target__Turned_0.f1.f3.f3.f0 = v5.f1.f3.f3.f0;
-        v4.c2_target__Turned_0.f1.f3.f3.f1 = v5.f1.f3.f3.f1;
-        v4.c2_target__Turned_0.f1.f3.f3.f2 = v5.f1.f3.f3.f2;
-        v4.c2_target__Turned_0.f1.f3.f3.f3 = v5.f1.f3.f3.f3;
-        v4.c2_target__Turned_0.f1.f3.f4.f0.tag = v5.f1.f3.f4.f0.tag;
-        v4.c2_target__Turned_0.f1.f3.f4.f0.u64_0 = v5.f1.f3.f4.f0.u64_0;
-        v4.c2_target__Turned_0.f1.f3.f4.f0.bool_0 = v5.f1.f3.f4.f0.bool_0;
-        v4.c2_target__Turned_0.f1.f3.f4.f0.u64_1 = v5.f1.f3.f4.f0.u64_1;
-        v4.c2_target__Turned_0.f1.f3.f4.f1.tag = v5.f1.f3.f4.f1.tag;
-        v4.c2_target__Turned_0.f1.f3.f4.f1.bool_0 = v5.f1.f3.f4.f1.bool_0;
-        v4.c2_target__Turned_0.f1.f3.f4.f1.u64_0 = v5.f1.f3.f4.f1.u64_0;
-        v4.c2_target__Turned_0.f1.f3.f4.f1.u64_1 = v5.f1.f3.f4.f1.u64_1;
-        v4.c2_target__Turned_0.f1.f3.f4.f2 = v5.f1.f3.f4.f2;
-        v4.c2_target__Turned_0.f1.f3.f4.f3 = v5.f1.f3.f4.f3;
-        v4.core__ErrResidual_Refusal_0.f0 = 0;
-        break;
-    default: /* 1 */
-        v3 = a1->numbers__Refusal_0;
-        v6 = v3;
-        v7.f0 = v6;
-        v4.tag = 1u;
-        v4.core__ErrResidual_Refusal_0.f0 = v7.f0;
-        v4.c2_target__Turned_0.f0 = 0;
-        v4.c2_target__Turned_0.f1.f0.tag = 0;
-        v4.c2_target__Turned_0.f1.f0.u64_0 = 0;
-        v4.c2_target__Turned_0.f1.f0.u64_1 = 0;
-        v4.c2_target__Turned_0.f1.f0.c2_target__Effect_0.tag = 0;
-        v4.c2_target__Turned_0.f1.f0.c2_target__Effect_0.u64_0 = 0;
-        v4.c2_target__Turned_0.f1.f1 = 0;
-        v4.c2_target__Turned_0.f1.f2 = 0;
-        v4.c2_target__Turned_0.f1.f3.f0 = 0;
-        v4.c2_target__Turned_0.f1.f3.f1 = 0;
-        v4.c2_target__Turned_0.f1.f3.f2 = 0;
-        v4.c2_target__Turned_0.f1.f3.f3.f0 = 0;
-        v4.c2_target__Turned_0.f1.f3.f3.f1 = 0;
-        v4.c2_target__Turned_0.f1.f3.f3.f2 = 0;
-        v4.c2_target__Turned_0.f1.f3.f3.f3 = 0;
-        v4.c2_target__Turned_0.f1.f3.f4.f0.tag = 0;
-        v4.c2_target__Turned_0.f1.f3.f4.f0.u64_0 = 0;
-        v4.c2_target__Turned_0.f1.f3.f4.f0.bool_0 = 0;
-        v4.c2_target__Turned_0.f1.f3.f4.f0.u64_1 = 0;
-        v4.c2_target__Turned_0.f1.f3.f4.f1.tag = 0;
-        v4.c2_target__Turned_0.f1.f3.f4.f1.bool_0 = 0;
-        v4.c2_target__Turned_0.f1.f3.f4.f1.u64_0 = 0;
-        v4.c2_target__Turned_0.f1.f3.f4.f1.u64_1 = 0;
-        v4.c2_target__Turned_0.f1.f3.f4.f2 = 0;
-        v4.c2_target__Turned_0.f1.f3.f4.f3 = 0;
-        break;
-    }
-    result.tag = v4.tag;
-    result.c2_target__Turned_0.f0 = v4.c2_target__Turned_0.f0;
-    result.c2_target__Turned_0.f1.f0.tag = v4.c2_target__Turned_0.f1.f0.tag;
-    result.c2_target__Turned_0.f1.f0.u64_0 = v4.c2_target__Turned_0.f1.f0.u64_0;
-    result.c2_target__Turned_0.f1.f0.u64_1 = v4.c2_target__Turned_0.f1.f0.u64_1;
-    result.c2_target__Turned_0.f1.f0.c2_target__Effect_0.tag = v4.c2_target__Turned_0.f1.f0.c2_target__Effect_0.tag;
-    result.c2_target__Turned_0.f1.f0.c2_target__Effect_0.u64_0 = v4.c2_target__Turned_0.f1.f0.c2_target__Effect_0.u64_0;
-    result.c2_target__Turned_0.f1.f1 = v4.c2_target__Turned_0.f1.f1;
-    result.c2_target__Turned_0.f1.f2 = v4.c2_target__Turned_0.f1.f2;
-    result.c2_target__Turned_0.f1.f3.f0 = v4.c2_target__Turned_0.f1.f3.f0;
-    result.c2_target__Turned_0.f1.f3.f1 = v4.c2_target__Turned_0.f1.f3.f1;
-    result.c2_target__Turned_0.f1.f3.f2 = v4.c2_target__Turned_0.f1.f3.f2;
-    result.c2_target__Turned_0.f1.f3.f3.f0 = v4.c2_target__Turned_0.f1.f3.f3.f0;
-    result.c2_target__Turned_0.f1.f3.f3.f1 = v4.c2_target__Turned_0.f1.f3.f3.f1;
-    result.c2_target__Turned_0.f1.f3.f3.f2 = v4.c2_target__Turned_0.f1.f3.f3.f2;
-    result.c2_target__Turned_0.f1.f3.f3.f3 = v4.c2_target__Turned_0.f1.f3.f3.f3;
-    result.c2_target__Turned_0.f1.f3.f4.f0.tag = v4.c2_target__Turned_0.f1.f3.f4.f0.tag;
-    result.c2_target__Turned_0.f1.f3.f4.f0.u64_0 = v4.c2_target__Turned_0.f1.f3.f4.f0.u64_0;
-    result.c2_target__Turned_0.f1.f3.f4.f0.bool_0 = v4.c2_target__Turned_0.f1.f3.f4.f0.bool_0;
-    result.c2_target__Turned_0.f1.f3.f4.f0.u64_1 = v4.c2_target__Turned_0.f1.f3.f4.f0.u64_1;
-    result.c2_target__Turned_0.f1.f3.f4.f1.tag = v4.c2_target__Turned_0.f1.f3.f4.f1.tag;
-    result.c2_target__Turned_0.f1.f3.f4.f1.bool_0 = v4.c2_target__Turned_0.f1.f3.f4.f1.bool_0;
-    result.c2_target__Turned_0.f1.f3.f4.f1.u64_0 = v4.c2_target__Turned_0.f1.f3.f4.f1.u64_0;
-    result.c2_target__Turned_0.f1.f3.f4.f1.u64_1 = v4.c2_target__Turned_0.f1.f3.f4.f1.u64_1;
-    result.c2_target__Turned_0.f1.f3.f4.f2 = v4.c2_target__Turned_0.f1.f3.f4.f2;
-    result.c2_target__Turned_0.f1.f3.f4.f3 = v4.c2_target__Turned_0.f1.f3.f4.f3;
-    result.core__ErrResidual_Refusal_0.f0 = v4.core__ErrResidual_Refusal_0.f0;
-    return result;
-}
-
-/* c2_target_state::model::stepped */
-static core__Result_ModelReplied_Refusal c2_target_state__model__stepped(const c2_settings *a1,
-    const c2_pairs *a2, const c2_target *a3, slice_mut_u8 a4, slice_u8 a5, uint8_t a6)
-{
-    core__Result_ModelReplied_Refusal result;
-    c2_target__Target v7;
-    c2_target__Target v8;
-    numbers__Refusal v9;
-    core__ErrResidual_Refusal v11;
-    c2_target__Turned v12;
-    c2_target__Turned v13;
-    core__ErrResidual_Refusal v14;
-    c2_target v15;
-    core__Result_Target_Refusal v16;
-    c2_target__Target v17;
-    core__ControlFlow_ErrResidual_Refusal_unit v18;
-    core__Result_unit_Refusal v19;
-    core__ControlFlow_ErrResidual_Refusal_Turned v20;
-    core__Result_Turned_Refusal v21;
-    uint8_t *v22;
-    slice_mut_u8 v23;
-    c2_target__Turned v24;
-    _Bool v25;
-    c2_target v26;
-    c2_target__Target v27;
-    c2_target__Target v28;
-    uint32_t v29;
-    c2_replied v30;
-    v16 = c2_target_state__decode__TargetTryFromState__try_from(a3);
-    switch (v16.tag) {
-    case 0u:
-        v8.f0.tag = v16.c2_target__Target_0.f0.tag;
-        v8.f0.u64_0 = v16.c2_target__Target_0.f0.u64_0;
-        v8.f0.u64_1 = v16.c2_target__Target_0.f0.u64_1;
-        v8.f0.c2_target__Effect_0.tag = v16.c2_target__Target_0.f0.c2_target__Effect_0.tag;
-        v8.f0.c2_target__Effect_0.u64_0 = v16.c2_target__Target_0.f0.c2_target__Effect_0.u64_0;
-        v8.f1 = v16.c2_target__Target_0.f1;
-        v8.f2 = v16.c2_target__Target_0.f2;
-        v8.f3.f0 = v16.c2_target__Target_0.f3.f0;
-        v8.f3.f1 = v16.c2_target__Target_0.f3.f1;
-        v8.f3.f2 = v16.c2_target__Target_0.f3.f2;
-        v8.f3.f3.f0 = v16.c2_target__Target_0.f3.f3.f0;
-        v8.f3.f3.f1 = v16.c2_target__Target_0.f3.f3.f1;
-        v8.f3.f3.f2 = v16.c2_target__Target_0.f3.f3.f2;
-        v8.f3.f3.f3 = v16.c2_target__Target_0.f3.f3.f3;
-        v8.f3.f4.f0.tag = v16.c2_target__Target_0.f3.f4.f0.tag;
-        v8.f3.f4.f0.u64_0 = v16.c2_target__Target_0.f3.f4.f0.u64_0;
-        v8.f3.f4.f0.bool_0 = v16.c2_target__Target_0.f3.f4.f0.bool_0;
-        v8.f3.f4.f0.u64_1 = v16.c2_target__Target_0.f3.f4.f0.u64_1;
-        v8.f3.f4.f1.tag = v16.c2_target__Target_0.f3.f4.f1.tag;
-        v8.f3.f4.f1.bool_0 = v16.c2_target__Target_0.f3.f4.f1.bool_0;
-        v8.f3.f4.f1.u64_0 = v16.c2_target__Target_0.f3.f4.f1.u64_0;
-        v8.f3.f4.f1.u64_1 = v16.c2_target__Target_0.f3.f4.f1.u64_1;
-        v8.f3.f4.f2 = v16.c2_target__Target_0.f3.f4.f2;
-        v8.f3.f4.f3 = v16.c2_target__Target_0.f3.f4.f3;
-        v17.f0.tag = v8.f0.tag;
-        v17.f0.u64_0 = v8.f0.u64_0;
-        v17.f0.u64_1 = v8.f0.u64_1;
-        v17.f0.c2_target__Effect_0.tag = v8.f0.c2_target__Effect_0.tag;
-        v17.f0.c2_target__Effect_0.u64_0 = v8.f0.c2_target__Effect_0.u64_0;
-        v17.f1 = v8.f1;
-        v17.f2 = v8.f2;
-        v17.f3.f0 = v8.f3.f0;
-        v17.f3.f1 = v8.f3.f1;
-        v17.f3.f2 = v8.f3.f2;
-        v17.f3.f3.f0 = v8.f3.f3.f0;
-        v17.f3.f3.f1 = v8.f3.f3.f1;
-        v17.f3.f3.f2 = v8.f3.f3.f2;
-        v17.f3.f3.f3 = v8.f3.f3.f3;
-        v17.f3.f4.f0.tag = v8.f3.f4.f0.tag;
-        v17.f3.f4.f0.u64_0 = v8.f3.f4.f0.u64_0;
-        v17.f3.f4.f0.bool_0 = v8.f3.f4.f0.bool_0;
-        v17.f3.f4.f0.u64_1 = v8.f3.f4.f0.u64_1;
-        v17.f3.f4.f1.tag = v8.f3.f4.f1.tag;
-        v17.f3.f4.f1.bool_0 = v8.f3.f4.f1.bool_0;
-        v17.f3.f4.f1.u64_0 = v8.f3.f4.f1.u64_0;
-        v17.f3.f4.f1.u64_1 = v8.f3.f4.f1.u64_1;
-        v17.f3.f4.f2 = v8.f3.f4.f2;
-        v17.f3.f4.f3 = v8.f3.f4.f3;
-        break;
-    default: /* 1 */
-        v9 = v16.numbers__Refusal_0;
-        v19 = c2_target_wanted__setup_refusal(a1, a2);
-        v18 = core__ResultTry__branch_unit_Refusal(&v19);
-        switch (v18.tag) {
-        case 0u:
-            break;
-        default: /* 1 */
-            v11.f0 = v18.core__ErrResidual_Refusal_0.f0;
-            result = core__ResultFromResidualErrResidual__from_residua_368e9c(&v11);
-            return result;
-        }
-        result.tag = 1u;
-        result.numbers__Refusal_0 = v9;
-        result.c2_target_state__ModelReplied_0.number = 0;
-        result.c2_target_state__ModelReplied_0.reply = 0;
-        result.c2_target_state__ModelReplied_0.target.place = 0;
-        result.c2_target_state__ModelReplied_0.target.start = 0;
-        result.c2_target_state__ModelReplied_0.target.rest = 0;
-        result.c2_target_state__ModelReplied_0.target.next = 0;
-        result.c2_target_state__ModelReplied_0.target.count = 0;
-        result.c2_target_state__ModelReplied_0.target.point = 0;
-        result.c2_target_state__ModelReplied_0.target.heard = 0;
-        result.c2_target_state__ModelReplied_0.target.value = 0;
-        result.c2_target_state__ModelReplied_0.target.left = 0;
-        result.c2_target_state__ModelReplied_0.target.zeros = 0;
-        result.c2_target_state__ModelReplied_0.target.effect = 0;
-        result.c2_target_state__ModelReplied_0.target.byte = 0;
-        result.c2_target_state__ModelReplied_0.target.collision = 0;
-        result.c2_target_state__ModelReplied_0.target.address = 0;
-        result.c2_target_state__ModelReplied_0.target.on = 0;
-        result.c2_target_state__ModelReplied_0.target.keys = 0;
-        result.c2_target_state__ModelReplied_0.target.met1 = 0;
-        result.c2_target_state__ModelReplied_0.target.met2 = 0;
-        result.c2_target_state__ModelReplied_0.target.met3 = 0;
-        result.c2_target_state__ModelReplied_0.target.met4 = 0;
-        result.c2_target_state__ModelReplied_0.target.command = 0;
-        result.c2_target_state__ModelReplied_0.target.write = 0;
-        result.c2_target_state__ModelReplied_0.target.page = 0;
-        result.c2_target_state__ModelReplied_0.target.high = 0;
-        result.c2_target_state__ModelReplied_0.target.output = 0;
-        result.c2_target_state__ModelReplied_0.target.passed = 0;
-        result.c2_target_state__ModelReplied_0.target.busy = 0;
-        result.c2_target_state__ModelReplied_0.target.late = 0;
-        return result;
-    }
-    v7.f0.tag = v17.f0.tag;
-    v7.f0.u64_0 = v17.f0.u64_0;
-    v7.f0.u64_1 = v17.f0.u64_1;
-    v7.f0.c2_target__Effect_0.tag = v17.f0.c2_target__Effect_0.tag;
-    v7.f0.c2_target__Effect_0.u64_0 = v17.f0.c2_target__Effect_0.u64_0;
-    v7.f1 = v17.f1;
-    v7.f2 = v17.f2;
-    v7.f3.f0 = v17.f3.f0;
-    v7.f3.f1 = v17.f3.f1;
-    v7.f3.f2 = v17.f3.f2;
-    v7.f3.f3.f0 = v17.f3.f3.f0;
-    v7.f3.f3.f1 = v17.f3.f3.f1;
-    v7.f3.f3.f2 = v17.f3.f3.f2;
-    v7.f3.f3.f3 = v17.f3.f3.f3;
-    v7.f3.f4.f0.tag = v17.f3.f4.f0.tag;
-    v7.f3.f4.f0.u64_0 = v17.f3.f4.f0.u64_0;
-    v7.f3.f4.f0.bool_0 = v17.f3.f4.f0.bool_0;
-    v7.f3.f4.f0.u64_1 = v17.f3.f4.f0.u64_1;
-    v7.f3.f4.f1.tag = v17.f3.f4.f1.tag;
-    v7.f3.f4.f1.bool_0 = v17.f3.f4.f1.bool_0;
-    v7.f3.f4.f1.u64_0 = v17.f3.f4.f1.u64_0;
-    v7.f3.f4.f1.u64_1 = v17.f3.f4.f1.u64_1;
-    v7.f3.f4.f2 = v17.f3.f4.f2;
-    v7.f3.f4.f3 = v17.f3.f4.f3;
-    v22 = a4.at;
-    v23.at = v22;
-    v23.length = a4.length;
-    v21 = c2_target_step__steps__step(a1, a2, &v7, v23, a5, a6);
-    v20 = core__ResultTry__branch_Turned_Refusal(&v21);
-    switch (v20.tag) {
-    case 0u:
-        v13.f0 = v20.c2_target__Turned_0.f0;
-        v13.f1.f0.tag = v20.c2_target__Turned_0.f1.f0.tag;
-        v13.f1.f0.u64_0 = v20.c2_target__Turned_0.f1.f0.u64_0;
-        v13.f1.f0.u64_1 = v20.c2_target__Turned_0.f1.f0.u64_1;
-        v13.f1.f0.c2_target__Effect_0.tag = v20.c2_target__Turned_0.f1.f0.c2_target__Effect_0.tag;
-        v13.f1.f0.c2_target__Effect_0.u64_0 = v20.c2_target__Turned_0.f1.f0.c2_target__Effect_0.u64_0;
-        v13.f1.f1 = v20.c2_target__Turned_0.f1.f1;
-        v13.f1.f2 = v20.c2_target__Turned_0.f1.f2;
-        v13.f1.f3.f0 = v20.c2_target__Turned_0.f1.f3.f0;
-        v13.f1.f3.f1 = v20.c2_target__Turned_0.f1.f3.f1;
-        v13.f1.f3.f2 = v20.c2_target__Turned_0.f1.f3.f2;
-        v13.f1.f3.f3.f0 = v20.c2_target__Turned_0.f1.f3.f3.f0;
-        v13.f1.f3.f3.f1 = v20.c2_target__Turned_0.f1.f3.f3.f1;
-        v13.f1.f3.f3.f2 = v20.c2_target__Turned_0.f1.f3.f3.f2;
-        v13.f1.f3.f3.f3 = v20.c2_target__Turned_0.f1.f3.f3.f3;
-        v13.f1.f3.f4.f0.tag = v20.c2_target__Turned_0.f1.f3.f4.f0.tag;
-        v13.f1.f3.f4.f0.u64_0 = v20.c2_target__Turned_0.f1.f3.f4.f0.u64_0;
-        v13.f1.f3.f4.f0.bool_0 = v20.c2_target__Turned_0.f1.f3.f4.f0.bool_0;
-        v13.f1.f3.f4.f0.u64_1 = v20.c2_target__Turned_0.f1.f3.f4.f0.u64_1;
-        v13.f1.f3.f4.f1.tag = v20.c2_target__Turned_0.f1.f3.f4.f1.tag;
-        v13.f1.f3.f4.f1.bool_0 = v20.c2_target__Turned_0.f1.f3.f4.f1.bool_0;
-        v13.f1.f3.f4.f1.u64_0 = v20.c2_target__Turned_0.f1.f3.f4.f1.u64_0;
-        v13.f1.f3.f4.f1.u64_1 = v20.c2_target__Turned_0.f1.f3.f4.f1.u64_1;
-        v13.f1.f3.f4.f2 = v20.c2_target__Turned_0.f1.f3.f4.f2;
-        v13.f1.f3.f4.f3 = v20.c2_target__Turned_0.f1.f3.f4.f3;
-        v24.f0 = v13.f0;
-        v24.f1.f0.tag = v13.f1.f0.tag;
-        v24.f1.f0.u64_0 = v13.f1.f0.u64_0;
-        v24.f1.f0.u64_1 = v13.f1.f0.u64_1;
-        v24.f1.f0.c2_target__Effect_0.tag = v13.f1.f0.c2_target__Effect_0.tag;
-        v24.f1.f0.c2_target__Effect_0.u64_0 = v13.f1.f0.c2_target__Effect_0.u64_0;
-        v24.f1.f1 = v13.f1.f1;
-        v24.f1.f2 = v13.f1.f2;
-        v24.f1.f3.f0 = v13.f1.f3.f0;
-        v24.f1.f3.f1 = v13.f1.f3.f1;
-        v24.f1.f3.f2 = v13.f1.f3.f2;
-        v24.f1.f3.f3.f0 = v13.f1.f3.f3.f0;
-        v24.f1.f3.f3.f1 = v13.f1.f3.f3.f1;
-        v24.f1.f3.f3.f2 = v13.f1.f3.f3.f2;
-        v24.f1.f3.f3.f3 = v13.f1.f3.f3.f3;
-        v24.f1.f3.f4.f0.tag = v13.f1.f3.f4.f0.tag;
-        v24.f1.f3.f4.f0.u64_0 = v13.f1.f3.f4.f0.u64_0;
-        v24.f1.f3.f4.f0.bool_0 = v13.f1.f3.f4.f0.bool_0;
-        v24.f1.f3.f4.f0.u64_1 = v13.f1.f3.f4.f0.u64_1;
-        v24.f1.f3.f4.f1.tag = v13.f1.f3.f4.f1.tag;
-        v24.f1.f3.f4.f1.bool_0 = v13.f1.f3.f4.f1.bool_0;
-        v24.f1.f3.f4.f1.u64_0 = v13.f1.f3.f4.f1.u64_0;
-        v24.f1.f3.f4.f1.u64_1 = v13.f1.f3.f4.f1.u64_1;
-        v24.f1.f3.f4.f2 = v13.f1.f3.f4.f2;
-        v24.f1.f3.f4.f3 = v13.f1.f3.f4.f3;
-        break;
-    default: /* 1 */
-        v14.f0 = v20.core__ErrResidual_Refusal_0.f0;
-        result = core__ResultFromResidualErrResidual__from_residua_368e9c(&v14);
-        return result;
-    }
-    v12.f0 = v24.f0;
-    v12.f1.f0.tag = v24.f1.f0.tag;
-    v12.f1.f0.u64_0 = v24.f1.f0.u64_0;
-    v12.f1.f0.u64_1 = v24.f1.f0.u64_1;
-    v12.f1.f0.c2_target__Effect_0.tag = v24.f1.f0.c2_target__Effect_0.tag;
-    v12.f1.f0.c2_target__Effect_0.u64_0 = v24.f1.f0.c2_target__Effect_0.u64_0;
-    v12.f1.f1 = v24.f1.f1;
-    v12.f1.f2 = v24.f1.f2;
-    v12.f1.f3.f0 = v24.f1.f3.f0;
-    v12.f1.f3.f1 = v24.f1.f3.f1;
-    v12.f1.f3.f2 = v24.f1.f3.f2;
-    v12.f1.f3.f3.f0 = v24.f1.f3.f3.f0;
-    v12.f1.f3.f3.f1 = v24.f1.f3.f3.f1;
-    v12.f1.f3.f3.f2 = v24.f1.f3.f3.f2;
-    v12.f1.f3.f3.f3 = v24.f1.f3.f3.f3;
-    v12.f1.f3.f4.f0.tag = v24.f1.f3.f4.f0.tag;
-    v12.f1.f3.f4.f0.u64_0 = v24.f1.f3.f4.f0.u64_0;
-    v12.f1.f3.f4.f0.bool_0 = v24.f1.f3.f4.f0.bool_0;
-    v12.f1.f3.f4.f0.u64_1 = v24.f1.f3.f4.f0.u64_1;
-    v12.f1.f3.f4.f1.tag = v24.f1.f3.f4.f1.tag;
-    v12.f1.f3.f4.f1.bool_0 = v24.f1.f3.f4.f1.bool_0;
-    v12.f1.f3.f4.f1.u64_0 = v24.f1.f3.f4.f1.u64_0;
-    v12.f1.f3.f4.f1.u64_1 = v24.f1.f3.f4.f1.u64_1;
-    v12.f1.f3.f4.f2 = v24.f1.f3.f4.f2;
-    v12.f1.f3.f4.f3 = v24.f1.f3.f4.f3;
-    v25 = c2_target_state__model__is_inside(a3->point, a6);
-    if (v25) {
-        v27.f0.tag = v12.f1.f0.tag;
-        v27.f0.u64_0 = v12.f1.f0.u64_0;
-        v27.f0.u64_1 = v12.f1.f0.u64_1;
-        v27.f0.c2_target__Effect_0.tag = v12.f1.f0.c2_target__Effect_0.tag;
-        v27.f0.c2_target__Effect_0.u64_0 = v12.f1.f0.c2_target__Effect_0.u64_0;
-        v27.f1 = v12.f1.f1;
-        v27.f2 = v12.f1.f2;
-        v27.f3.f0 = v12.f1.f3.f0;
-        v27.f3.f1 = v12.f1.f3.f1;
-        v27.f3.f2 = v12.f1.f3.f2;
-        v27.f3.f3.f0 = v12.f1.f3.f3.f0;
-        v27.f3.f3.f1 = v12.f1.f3.f3.f1;
-        v27.f3.f3.f2 = v12.f1.f3.f3.f2;
-        v27.f3.f3.f3 = v12.f1.f3.f3.f3;
-        v27.f3.f4.f0.tag = v12.f1.f3.f4.f0.tag;
-        v27.f3.f4.f0.u64_0 = v12.f1.f3.f4.f0.u64_0;
-        v27.f3.f4.f0.bool_0 = v12.f1.f3.f4.f0.bool_0;
-        v27.f3.f4.f0.u64_1 = v12.f1.f3.f4.f0.u64_1;
-        v27.f3.f4.f1.tag = v12.f1.f3.f4.f1.tag;
-        v27.f3.f4.f1.bool_0 = v12.f1.f3.f4.f1.bool_0;
-        v27.f3.f4.f1.u64_0 = v12.f1.f3.f4.f1.u64_0;
-        v27.f3.f4.f1.u64_1 = v12.f1.f3.f4.f1.u64_1;
-        v27.f3.f4.f2 = v12.f1.f3.f4.f2;
-        v27.f3.f4.f3 = v12.f1.f3.f4.f3;
-        v26 = c2_target_state__encode__point_moved(a3, &v27);
-    } else {
-        v28.f0.tag = v12.f1.f0.tag;
-        v28.f0.u64_0 = v12.f1.f0.u64_0;
-        v28.f0.u64_1 = v12.f1.f0.u64_1;
-        v28.f0.c2_target__Effect_0.tag = v12.f1.f0.c2_target__Effect_0.tag;
-        v28.f0.c2_target__Effect_0.u64_0 = v12.f1.f0.c2_target__Effect_0.u64_0;
-        v28.f1 = v12.f1.f1;
-        v28.f2 = v12.f1.f2;
-        v28.f3.f0 = v12.f1.f3.f0;
-        v28.f3.f1 = v12.f1.f3.f1;
-        v28.f3.f2 = v12.f1.f3.f2;
-        v28.f3.f3.f0 = v12.f1.f3.f3.f0;
-        v28.f3.f3.f1 = v12.f1.f3.f3.f1;
-        v28.f3.f3.f2 = v12.f1.f3.f3.f2;
-        v28.f3.f3.f3 = v12.f1.f3.f3.f3;
-        v28.f3.f4.f0.tag = v12.f1.f3.f4.f0.tag;
-        v28.f3.f4.f0.u64_0 = v12.f1.f3.f4.f0.u64_0;
-        v28.f3.f4.f0.bool_0 = v12.f1.f3.f4.f0.bool_0;
-        v28.f3.f4.f0.u64_1 = v12.f1.f3.f4.f0.u64_1;
-        v28.f3.f4.f1.tag = v12.f1.f3.f4.f1.tag;
-        v28.f3.f4.f1.bool_0 = v12.f1.f3.f4.f1.bool_0;
-        v28.f3.f4.f1.u64_0 = v12.f1.f3.f4.f1.u64_0;
-        v28.f3.f4.f1.u64_1 = v12.f1.f3.f4.f1.u64_1;
-        v28.f3.f4.f2 = v12.f1.f3.f4.f2;
-        v28.f3.f4.f3 = v12.f1.f3.f4.f3;
-        v26 = core__AnyInto__into_Target_State(&v28);
-    }
-    v15.place = v26.place;
-    v15.start = v26.start;
-    v15.rest = v26.rest;
-    v15.next = v26.next;
-    v15.count = v26.count;
-    v15.point = v26.point;
-    v15.heard = v26.heard;
-    v15.value = v26.value;
-    v15.left = v26.left;
-    v15.zeros = v26.zeros;
-    v15.effect = v26.effect;
-    v15.byte = v26.byte;
-    v15.collision = v26.collision;
-    v15.address = v26.address;
-    v15.on = v26.on;
-    v15.keys = v26.keys;
-    v15.met1 = v26.met1;
-    v15.met2 = v26.met2;
-    v15.met3 = v26.met3;
-    v15.met4 = v26.met4;
-    v15.command = v26.command;
-    v15.write = v26.write;
-    v15.page = v26.page;
-    v15.high = v26.high;
-    v15.output = v26.output;
-    v15.passed = v26.passed;
-    v15.busy = v26.busy;
-    v15.late = v26.late;
-    v29 = core__AnyInto__into_bool_u32(v12.f0);
-    v30.number = UINT32_C(0);
-    v30.reply = v29;
-    v30.target.place = v15.place;
-    v30.target.start = v15.start;
-    v30.target.rest = v15.rest;
-    v30.target.next = v15.next;
-    v30.target.count = v15.count;
-    v30.target.point = v15.point;
-    v30.target.heard = v15.heard;
-    v30.target.value = v15.value;
-    v30.target.left = v15.left;
-    v30.target.zeros = v15.zeros;
-    v30.target.effect = v15.effect;
-    v30.target.byte = v15.byte;
-    v30.target.collision = v15.collision;
-    v30.target.address = v15.address;
-    v30.target.on = v15.on;
-    v30.target.keys = v15.keys;
-    v30.target.met1 = v15.met1;
-    v30.target.met2 = v15.met2;
-    v30.target.met3 = v15.met3;
-    v30.target.met4 = v15.met4;
-    v30.target.command = v15.command;
-    v30.target.write = v15.write;
-    v30.target.page = v15.page;
-    v30.target.high = v15.high;
-    v30.target.output = v15.output;
-    v30.target.passed = v15.passed;
-    v30.target.busy = v15.busy;
-    v30.target.late = v15.late;
-    result.tag = 0u;
-    result.c2_target_state__ModelReplied_0.number = v30.number;
-    result.c2_target_state__ModelReplied_0.reply = v30.reply;
-    result.c2_target_state__ModelReplied_0.target.place = v30.target.place;
-    result.c2_target_state__ModelReplied_0.target.start = v30.target.start;
-    result.c2_target_state__ModelReplied_0.target.rest = v30.target.rest;
-    result.c2_target_state__ModelReplied_0.target.next = v30.target.next;
-    result.c2_target_state__ModelReplied_0.target.count = v30.target.count;
-    result.c2_target_state__ModelReplied_0.target.point = v30.target.point;
-    result.c2_target_state__ModelReplied_0.target.heard = v30.target.heard;
-    result.c2_target_state__ModelReplied_0.target.value = v30.target.value;
-    result.c2_target_state__ModelReplied_0.target.left = v30.target.left;
-    result.c2_target_state__ModelReplied_0.target.zeros = v30.target.zeros;
-    result.c2_target_state__ModelReplied_0.target.effect = v30.target.effect;
-    result.c2_target_state__ModelReplied_0.target.byte = v30.target.byte;
-    result.c2_target_state__ModelReplied_0.target.collision = v30.target.collision;
-    result.c2_target_state__ModelReplied_0.target.address = v30.target.address;
-    result.c2_target_state__ModelReplied_0.target.on = v30.target.on;
-    result.c2_target_state__ModelReplied_0.target.keys = v30.target.keys;
-    result.c2_target_state__ModelReplied_0.target.met1 = v30.target.met1;
-    result.c2_target_state__ModelReplied_0.target.met2 = v30.target.met2;
-    result.c2_target_state__ModelReplied_0.target.met3 = v30.target.met3;
-    result.c2_target_state__ModelReplied_0.target.met4 = v30.target.met4;
-    result.c2_target_state__ModelReplied_0.target.command = v30.target.command;
-    result.c2_target_state__ModelReplied_0.target.write = v30.target.write;
-    result.c2_target_state__ModelReplied_0.target.page = v30.target.page;
-    result.c2_target_state__ModelReplied_0.target.high = v30.target.high;
-    result.c2_target_state__ModelReplied_0.target.output = v30.target.output;
-    result.c2_target_state__ModelReplied_0.target.passed = v30.target.passed;
-    result.c2_target_state__ModelReplied_0.target.busy = v30.target.busy;
-    result.c2_target_state__ModelReplied_0.target.late = v30.target.late;
-    result.numbers__Refusal_0 = 0;
-    return result;
-}
-
-/* numbers::U32FromRefusal::from */
-static uint32_t numbers__U32FromRefusal__from(numbers__Refusal a1)
-{
-    uint32_t result;
-    uint32_t v2;
-    switch (a1) {
-    case 0u:
-        v2 = UINT32_C(1);
-        break;
-    case 1u:
-        v2 = UINT32_C(2);
-        break;
-    case 2u:
-        v2 = UINT32_C(3);
-        break;
-    case 3u:
-        v2 = UINT32_C(4);
-        break;
-    case 4u:
-        v2 = UINT32_C(5);
-        break;
-    case 5u:
-        v2 = UINT32_C(6);
-        break;
-    case 6u:
-        v2 = UINT32_C(7);
-        break;
-    case 7u:
-        v2 = UINT32_C(8);
-        break;
-    case 8u:
-        v2 = UINT32_C(16);
-        break;
-    case 9u:
-        v2 = UINT32_C(17);
-        break;
-    case 10u:
-        v2 = UINT32_C(18);
-        break;
-    case 11u:
-        v2 = UINT32_C(19);
-        break;
-    case 12u:
-        v2 = UINT32_C(20);
-        break;
-    case 13u:
-        v2 = UINT32_C(21);
-        break;
-    case 14u:
-        v2 = UINT32_C(22);
-        break;
-    case 15u:
-        v2 = UINT32_C(23);
-        break;
-    case 16u:
-        v2 = UINT32_C(24);
-        break;
-    case 17u:
-        v2 = UINT32_C(25);
-        break;
-    case 18u:
-        v2 = UINT32_C(26);
-        break;
-    case 19u:
-        v2 = UINT32_C(28);
-        break;
-    case 20u:
-        v2 = UINT32_C(29);
-        break;
-    case 21u:
-        v2 = UINT32_C(30);
-        break;
-    default: /* 22 */
-        v2 = UINT32_C(31);
-        break;
-    }
-    result = v2;
-    return result;
-}
-
-/* core::AnyInto::into_Refusal_u32 */
-static uint32_t core__AnyInto__into_Refusal_u32(numbers__Refusal a1)
-{
-    uint32_t result;
-    numbers__Refusal v2;
-    v2 = a1;
-    result = numbers__U32FromRefusal__from(v2);
-    return result;
-}
-
 /* c2_target_state::model::step */
 static c2_replied c2_target_state__model__step(const c2_settings *a1, const c2_pairs *a2, const c2_target *a3,
     slice_mut_u8 a4, slice_u8 a5, uint8_t a6)
 {
     c2_replied result;
-    c2_replied v7;
-    numbers__Refusal v8;
-    core__Result_ModelReplied_Refusal v9;
-    uint8_t *v10;
-    slice_mut_u8 v11;
-    c2_replied v12;
-    uint32_t v13;
-    v10 = a4.at;
-    v11.at = v10;
-    v11.length = a4.length;
-    v9 = c2_target_state__model__stepped(a1, a2, a3, v11, a5, a6);
-    switch (v9.tag) {
+    c2_target__Target v7;
+    c2_target__Target v8;
+    numbers__Refusal v9;
+    numbers__Refusal v10;
+    c2_target__Turned v11;
+    c2_target__Turned v12;
+    numbers__Refusal v13;
+    core__Result_Target_Refusal v14;
+    c2_target__Target v15;
+    core__Result_unit_Refusal v16;
+    c2_replied v17;
+    core__Result_Turned_Refusal v18;
+    uint8_t *v19;
+    slice_mut_u8 v20;
+    c2_target__Turned v21;
+    c2_target__Target v22;
+    v14 = c2_target_state__decode__TargetTryFromState__try_from(a3);
+    switch (v14.tag) {
     case 0u:
-        v7.number = v9.c2_target_state__ModelReplied_0.number;
-        v7.reply = v9.c2_target_state__ModelReplied_0.reply;
-        v7.target.place = v9.c2_target_state__ModelReplied_0.target.place;
-        v7.target.start = v9.c2_target_state__ModelReplied_0.target.start;
-        v7.target.rest = v9.c2_target_state__ModelReplied_0.target.rest;
-        v7.target.next = v9.c2_target_state__ModelReplied_0.target.next;
-        v7.target.count = v9.c2_target_state__ModelReplied_0.target.count;
-        v7.target.point = v9.c2_target_state__ModelReplied_0.target.point;
-        v7.target.heard = v9.c2_target_state__ModelReplied_0.target.heard;
-        v7.target.value = v9.c2_target_state__ModelReplied_0.target.value;
-        v7.target.left = v9.c2_target_state__ModelReplied_0.target.left;
-        v7.target.zeros = v9.c2_target_state__ModelReplied_0.target.zeros;
-        v7.target.effect = v9.c2_target_state__ModelReplied_0.target.effect;
-        v7.target.byte = v9.c2_target_state__ModelReplied_0.target.byte;
-        v7.target.collision = v9.c2_target_state__ModelReplied_0.target.collision;
-        v7.target.address = v9.c2_target_state__ModelReplied_0.target.address;
-        v7.target.on = v9.c2_target_state__ModelReplied_0.target.on;
-        v7.target.keys = v9.c2_target_state__ModelReplied_0.target.keys;
-        v7.target.met1 = v9.c2_target_state__ModelReplied_0.target.met1;
-        v7.target.met2 = v9.c2_target_state__ModelReplied_0.target.met2;
-        v7.target.met3 = v9.c2_target_state__ModelReplied_0.target.met3;
-        v7.target.met4 = v9.c2_target_state__ModelReplied_0.target.met4;
-        v7.target.command = v9.c2_target_state__ModelReplied_0.target.command;
-        v7.target.write = v9.c2_target_state__ModelReplied_0.target.write;
-        v7.target.page = v9.c2_target_state__ModelReplied_0.target.page;
-        v7.target.high = v9.c2_target_state__ModelReplied_0.target.high;
-        v7.target.output = v9.c2_target_state__ModelReplied_0.target.output;
-        v7.target.passed = v9.c2_target_state__ModelReplied_0.target.passed;
-        v7.target.busy = v9.c2_target_state__ModelReplied_0.target.busy;
-        v7.target.late = v9.c2_target_state__ModelReplied_0.target.late;
-        v12.number = v7.number;
-        v12.reply = v7.reply;
-        v12.target.place = v7.target.place;
-        v12.target.start = v7.target.start;
-        v12.target.rest = v7.target.rest;
-        v12.target.next = v7.target.next;
-        v12.target.count = v7.target.count;
-        v12.target.point = v7.target.point;
-        v12.target.heard = v7.target.heard;
-        v12.target.value = v7.target.value;
-        v12.target.left = v7.target.left;
-        v12.target.zeros = v7.target.zeros;
-        v12.target.effect = v7.target.effect;
-        v12.target.byte = v7.target.byte;
-        v12.target.collision = v7.target.collision;
-        v12.target.address = v7.target.address;
-        v12.target.on = v7.target.on;
-        v12.target.keys = v7.target.keys;
-        v12.target.met1 = v7.target.met1;
-        v12.target.met2 = v7.target.met2;
-        v12.target.met3 = v7.target.met3;
-        v12.target.met4 = v7.target.met4;
-        v12.target.command = v7.target.command;
-        v12.target.write = v7.target.write;
-        v12.target.page = v7.target.page;
-        v12.target.high = v7.target.high;
-        v12.target.output = v7.target.output;
-        v12.target.passed = v7.target.passed;
-        v12.target.busy = v7.target.busy;
-        v12.target.late = v7.target.late;
+        v8.f0.tag = v14.c2_target__Target_0.f0.tag;
+        v8.f0.u64_0 = v14.c2_target__Target_0.f0.u64_0;
+        v8.f0.u64_1 = v14.c2_target__Target_0.f0.u64_1;
+        v8.f0.c2_target__Effect_0.tag = v14.c2_target__Target_0.f0.c2_target__Effect_0.tag;
+        v8.f0.c2_target__Effect_0.u64_0 = v14.c2_target__Target_0.f0.c2_target__Effect_0.u64_0;
+        v8.f1 = v14.c2_target__Target_0.f1;
+        v8.f2 = v14.c2_target__Target_0.f2;
+        v8.f3.f0 = v14.c2_target__Target_0.f3.f0;
+        v8.f3.f1 = v14.c2_target__Target_0.f3.f1;
+        v8.f3.f2 = v14.c2_target__Target_0.f3.f2;
+        v8.f3.f3.f0 = v14.c2_target__Target_0.f3.f3.f0;
+        v8.f3.f3.f1 = v14.c2_target__Target_0.f3.f3.f1;
+        v8.f3.f3.f2 = v14.c2_target__Target_0.f3.f3.f2;
+        v8.f3.f3.f3 = v14.c2_target__Target_0.f3.f3.f3;
+        v8.f3.f4.f0.tag = v14.c2_target__Target_0.f3.f4.f0.tag;
+        v8.f3.f4.f0.u64_0 = v14.c2_target__Target_0.f3.f4.f0.u64_0;
+        v8.f3.f4.f0.bool_0 = v14.c2_target__Target_0.f3.f4.f0.bool_0;
+        v8.f3.f4.f0.u64_1 = v14.c2_target__Target_0.f3.f4.f0.u64_1;
+        v8.f3.f4.f1.tag = v14.c2_target__Target_0.f3.f4.f1.tag;
+        v8.f3.f4.f1.bool_0 = v14.c2_target__Target_0.f3.f4.f1.bool_0;
+        v8.f3.f4.f1.u64_0 = v14.c2_target__Target_0.f3.f4.f1.u64_0;
+        v8.f3.f4.f1.u64_1 = v14.c2_target__Target_0.f3.f4.f1.u64_1;
+        v8.f3.f4.f2 = v14.c2_target__Target_0.f3.f4.f2;
+        v8.f3.f4.f3 = v14.c2_target__Target_0.f3.f4.f3;
+        v15.f0.tag = v8.f0.tag;
+        v15.f0.u64_0 = v8.f0.u64_0;
+        v15.f0.u64_1 = v8.f0.u64_1;
+        v15.f0.c2_target__Effect_0.tag = v8.f0.c2_target__Effect_0.tag;
+        v15.f0.c2_target__Effect_0.u64_0 = v8.f0.c2_target__Effect_0.u64_0;
+        v15.f1 = v8.f1;
+        v15.f2 = v8.f2;
+        v15.f3.f0 = v8.f3.f0;
+        v15.f3.f1 = v8.f3.f1;
+        v15.f3.f2 = v8.f3.f2;
+        v15.f3.f3.f0 = v8.f3.f3.f0;
+        v15.f3.f3.f1 = v8.f3.f3.f1;
+        v15.f3.f3.f2 = v8.f3.f3.f2;
+        v15.f3.f3.f3 = v8.f3.f3.f3;
+        v15.f3.f4.f0.tag = v8.f3.f4.f0.tag;
+        v15.f3.f4.f0.u64_0 = v8.f3.f4.f0.u64_0;
+        v15.f3.f4.f0.bool_0 = v8.f3.f4.f0.bool_0;
+        v15.f3.f4.f0.u64_1 = v8.f3.f4.f0.u64_1;
+        v15.f3.f4.f1.tag = v8.f3.f4.f1.tag;
+        v15.f3.f4.f1.bool_0 = v8.f3.f4.f1.bool_0;
+        v15.f3.f4.f1.u64_0 = v8.f3.f4.f1.u64_0;
+        v15.f3.f4.f1.u64_1 = v8.f3.f4.f1.u64_1;
+        v15.f3.f4.f2 = v8.f3.f4.f2;
+        v15.f3.f4.f3 = v8.f3.f4.f3;
         break;
     default: /* 1 */
-        v8 = v9.numbers__Refusal_0;
-        v13 = core__AnyInto__into_Refusal_u32(v8);
-        v12.number = v13;
-        v12.reply = UINT32_C(1);
-        v12.target.place = a3->place;
-        v12.target.start = a3->start;
-        v12.target.rest = a3->rest;
-        v12.target.next = a3->next;
-        v12.target.count = a3->count;
-        v12.target.point = a3->point;
-        v12.target.heard = a3->heard;
-        v12.target.value = a3->value;
-        v12.target.left = a3->left;
-        v12.target.zeros = a3->zeros;
-        v12.target.effect = a3->effect;
-        v12.target.byte = a3->byte;
-        v12.target.collision = a3->collision;
-        v12.target.address = a3->address;
-        v12.target.on = a3->on;
-        v12.target.keys = a3->keys;
-        v12.target.met1 = a3->met1;
-        v12.target.met2 = a3->met2;
-        v12.target.met3 = a3->met3;
-        v12.target.met4 = a3->met4;
-        v12.target.command = a3->command;
-        v12.target.write = a3->write;
-        v12.target.page = a3->page;
-        v12.target.high = a3->high;
-        v12.target.output = a3->output;
-        v12.target.passed = a3->passed;
-        v12.target.busy = a3->busy;
-        v12.target.late = a3->late;
-        break;
+        v9 = v14.numbers__Refusal_0;
+        v16 = c2_target_wanted__setup_refusal(a1, a2);
+        switch (v16.tag) {
+        case 0u:
+            v17 = c2_target_state__model__refused(v9, a3);
+            break;
+        default: /* 1 */
+            v10 = v16.numbers__Refusal_0;
+            v17 = c2_target_state__model__refused(v10, a3);
+            break;
+        }
+        result.number = v17.number;
+        result.reply = v17.reply;
+        result.target.place = v17.target.place;
+        result.target.start = v17.target.start;
+        result.target.rest = v17.target.rest;
+        result.target.next = v17.target.next;
+        result.target.count = v17.target.count;
+        result.target.point = v17.target.point;
+        result.target.heard = v17.target.heard;
+        result.target.value = v17.target.value;
+        result.target.left = v17.target.left;
+        result.target.zeros = v17.target.zeros;
+        result.target.effect = v17.target.effect;
+        result.target.byte = v17.target.byte;
+        result.target.collision = v17.target.collision;
+        result.target.address = v17.target.address;
+        result.target.on = v17.target.on;
+        result.target.keys = v17.target.keys;
+        result.target.met1 = v17.target.met1;
+        result.target.met2 = v17.target.met2;
+        result.target.met3 = v17.target.met3;
+        result.target.met4 = v17.target.met4;
+        result.target.command = v17.target.command;
+        result.target.write = v17.target.write;
+        result.target.page = v17.target.page;
+        result.target.high = v17.target.high;
+        result.target.output = v17.target.output;
+        result.target.passed = v17.target.passed;
+        result.target.busy = v17.target.busy;
+        result.target.late = v17.target.late;
+        return result;
     }
-    result.number = v12.number;
-    result.reply = v12.reply;
-    result.target.place = v12.target.place;
-    result.target.start = v12.target.start;
-    result.target.rest = v12.target.rest;
-    result.target.next = v12.target.next;
-    result.target.count = v12.target.count;
-    result.target.point = v12.target.point;
-    result.target.heard = v12.target.heard;
-    result.target.value = v12.target.value;
-    result.target.left = v12.target.left;
-    result.target.zeros = v12.target.zeros;
-    result.target.effect = v12.target.effect;
-    result.target.byte = v12.target.byte;
-    result.target.collision = v12.target.collision;
-    result.target.address = v12.target.address;
-    result.target.on = v12.target.on;
-    result.target.keys = v12.target.keys;
-    result.target.met1 = v12.target.met1;
-    result.target.met2 = v12.target.met2;
-    result.target.met3 = v12.target.met3;
-    result.target.met4 = v12.target.met4;
-    result.target.command = v12.target.command;
-    result.target.write = v12.target.write;
-    result.target.page = v12.target.page;
-    result.target.high = v12.target.high;
-    result.target.output = v12.target.output;
-    result.target.passed = v12.target.passed;
-    result.target.busy = v12.target.busy;
-    result.target.late = v12.target.late;
+    v7.f0.tag = v15.f0.tag;
+    v7.f0.u64_0 = v15.f0.u64_0;
+    v7.f0.u64_1 = v15.f0.u64_1;
+    v7.f0.c2_target__Effect_0.tag = v15.f0.c2_target__Effect_0.tag;
+    v7.f0.c2_target__Effect_0.u64_0 = v15.f0.c2_target__Effect_0.u64_0;
+    v7.f1 = v15.f1;
+    v7.f2 = v15.f2;
+    v7.f3.f0 = v15.f3.f0;
+    v7.f3.f1 = v15.f3.f1;
+    v7.f3.f2 = v15.f3.f2;
+    v7.f3.f3.f0 = v15.f3.f3.f0;
+    v7.f3.f3.f1 = v15.f3.f3.f1;
+    v7.f3.f3.f2 = v15.f3.f3.f2;
+    v7.f3.f3.f3 = v15.f3.f3.f3;
+    v7.f3.f4.f0.tag = v15.f3.f4.f0.tag;
+    v7.f3.f4.f0.u64_0 = v15.f3.f4.f0.u64_0;
+    v7.f3.f4.f0.bool_0 = v15.f3.f4.f0.bool_0;
+    v7.f3.f4.f0.u64_1 = v15.f3.f4.f0.u64_1;
+    v7.f3.f4.f1.tag = v15.f3.f4.f1.tag;
+    v7.f3.f4.f1.bool_0 = v15.f3.f4.f1.bool_0;
+    v7.f3.f4.f1.u64_0 = v15.f3.f4.f1.u64_0;
+    v7.f3.f4.f1.u64_1 = v15.f3.f4.f1.u64_1;
+    v7.f3.f4.f2 = v15.f3.f4.f2;
+    v7.f3.f4.f3 = v15.f3.f4.f3;
+    v19 = a4.at;
+    v20.at = v19;
+    v20.length = a4.length;
+    v18 = c2_target_step__steps__step(a1, a2, &v7, v20, a5, a6);
+    switch (v18.tag) {
+    case 0u:
+        v12.f0 = v18.c2_target__Turned_0.f0;
+        v12.f1.f0.tag = v18.c2_target__Turned_0.f1.f0.tag;
+        v12.f1.f0.u64_0 = v18.c2_target__Turned_0.f1.f0.u64_0;
+        v12.f1.f0.u64_1 = v18.c2_target__Turned_0.f1.f0.u64_1;
+        v12.f1.f0.c2_target__Effect_0.tag = v18.c2_target__Turned_0.f1.f0.c2_target__Effect_0.tag;
+        v12.f1.f0.c2_target__Effect_0.u64_0 = v18.c2_target__Turned_0.f1.f0.c2_target__Effect_0.u64_0;
+        v12.f1.f1 = v18.c2_target__Turned_0.f1.f1;
+        v12.f1.f2 = v18.c2_target__Turned_0.f1.f2;
+        v12.f1.f3.f0 = v18.c2_target__Turned_0.f1.f3.f0;
+        v12.f1.f3.f1 = v18.c2_target__Turned_0.f1.f3.f1;
+        v12.f1.f3.f2 = v18.c2_target__Turned_0.f1.f3.f2;
+        v12.f1.f3.f3.f0 = v18.c2_target__Turned_0.f1.f3.f3.f0;
+        v12.f1.f3.f3.f1 = v18.c2_target__Turned_0.f1.f3.f3.f1;
+        v12.f1.f3.f3.f2 = v18.c2_target__Turned_0.f1.f3.f3.f2;
+        v12.f1.f3.f3.f3 = v18.c2_target__Turned_0.f1.f3.f3.f3;
+        v12.f1.f3.f4.f0.tag = v18.c2_target__Turned_0.f1.f3.f4.f0.tag;
+        v12.f1.f3.f4.f0.u64_0 = v18.c2_target__Turned_0.f1.f3.f4.f0.u64_0;
+        v12.f1.f3.f4.f0.bool_0 = v18.c2_target__Turned_0.f1.f3.f4.f0.bool_0;
+        v12.f1.f3.f4.f0.u64_1 = v18.c2_target__Turned_0.f1.f3.f4.f0.u64_1;
+        v12.f1.f3.f4.f1.tag = v18.c2_target__Turned_0.f1.f3.f4.f1.tag;
+        v12.f1.f3.f4.f1.bool_0 = v18.c2_target__Turned_0.f1.f3.f4.f1.bool_0;
+        v12.f1.f3.f4.f1.u64_0 = v18.c2_target__Turned_0.f1.f3.f4.f1.u64_0;
+        v12.f1.f3.f4.f1.u64_1 = v18.c2_target__Turned_0.f1.f3.f4.f1.u64_1;
+        v12.f1.f3.f4.f2 = v18.c2_target__Turned_0.f1.f3.f4.f2;
+        v12.f1.f3.f4.f3 = v18.c2_target__Turned_0.f1.f3.f4.f3;
+        v21.f0 = v12.f0;
+        v21.f1.f0.tag = v12.f1.f0.tag;
+        v21.f1.f0.u64_0 = v12.f1.f0.u64_0;
+        v21.f1.f0.u64_1 = v12.f1.f0.u64_1;
+        v21.f1.f0.c2_target__Effect_0.tag = v12.f1.f0.c2_target__Effect_0.tag;
+        v21.f1.f0.c2_target__Effect_0.u64_0 = v12.f1.f0.c2_target__Effect_0.u64_0;
+        v21.f1.f1 = v12.f1.f1;
+        v21.f1.f2 = v12.f1.f2;
+        v21.f1.f3.f0 = v12.f1.f3.f0;
+        v21.f1.f3.f1 = v12.f1.f3.f1;
+        v21.f1.f3.f2 = v12.f1.f3.f2;
+        v21.f1.f3.f3.f0 = v12.f1.f3.f3.f0;
+        v21.f1.f3.f3.f1 = v12.f1.f3.f3.f1;
+        v21.f1.f3.f3.f2 = v12.f1.f3.f3.f2;
+        v21.f1.f3.f3.f3 = v12.f1.f3.f3.f3;
+        v21.f1.f3.f4.f0.tag = v12.f1.f3.f4.f0.tag;
+        v21.f1.f3.f4.f0.u64_0 = v12.f1.f3.f4.f0.u64_0;
+        v21.f1.f3.f4.f0.bool_0 = v12.f1.f3.f4.f0.bool_0;
+        v21.f1.f3.f4.f0.u64_1 = v12.f1.f3.f4.f0.u64_1;
+        v21.f1.f3.f4.f1.tag = v12.f1.f3.f4.f1.tag;
+        v21.f1.f3.f4.f1.bool_0 = v12.f1.f3.f4.f1.bool_0;
+        v21.f1.f3.f4.f1.u64_0 = v12.f1.f3.f4.f1.u64_0;
+        v21.f1.f3.f4.f1.u64_1 = v12.f1.f3.f4.f1.u64_1;
+        v21.f1.f3.f4.f2 = v12.f1.f3.f4.f2;
+        v21.f1.f3.f4.f3 = v12.f1.f3.f4.f3;
+        break;
+    default: /* 1 */
+        v13 = v18.numbers__Refusal_0;
+        result = c2_target_state__model__refused(v13, a3);
+        return result;
+    }
+    v11.f0 = v21.f0;
+    v11.f1.f0.tag = v21.f1.f0.tag;
+    v11.f1.f0.u64_0 = v21.f1.f0.u64_0;
+    v11.f1.f0.u64_1 = v21.f1.f0.u64_1;
+    v11.f1.f0.c2_target__Effect_0.tag = v21.f1.f0.c2_target__Effect_0.tag;
+    v11.f1.f0.c2_target__Effect_0.u64_0 = v21.f1.f0.c2_target__Effect_0.u64_0;
+    v11.f1.f1 = v21.f1.f1;
+    v11.f1.f2 = v21.f1.f2;
+    v11.f1.f3.f0 = v21.f1.f3.f0;
+    v11.f1.f3.f1 = v21.f1.f3.f1;
+    v11.f1.f3.f2 = v21.f1.f3.f2;
+    v11.f1.f3.f3.f0 = v21.f1.f3.f3.f0;
+    v11.f1.f3.f3.f1 = v21.f1.f3.f3.f1;
+    v11.f1.f3.f3.f2 = v21.f1.f3.f3.f2;
+    v11.f1.f3.f3.f3 = v21.f1.f3.f3.f3;
+    v11.f1.f3.f4.f0.tag = v21.f1.f3.f4.f0.tag;
+    v11.f1.f3.f4.f0.u64_0 = v21.f1.f3.f4.f0.u64_0;
+    v11.f1.f3.f4.f0.bool_0 = v21.f1.f3.f4.f0.bool_0;
+    v11.f1.f3.f4.f0.u64_1 = v21.f1.f3.f4.f0.u64_1;
+    v11.f1.f3.f4.f1.tag = v21.f1.f3.f4.f1.tag;
+    v11.f1.f3.f4.f1.bool_0 = v21.f1.f3.f4.f1.bool_0;
+    v11.f1.f3.f4.f1.u64_0 = v21.f1.f3.f4.f1.u64_0;
+    v11.f1.f3.f4.f1.u64_1 = v21.f1.f3.f4.f1.u64_1;
+    v11.f1.f3.f4.f2 = v21.f1.f3.f4.f2;
+    v11.f1.f3.f4.f3 = v21.f1.f3.f4.f3;
+    v22.f0.tag = v11.f1.f0.tag;
+    v22.f0.u64_0 = v11.f1.f0.u64_0;
+    v22.f0.u64_1 = v11.f1.f0.u64_1;
+    v22.f0.c2_target__Effect_0.tag = v11.f1.f0.c2_target__Effect_0.tag;
+    v22.f0.c2_target__Effect_0.u64_0 = v11.f1.f0.c2_target__Effect_0.u64_0;
+    v22.f1 = v11.f1.f1;
+    v22.f2 = v11.f1.f2;
+    v22.f3.f0 = v11.f1.f3.f0;
+    v22.f3.f1 = v11.f1.f3.f1;
+    v22.f3.f2 = v11.f1.f3.f2;
+    v22.f3.f3.f0 = v11.f1.f3.f3.f0;
+    v22.f3.f3.f1 = v11.f1.f3.f3.f1;
+    v22.f3.f3.f2 = v11.f1.f3.f3.f2;
+    v22.f3.f3.f3 = v11.f1.f3.f3.f3;
+    v22.f3.f4.f0.tag = v11.f1.f3.f4.f0.tag;
+    v22.f3.f4.f0.u64_0 = v11.f1.f3.f4.f0.u64_0;
+    v22.f3.f4.f0.bool_0 = v11.f1.f3.f4.f0.bool_0;
+    v22.f3.f4.f0.u64_1 = v11.f1.f3.f4.f0.u64_1;
+    v22.f3.f4.f1.tag = v11.f1.f3.f4.f1.tag;
+    v22.f3.f4.f1.bool_0 = v11.f1.f3.f4.f1.bool_0;
+    v22.f3.f4.f1.u64_0 = v11.f1.f3.f4.f1.u64_0;
+    v22.f3.f4.f1.u64_1 = v11.f1.f3.f4.f1.u64_1;
+    v22.f3.f4.f2 = v11.f1.f3.f4.f2;
+    v22.f3.f4.f3 = v11.f1.f3.f4.f3;
+    result = c2_target_state__model__accepted(a3, a6, v11.f0, &v22);
     return result;
 }
 

@@ -1,4 +1,4 @@
-/* Made from the MIR of crate radio, sha256 10ed672877f716e9b8c8958c7345796964a689bb6ce1973d2dea5c358eae9b12. */
+/* Made from the MIR of crate radio, sha256 dcd84ccfaa84cd643ef6e2fd6920ed87785badccd68d2e933e16fd606b682fe6. */
 /*
  * Made by `make c`, not to be edited. A function stands under its path in the proved code; one that is generic
  * there, as those of the library are, stands once for each of what it is given, under the end of its path and
@@ -10,6 +10,13 @@
 #include <stddef.h>
 #include <stdint.h>
 #include "radio.h"
+
+/* For what is the library's, and for closures: a call of each would cost more than what it does. */
+#if defined(__GNUC__)
+#define INLINED static inline __attribute__((always_inline))
+#else
+#define INLINED static inline
+#endif
 
 typedef uint8_t numbers__Refusal;
 
@@ -43,13 +50,13 @@ typedef struct {
 } slice_u8;
 
 typedef struct {
-    uint8_t at[8];
-} array_8_u8;
-
-typedef struct {
     uint8_t *at;
     uint64_t length;
 } slice_mut_u8;
+
+typedef struct {
+    uint8_t at[8];
+} array_8_u8;
 
 typedef struct {
     uint8_t tag;
@@ -84,15 +91,6 @@ typedef struct {
     uint64_t u64_0;
     radio_job__Ending radio_job__Ending_0;
 } radio_job__JobPoint;
-
-typedef struct {
-    uint8_t tag;
-    const uint8_t *ref_u8_0;
-} core__Option_ref_u8;
-
-typedef struct {
-    slice_u8 f0;
-} core__Iter_u8;
 
 typedef struct {
     const uint8_t *at;
@@ -142,36 +140,6 @@ typedef struct {
     uint8_t tag;
     core__ErrResidual_Ending core__ErrResidual_Ending_0;
 } core__ControlFlow_ErrResidual_Ending_unit;
-
-typedef struct {
-    const uint8_t *f0;
-    const uint8_t *f1;
-} core__tuple_ref_u8_ref_u8;
-
-typedef struct {
-    uint8_t tag;
-    core__tuple_ref_u8_ref_u8 core__tuple_ref_u8_ref_u8_0;
-} core__Option_tuple_ref_u8_ref_u8;
-
-typedef struct {
-    uint8_t tag;
-    core__tuple_ref_u8_ref_u8 core__tuple_ref_u8_ref_u8_0;
-} core__ControlFlow_NoValue_tuple_ref_u8_ref_u8;
-
-typedef struct {
-    uint8_t tag;
-    const uint8_t *ref_u8_0;
-} core__ControlFlow_NoValue_ref_u8;
-
-typedef struct {
-    core__Iter_u8 f0;
-    core__Iter_u8 f1;
-} core__Zip_Iter_u8_Iter_u8;
-
-typedef struct {
-    core__Zip_Iter_u8_Iter_u8 f0;
-    _Bool f1;
-} core__TakeWhile_Zip_Iter_u8_Iter_u8_shared_take_while;
 
 typedef struct {
     uint8_t at[256];
@@ -280,6 +248,11 @@ typedef struct {
     uint8_t tag;
     uint8_t u8_0;
 } core__Option_u8;
+
+typedef struct {
+    uint8_t tag;
+    const uint8_t *ref_u8_0;
+} core__Option_ref_u8;
 
 /* numbers::U32FromRefusal::from */
 static uint32_t numbers__U32FromRefusal__from(numbers__Refusal a1)
@@ -412,7 +385,7 @@ static uint8_t radio_command__U8FromCommandName__from(radio_command__CommandName
 }
 
 /* core::OptionFromResidualNoValue::from_residual_Ra_d4af15 */
-static core__Option_RadioCommand core__OptionFromResidualNoValue__from_residual_Ra_d4af15(void)
+INLINED core__Option_RadioCommand core__OptionFromResidualNoValue__from_residual_Ra_d4af15(void)
 {
     core__Option_RadioCommand result;
     result.tag = 0u;
@@ -424,7 +397,7 @@ static core__Option_RadioCommand core__OptionFromResidualNoValue__from_residual_
 }
 
 /* core::OptionTry::branch_CommandName */
-static core__ControlFlow_NoValue_CommandName core__OptionTry__branch_CommandName(
+INLINED core__ControlFlow_NoValue_CommandName core__OptionTry__branch_CommandName(
     const core__Option_CommandName *a1)
 {
     core__ControlFlow_NoValue_CommandName result;
@@ -448,65 +421,6 @@ static core__ControlFlow_NoValue_CommandName core__OptionTry__branch_CommandName
     return result;
 }
 
-/* core::slice::slices_equal */
-static _Bool core__slice__slices_equal(slice_u8 a1, slice_u8 a2)
-{
-    _Bool result;
-    uint64_t v3;
-    uint64_t v4;
-    _Bool v5;
-    const uint8_t *v6;
-    const uint8_t *v7;
-    v5 = a1.length == a2.length;
-    if (!v5) {
-        result = 0;
-        return result;
-    }
-    v3 = UINT64_C(0);
-    for (;;) {
-        v4 = a2.length;
-        v5 = v3 < v4;
-        if (!v5) {
-            break;
-        }
-        v6 = a1.at + (size_t)v3;
-        v7 = a2.at + (size_t)v3;
-        v5 = *v6 == *v7;
-        if (!v5) {
-            result = 0;
-            return result;
-        }
-        v3 = v3 + UINT64_C(1);
-    }
-    result = 1;
-    return result;
-}
-
-/* core::RefSlicePartialEq::eq_u8 */
-static _Bool core__RefSlicePartialEq__eq_u8(const slice_u8 *a1, const slice_u8 *a2)
-{
-    _Bool result;
-    slice_u8 v3;
-    slice_u8 v4;
-    v3.at = a1->at;
-    v3.length = a1->length;
-    v4.at = a2->at;
-    v4.length = a2->length;
-    result = core__slice__slices_equal(v3, v4);
-    return result;
-}
-
-/* core::array_N_T::as_slice_u8_8 */
-static slice_u8 core__array_N_T__as_slice_u8_8(const uint8_t *a1)
-{
-    slice_u8 result;
-    const uint8_t *v2;
-    v2 = a1;
-    result.at = v2;
-    result.length = UINT64_C(8);
-    return result;
-}
-
 /* radio_command::command::command_sum */
 static uint8_t radio_command__command__command_sum(uint8_t a1, uint8_t a2, uint8_t a3, uint8_t a4, uint8_t a5)
 {
@@ -518,27 +432,6 @@ static uint8_t radio_command__command__command_sum(uint8_t a1, uint8_t a2, uint8
     v7 = (uint8_t)((unsigned)v6 + a3);
     v8 = (uint8_t)((unsigned)v7 + a4);
     result = (uint8_t)((unsigned)v8 + a5);
-    return result;
-}
-
-/* radio_command::command::build */
-static array_8_u8 radio_command__command__build(const radio_command__RadioCommand *a1)
-{
-    array_8_u8 result;
-    uint8_t v2;
-    uint8_t v3;
-    radio_command__CommandName v4;
-    v4 = a1->f0;
-    v2 = radio_command__U8FromCommandName__from(v4);
-    v3 = radio_command__command__command_sum(165u, v2, a1->f1, a1->f2, a1->f3);
-    result.at[0] = 165u;
-    result.at[1] = 90u;
-    result.at[2] = 165u;
-    result.at[3] = v2;
-    result.at[4] = a1->f1;
-    result.at[5] = a1->f2;
-    result.at[6] = a1->f3;
-    result.at[7] = v3;
     return result;
 }
 
@@ -640,53 +533,58 @@ static core__Option_CommandName radio_command__command__name_of(uint8_t a1)
 static core__Option_RadioCommand radio_command__command__read_command(slice_u8 a1)
 {
     core__Option_RadioCommand result;
-    slice_u8 v2;
+    uint8_t v2;
     uint8_t v3;
     uint8_t v4;
     uint8_t v5;
     uint8_t v6;
-    radio_command__RadioCommand v7;
-    radio_command__CommandName v8;
-    _Bool v10;
-    const uint8_t *v11;
-    const uint8_t *v12;
-    const uint8_t *v13;
+    uint8_t v7;
+    uint8_t v8;
+    uint8_t v9;
+    radio_command__CommandName v10;
+    radio_command__CommandName v11;
+    _Bool v13;
     const uint8_t *v14;
-    radio_command__CommandName v15;
-    core__ControlFlow_NoValue_CommandName v16;
-    core__Option_CommandName v17;
-    uint8_t v18;
-    radio_command__CommandName v19;
-    uint8_t v21;
-    uint8_t v22;
-    uint8_t v23;
-    _Bool v24;
-    const slice_u8 *v25;
-    slice_u8 v26;
-    array_8_u8 v27;
-    radio_command__RadioCommand v28;
-    array_8_u8 v29;
-    const uint8_t *v30;
-    slice_u8 v31;
-    const slice_u8 *v32;
-    core__Option_RadioCommand v33;
-    radio_command__RadioCommand v34;
-    v2.at = a1.at;
-    v2.length = a1.length;
-    v10 = v2.length < UINT64_C(8);
-    if (v10) {
+    const uint8_t *v15;
+    const uint8_t *v16;
+    const uint8_t *v17;
+    const uint8_t *v18;
+    const uint8_t *v19;
+    const uint8_t *v20;
+    const uint8_t *v21;
+    core__ControlFlow_NoValue_CommandName v22;
+    core__Option_CommandName v23;
+    radio_command__CommandName v24;
+    core__Option_RadioCommand v25;
+    _Bool v26;
+    _Bool v27;
+    _Bool v28;
+    uint8_t v29;
+    uint8_t v30;
+    _Bool v31;
+    radio_command__RadioCommand v32;
+    v13 = a1.length < UINT64_C(8);
+    if (v13) {
         goto end2;
     }
-    v10 = v2.length < UINT64_C(9);
-    if (v10) {
-        v11 = v2.at + (size_t)UINT64_C(3);
-        v12 = v2.at + (size_t)UINT64_C(4);
-        v13 = v2.at + (size_t)UINT64_C(5);
-        v14 = v2.at + (size_t)UINT64_C(6);
-        v3 = *v11;
-        v4 = *v12;
-        v5 = *v13;
-        v6 = *v14;
+    v13 = a1.length < UINT64_C(9);
+    if (v13) {
+        v14 = a1.at + (size_t)UINT64_C(0);
+        v15 = a1.at + (size_t)UINT64_C(1);
+        v16 = a1.at + (size_t)UINT64_C(2);
+        v17 = a1.at + (size_t)UINT64_C(3);
+        v18 = a1.at + (size_t)UINT64_C(4);
+        v19 = a1.at + (size_t)UINT64_C(5);
+        v20 = a1.at + (size_t)UINT64_C(6);
+        v21 = a1.at + (size_t)UINT64_C(7);
+        v2 = *v14;
+        v3 = *v15;
+        v4 = *v16;
+        v5 = *v17;
+        v6 = *v18;
+        v7 = *v19;
+        v8 = *v20;
+        v9 = *v21;
         goto end1;
     }
     goto end2;
@@ -698,61 +596,56 @@ static core__Option_RadioCommand radio_command__command__read_command(slice_u8 a
     result.radio_command__RadioCommand_0.f3 = 0;
     return result;
     end1:;
-    v18 = v3;
-    v17 = radio_command__command__name_of(v18);
-    v16 = core__OptionTry__branch_CommandName(&v17);
-    switch (v16.tag) {
+    v23 = radio_command__command__name_of(v5);
+    v22 = core__OptionTry__branch_CommandName(&v23);
+    switch (v22.tag) {
     case 0u:
-        v8 = v16.radio_command__CommandName_0;
-        v19 = v8;
+        v11 = v22.radio_command__CommandName_0;
+        v24 = v11;
         break;
     default: /* 1 */
         result = core__OptionFromResidualNoValue__from_residual_Ra_d4af15();
         return result;
     }
-    v15 = v19;
-    v21 = v4;
-    v22 = v5;
-    v23 = v6;
-    v7.f0 = v15;
-    v7.f1 = v21;
-    v7.f2 = v22;
-    v7.f3 = v23;
-    v25 = &v2;
-    v28.f0 = v7.f0;
-    v28.f1 = v7.f1;
-    v28.f2 = v7.f2;
-    v28.f3 = v7.f3;
-    v27 = radio_command__command__build(&v28);
-    v29 = v27;
-    v30 = v29.at;
-    v26 = core__array_N_T__as_slice_u8_8(v30);
-    v31.at = v26.at;
-    v31.length = v26.length;
-    v32 = &v31;
-    v24 = core__RefSlicePartialEq__eq_u8(v25, v32);
-    if (v24) {
-        v34.f0 = v7.f0;
-        v34.f1 = v7.f1;
-        v34.f2 = v7.f2;
-        v34.f3 = v7.f3;
-        v33.tag = 1u;
-        v33.radio_command__RadioCommand_0.f0 = v34.f0;
-        v33.radio_command__RadioCommand_0.f1 = v34.f1;
-        v33.radio_command__RadioCommand_0.f2 = v34.f2;
-        v33.radio_command__RadioCommand_0.f3 = v34.f3;
-    } else {
-        v33.tag = 0u;
-        v33.radio_command__RadioCommand_0.f0 = 0;
-        v33.radio_command__RadioCommand_0.f1 = 0;
-        v33.radio_command__RadioCommand_0.f2 = 0;
-        v33.radio_command__RadioCommand_0.f3 = 0;
+    v10 = v24;
+    v28 = v2 == 165u;
+    if (v28) {
+        v28 = v3 == 90u;
+        v27 = v28;
+        if (v27) {
+            v27 = v4 == 165u;
+            v26 = v27;
+            if (v26) {
+                v30 = radio_command__U8FromCommandName__from(v10);
+                v29 = radio_command__command__command_sum(v4, v30, v6, v7, v8);
+                v26 = v9 == v29;
+                v31 = v26;
+                if (v31) {
+                    v32.f0 = v10;
+                    v32.f1 = v6;
+                    v32.f2 = v7;
+                    v32.f3 = v8;
+                    v25.tag = 1u;
+                    v25.radio_command__RadioCommand_0.f0 = v32.f0;
+                    v25.radio_command__RadioCommand_0.f1 = v32.f1;
+                    v25.radio_command__RadioCommand_0.f2 = v32.f2;
+                    v25.radio_command__RadioCommand_0.f3 = v32.f3;
+                    goto end3;
+                }
+            }
+        }
     }
-    result.tag = v33.tag;
-    result.radio_command__RadioCommand_0.f0 = v33.radio_command__RadioCommand_0.f0;
-    result.radio_command__RadioCommand_0.f1 = v33.radio_command__RadioCommand_0.f1;
-    result.radio_command__RadioCommand_0.f2 = v33.radio_command__RadioCommand_0.f2;
-    result.radio_command__RadioCommand_0.f3 = v33.radio_command__RadioCommand_0.f3;
+    v25.tag = 0u;
+    v25.radio_command__RadioCommand_0.f0 = 0;
+    v25.radio_command__RadioCommand_0.f1 = 0;
+    v25.radio_command__RadioCommand_0.f2 = 0;
+    v25.radio_command__RadioCommand_0.f3 = 0;
+    end3:;
+    result.tag = v25.tag;
+    result.radio_command__RadioCommand_0.f0 = v25.radio_command__RadioCommand_0.f0;
+    result.radio_command__RadioCommand_0.f1 = v25.radio_command__RadioCommand_0.f1;
+    result.radio_command__RadioCommand_0.f2 = v25.radio_command__RadioCommand_0.f2;
+    result.radio_command__RadioCommand_0.f3 = v25.radio_command__RadioCommand_0.f3;
     return result;
 }
 
@@ -801,7 +694,7 @@ static radio_command radio__command__radio_read(slice_u8 a1)
 }
 
 /* core::slice::copy_from_slice */
-static void core__slice__copy_from_slice(slice_mut_u8 a1, slice_u8 a2)
+INLINED void core__slice__copy_from_slice(slice_mut_u8 a1, slice_u8 a2)
 {
     uint64_t v3;
     uint64_t v4;
@@ -823,6 +716,27 @@ static void core__slice__copy_from_slice(slice_mut_u8 a1, slice_u8 a2)
         v3 = v3 + UINT64_C(1);
     }
     return;
+}
+
+/* radio_command::command::build */
+static array_8_u8 radio_command__command__build(const radio_command__RadioCommand *a1)
+{
+    array_8_u8 result;
+    uint8_t v2;
+    uint8_t v3;
+    radio_command__CommandName v4;
+    v4 = a1->f0;
+    v2 = radio_command__U8FromCommandName__from(v4);
+    v3 = radio_command__command__command_sum(165u, v2, a1->f1, a1->f2, a1->f3);
+    result.at[0] = 165u;
+    result.at[1] = 90u;
+    result.at[2] = 165u;
+    result.at[3] = v2;
+    result.at[4] = a1->f1;
+    result.at[5] = a1->f2;
+    result.at[6] = a1->f3;
+    result.at[7] = v3;
+    return result;
 }
 
 /* radio_command::building::build_into */
@@ -907,7 +821,7 @@ static uint32_t radio__command__radio_build(uint8_t a1, uint8_t a2, uint8_t a3, 
 }
 
 /* core::chunk_mut::as_array_mut_u8_520 */
-static uint8_t *core__chunk_mut__as_array_mut_u8_520(slice_mut_u8 a1)
+INLINED uint8_t *core__chunk_mut__as_array_mut_u8_520(slice_mut_u8 a1)
 {
     uint8_t *result;
     uint8_t *v2;
@@ -919,7 +833,7 @@ static uint8_t *core__chunk_mut__as_array_mut_u8_520(slice_mut_u8 a1)
 }
 
 /* core::slice_T::as_mut_array_u8_520 */
-static core__Option_mut_array_520_u8 core__slice_T__as_mut_array_u8_520(slice_mut_u8 a1)
+INLINED core__Option_mut_array_520_u8 core__slice_T__as_mut_array_u8_520(slice_mut_u8 a1)
 {
     core__Option_mut_array_520_u8 result;
     uint64_t v2;
@@ -944,7 +858,7 @@ static core__Option_mut_array_520_u8 core__slice_T__as_mut_array_u8_520(slice_mu
 }
 
 /* core::int::u32::to_le_bytes */
-static array_4_u8 core__int__u32__to_le_bytes(uint32_t a1)
+INLINED array_4_u8 core__int__u32__to_le_bytes(uint32_t a1)
 {
     array_4_u8 result;
     uint32_t v2;
@@ -977,7 +891,7 @@ static array_4_u8 core__int__u32__to_le_bytes(uint32_t a1)
 }
 
 /* core::int::usize::to_le_bytes */
-static array_8_u8 core__int__usize__to_le_bytes(uint64_t a1)
+INLINED array_8_u8 core__int__usize__to_le_bytes(uint64_t a1)
 {
     array_8_u8 result;
     uint64_t v2;
@@ -1242,132 +1156,44 @@ static _Bool radio_image__image_fits(uint64_t a1)
     return result;
 }
 
-/* core::slice_T::is_empty_u8 */
-static _Bool core__slice_T__is_empty_u8(slice_u8 a1)
-{
-    _Bool result;
-    uint64_t v2;
-    v2 = a1.length;
-    result = v2 == UINT64_C(0);
-    return result;
-}
-
-/* core::IterIterator::next_u8 */
-static core__Option_ref_u8 core__IterIterator__next_u8(core__Iter_u8 *a1)
-{
-    core__Option_ref_u8 result;
-    slice_u8 v2;
-    _Bool v3;
-    uint64_t v4;
-    const uint8_t *v5;
-    uint64_t v6;
-    const uint8_t *v7;
-    slice_u8 v8;
-    const uint8_t *v9;
-    const uint8_t *v10;
-    v2.at = a1->f0.at;
-    v2.length = a1->f0.length;
-    v3 = core__slice_T__is_empty_u8(v2);
-    if (v3) {
-        result.tag = 0u;
-        result.ref_u8_0 = 0;
-        return result;
-    }
-    v4 = UINT64_C(1);
-    v5 = v2.at + (size_t)v4;
-    v6 = v2.length - UINT64_C(1);
-    v7 = v5;
-    v8.at = v7;
-    v8.length = v6;
-    a1->f0.at = v8.at;
-    a1->f0.length = v8.length;
-    v4 = UINT64_C(0);
-    v9 = v2.at + (size_t)v4;
-    v10 = v9;
-    result.tag = 1u;
-    result.ref_u8_0 = v10;
-    return result;
-}
-
-/* radio_image::fn::is_mask::all */
-static _Bool radio_image__fn__is_mask__all(const uint8_t *a2)
-{
-    _Bool result;
-    _Bool v3;
-    uint8_t v4;
-    uint8_t v5;
-    v4 = *a2;
-    v3 = v4 == 0u;
-    if (!v3) {
-        v5 = *a2;
-        v3 = v5 == 255u;
-    }
-    result = v3;
-    return result;
-}
-
-/* radio_image::fn::is_mask::all_FnMut::call_mut */
-static _Bool radio_image__fn__is_mask__all_FnMut__call_mut(const uint8_t *a2)
-{
-    _Bool result;
-    result = radio_image__fn__is_mask__all(a2);
-    return result;
-}
-
-/* core::Iterator::all_Iter_u8_ref_u8_is_mask_all */
-static _Bool core__Iterator__all_Iter_u8_ref_u8_is_mask_all(core__Iter_u8 *a1)
-{
-    _Bool result;
-    const uint8_t *v4;
-    core__Option_ref_u8 v5;
-    core__Iter_u8 *v6;
-    _Bool v7;
-    const uint8_t *v9;
-    _Bool v10;
-    for (;;) {
-        v6 = a1;
-        v5 = core__IterIterator__next_u8(v6);
-        switch (v5.tag) {
-        case 1u:
-            v4 = v5.ref_u8_0;
-            v9 = v4;
-            v7 = radio_image__fn__is_mask__all_FnMut__call_mut(v9);
-            v10 = !v7;
-            if (v10) {
-                result = 0;
-                return result;
-            }
-            break;
-        default: /* 0 */
-            goto end1;
-        }
-    }
-    end1:;
-    result = 1;
-    return result;
-}
-
-/* core::slice_T::iter_u8 */
-static core__Iter_u8 core__slice_T__iter_u8(slice_u8 a1)
-{
-    core__Iter_u8 result;
-    result.f0.at = a1.at;
-    result.f0.length = a1.length;
-    return result;
-}
-
 /* radio_image::is_mask */
 static _Bool radio_image__is_mask(slice_u8 a1)
 {
     _Bool result;
-    core__Iter_u8 v2;
-    core__Iter_u8 v3;
-    core__Iter_u8 *v4;
-    v2 = core__slice_T__iter_u8(a1);
-    v3.f0.at = v2.f0.at;
-    v3.f0.length = v2.f0.length;
-    v4 = &v3;
-    result = core__Iterator__all_Iter_u8_ref_u8_is_mask_all(v4);
+    uint64_t v2;
+    const uint8_t *v3;
+    uint64_t v4;
+    _Bool v5;
+    const uint8_t *v6;
+    _Bool v7;
+    uint8_t v8;
+    uint8_t v9;
+    _Bool v10;
+    v2 = UINT64_C(0);
+    v4 = a1.length;
+    for (;;) {
+        v5 = v2 < v4;
+        if (!v5) {
+            break;
+        }
+        v6 = a1.at + (size_t)v2;
+        v3 = v6;
+        v8 = *v3;
+        v7 = v8 != 0u;
+        if (v7) {
+            v9 = *v3;
+            v7 = v9 != 255u;
+            v10 = v7;
+            if (v10) {
+                result = 0;
+                return result;
+                goto end5;
+            }
+        }
+        end5:;
+        v2 = v2 + UINT64_C(1);
+    }
+    result = 1;
     return result;
 }
 
@@ -1444,7 +1270,7 @@ static core__Result_unit_Refusal radio_image__input_refusal(slice_u8 a1, uint64_
 }
 
 /* core::arrays::first_unchecked_array_520_u8 */
-static const uint8_t *core__arrays__first_unchecked_array_520_u8(slice_array_520_u8 a1)
+INLINED const uint8_t *core__arrays__first_unchecked_array_520_u8(slice_array_520_u8 a1)
 {
     const uint8_t *result;
     uint64_t v2;
@@ -1456,7 +1282,7 @@ static const uint8_t *core__arrays__first_unchecked_array_520_u8(slice_array_520
 }
 
 /* core::chunks::arrays_u8_520 */
-static slice_array_520_u8 core__chunks__arrays_u8_520(slice_u8 a1, uint64_t a2)
+INLINED slice_array_520_u8 core__chunks__arrays_u8_520(slice_u8 a1, uint64_t a2)
 {
     slice_array_520_u8 result;
     slice_array_520_u8 v3;
@@ -1470,7 +1296,7 @@ static slice_array_520_u8 core__chunks__arrays_u8_520(slice_u8 a1, uint64_t a2)
 }
 
 /* core::arrays::as_array_ref_u8_520 */
-static const uint8_t *core__arrays__as_array_ref_u8_520(slice_u8 a1)
+INLINED const uint8_t *core__arrays__as_array_ref_u8_520(slice_u8 a1)
 {
     const uint8_t *result;
     slice_array_520_u8 v2;
@@ -1480,7 +1306,7 @@ static const uint8_t *core__arrays__as_array_ref_u8_520(slice_u8 a1)
 }
 
 /* core::clones::ok_ref_array_520_u8_TryFromSliceError */
-static core__Result_ref_array_520_u8_TryFromSliceError core__clones__ok_ref_array_520_u8_TryFromSliceError(
+INLINED core__Result_ref_array_520_u8_TryFromSliceError core__clones__ok_ref_array_520_u8_TryFromSliceError(
     const uint8_t *a1)
 {
     core__Result_ref_array_520_u8_TryFromSliceError result;
@@ -1492,7 +1318,7 @@ static core__Result_ref_array_520_u8_TryFromSliceError core__clones__ok_ref_arra
 }
 
 /* core::RefArrayTryFromRefSlice::try_from_u8_520 */
-static core__Result_ref_array_520_u8_TryFromSliceError core__RefArrayTryFromRefSlice__try_from_u8_520(
+INLINED core__Result_ref_array_520_u8_TryFromSliceError core__RefArrayTryFromRefSlice__try_from_u8_520(
     slice_u8 a1)
 {
     core__Result_ref_array_520_u8_TryFromSliceError result;
@@ -1512,7 +1338,7 @@ static core__Result_ref_array_520_u8_TryFromSliceError core__RefArrayTryFromRefS
 }
 
 /* core::chunk_mut::array_at_mut_u8_256 */
-static uint8_t *core__chunk_mut__array_at_mut_u8_256(slice_mut_u8 a1, uint64_t a2)
+INLINED uint8_t *core__chunk_mut__array_at_mut_u8_256(slice_mut_u8 a1, uint64_t a2)
 {
     uint8_t *result;
     uint8_t *v3;
@@ -1530,7 +1356,7 @@ static uint8_t *core__chunk_mut__array_at_mut_u8_256(slice_mut_u8 a1, uint64_t a
 }
 
 /* core::slice_T::first_chunk_mut_u8_256 */
-static core__Option_mut_array_256_u8 core__slice_T__first_chunk_mut_u8_256(slice_mut_u8 a1)
+INLINED core__Option_mut_array_256_u8 core__slice_T__first_chunk_mut_u8_256(slice_mut_u8 a1)
 {
     core__Option_mut_array_256_u8 result;
     uint64_t v2;
@@ -1555,7 +1381,7 @@ static core__Option_mut_array_256_u8 core__slice_T__first_chunk_mut_u8_256(slice
 }
 
 /* core::int::usize::div_ceil */
-static uint64_t core__int__usize__div_ceil(uint64_t a1, uint64_t a2)
+INLINED uint64_t core__int__usize__div_ceil(uint64_t a1, uint64_t a2)
 {
     uint64_t result;
     uint64_t v3;
@@ -1791,7 +1617,7 @@ static radio_advanced radio_say__message__configuration(const uint8_t *a1, uint8
 }
 
 /* core::int::usize::min */
-static uint64_t core__int__usize__min(uint64_t a1, uint64_t a2)
+INLINED uint64_t core__int__usize__min(uint64_t a1, uint64_t a2)
 {
     uint64_t result;
     _Bool v3;
@@ -1807,7 +1633,7 @@ static uint64_t core__int__usize__min(uint64_t a1, uint64_t a2)
 }
 
 /* core::clone::U8Clone::clone */
-static core__Result_u8_AllocError core__clone__U8Clone__clone(const uint8_t *a1)
+INLINED core__Result_u8_AllocError core__clone__U8Clone__clone(const uint8_t *a1)
 {
     core__Result_u8_AllocError result;
     uint8_t v2;
@@ -1818,7 +1644,7 @@ static core__Result_u8_AllocError core__clone__U8Clone__clone(const uint8_t *a1)
 }
 
 /* core::clone::surely_u8 */
-static uint8_t core__clone__surely_u8(const uint8_t *a1)
+INLINED uint8_t core__clone__surely_u8(const uint8_t *a1)
 {
     uint8_t result;
     uint8_t v2;
@@ -1836,7 +1662,7 @@ static uint8_t core__clone__surely_u8(const uint8_t *a1)
 }
 
 /* core::slice_T::fill_u8 */
-static void core__slice_T__fill_u8(slice_mut_u8 a1, uint8_t a2)
+INLINED void core__slice_T__fill_u8(slice_mut_u8 a1, uint8_t a2)
 {
     uint8_t v3;
     uint64_t v4;
@@ -1934,7 +1760,7 @@ static void radio_image__put_page(slice_u8 a1, uint64_t a2, slice_mut_u8 a3)
 }
 
 /* core::int::usize::saturating_sub */
-static uint64_t core__int__usize__saturating_sub(uint64_t a1, uint64_t a2)
+INLINED uint64_t core__int__usize__saturating_sub(uint64_t a1, uint64_t a2)
 {
     uint64_t result;
     _Bool v3;
@@ -2399,7 +2225,7 @@ static radio_advanced radio_calls__RadioAdvancedFromRefusal__from(numbers__Refus
 }
 
 /* core::convert::U32FromU8::from */
-static uint32_t core__convert__U32FromU8__from(uint8_t a1)
+INLINED uint32_t core__convert__U32FromU8__from(uint8_t a1)
 {
     uint32_t result;
     result = (uint32_t)a1;
@@ -2529,7 +2355,7 @@ static core__Result_unit_Ending radio_point__ending__feed_ending(uint64_t a1, sl
 }
 
 /* core::AnyFrom::from_Ending */
-static radio_job__Ending core__AnyFrom__from_Ending(const radio_job__Ending *a1)
+INLINED radio_job__Ending core__AnyFrom__from_Ending(const radio_job__Ending *a1)
 {
     radio_job__Ending result;
     result.f0 = a1->f0;
@@ -2539,7 +2365,7 @@ static radio_job__Ending core__AnyFrom__from_Ending(const radio_job__Ending *a1)
 }
 
 /* core::ResultFromResidualErrResidual::from_residua_7ad5d2 */
-static core__Result_unit_Ending core__ResultFromResidualErrResidual__from_residua_7ad5d2(
+INLINED core__Result_unit_Ending core__ResultFromResidualErrResidual__from_residua_7ad5d2(
     const core__ErrResidual_Ending *a1)
 {
     core__Result_unit_Ending result;
@@ -2557,7 +2383,7 @@ static core__Result_unit_Ending core__ResultFromResidualErrResidual__from_residu
 }
 
 /* core::ResultTry::branch_unit_Ending */
-static core__ControlFlow_ErrResidual_Ending_unit core__ResultTry__branch_unit_Ending(
+INLINED core__ControlFlow_ErrResidual_Ending_unit core__ResultTry__branch_unit_Ending(
     const core__Result_unit_Ending *a1)
 {
     core__ControlFlow_ErrResidual_Ending_unit result;
@@ -2623,304 +2449,50 @@ static core__Result_unit_Ending radio_point__ending__last_ending(slice_u8 a1)
     return result;
 }
 
-/* core::OptionFromResidualNoValue::from_residual_tu_23950f */
-static core__Option_tuple_ref_u8_ref_u8 core__OptionFromResidualNoValue__from_residual_tu_23950f(void)
-{
-    core__Option_tuple_ref_u8_ref_u8 result;
-    result.tag = 0u;
-    result.core__tuple_ref_u8_ref_u8_0.f0 = 0;
-    result.core__tuple_ref_u8_ref_u8_0.f1 = 0;
-    return result;
-}
-
-/* core::OptionTry::branch_tuple_ref_u8_ref_u8 */
-static core__ControlFlow_NoValue_tuple_ref_u8_ref_u8 core__OptionTry__branch_tuple_ref_u8_ref_u8(
-    const core__Option_tuple_ref_u8_ref_u8 *a1)
-{
-    core__ControlFlow_NoValue_tuple_ref_u8_ref_u8 result;
-    core__tuple_ref_u8_ref_u8 v2;
-    core__ControlFlow_NoValue_tuple_ref_u8_ref_u8 v3;
-    core__tuple_ref_u8_ref_u8 v4;
-    switch (a1->tag) {
-    case 1u:
-        v2.f0 = a1->core__tuple_ref_u8_ref_u8_0.f0;
-        v2.f1 = a1->core__tuple_ref_u8_ref_u8_0.f1;
-        v4.f0 = v2.f0;
-        v4.f1 = v2.f1;
-        v3.tag = 0u;
-        v3.core__tuple_ref_u8_ref_u8_0.f0 = v4.f0;
-        v3.core__tuple_ref_u8_ref_u8_0.f1 = v4.f1;
-        break;
-    default: /* 0 */
-        v3.tag = 1u;
-        v3.core__tuple_ref_u8_ref_u8_0.f0 = 0;
-        v3.core__tuple_ref_u8_ref_u8_0.f1 = 0;
-        break;
-    }
-    result.tag = v3.tag;
-    result.core__tuple_ref_u8_ref_u8_0.f0 = v3.core__tuple_ref_u8_ref_u8_0.f0;
-    result.core__tuple_ref_u8_ref_u8_0.f1 = v3.core__tuple_ref_u8_ref_u8_0.f1;
-    return result;
-}
-
-/* core::OptionTry::branch_ref_u8 */
-static core__ControlFlow_NoValue_ref_u8 core__OptionTry__branch_ref_u8(const core__Option_ref_u8 *a1)
-{
-    core__ControlFlow_NoValue_ref_u8 result;
-    const uint8_t *v2;
-    core__ControlFlow_NoValue_ref_u8 v3;
-    const uint8_t *v4;
-    switch (a1->tag) {
-    case 1u:
-        v2 = a1->ref_u8_0;
-        v4 = v2;
-        v3.tag = 0u;
-        v3.ref_u8_0 = v4;
-        break;
-    default: /* 0 */
-        v3.tag = 1u;
-        v3.ref_u8_0 = 0;
-        break;
-    }
-    result.tag = v3.tag;
-    result.ref_u8_0 = v3.ref_u8_0;
-    return result;
-}
-
-/* core::ZipIterator::next_Iter_u8_Iter_u8_ref_u8_ref_u8 */
-static core__Option_tuple_ref_u8_ref_u8 core__ZipIterator__next_Iter_u8_Iter_u8_ref_u8_ref_u8(
-    core__Zip_Iter_u8_Iter_u8 *a1)
-{
-    core__Option_tuple_ref_u8_ref_u8 result;
-    const uint8_t *v2;
-    const uint8_t *v3;
-    const uint8_t *v5;
-    const uint8_t *v6;
-    core__ControlFlow_NoValue_ref_u8 v8;
-    core__Option_ref_u8 v9;
-    core__Iter_u8 *v10;
-    const uint8_t *v11;
-    core__ControlFlow_NoValue_ref_u8 v12;
-    core__Option_ref_u8 v13;
-    core__Iter_u8 *v14;
-    const uint8_t *v15;
-    const uint8_t *v16;
-    const uint8_t *v17;
-    core__tuple_ref_u8_ref_u8 v18;
-    v10 = &a1->f0;
-    v9 = core__IterIterator__next_u8(v10);
-    v8 = core__OptionTry__branch_ref_u8(&v9);
-    switch (v8.tag) {
-    case 0u:
-        v3 = v8.ref_u8_0;
-        v11 = v3;
-        break;
-    default: /* 1 */
-        result = core__OptionFromResidualNoValue__from_residual_tu_23950f();
-        return result;
-    }
-    v2 = v11;
-    v14 = &a1->f1;
-    v13 = core__IterIterator__next_u8(v14);
-    v12 = core__OptionTry__branch_ref_u8(&v13);
-    switch (v12.tag) {
-    case 0u:
-        v6 = v12.ref_u8_0;
-        v15 = v6;
-        break;
-    default: /* 1 */
-        result = core__OptionFromResidualNoValue__from_residual_tu_23950f();
-        return result;
-    }
-    v5 = v15;
-    v16 = v2;
-    v17 = v5;
-    v18.f0 = v16;
-    v18.f1 = v17;
-    result.tag = 1u;
-    result.core__tuple_ref_u8_ref_u8_0.f0 = v18.f0;
-    result.core__tuple_ref_u8_ref_u8_0.f1 = v18.f1;
-    return result;
-}
-
-/* radio_image::fn::shared::take_while */
-static _Bool radio_image__fn__shared__take_while(const core__tuple_ref_u8_ref_u8 *a2)
-{
-    _Bool result;
-    const uint8_t *const *v3;
-    const uint8_t *const *v4;
-    uint8_t v5;
-    uint8_t v6;
-    v3 = &a2->f0;
-    v4 = &a2->f1;
-    v5 = *(*v3);
-    v6 = *(*v4);
-    result = v5 == v6;
-    return result;
-}
-
-/* radio_image::fn::shared::take_while_FnMut::call_mut */
-static _Bool radio_image__fn__shared__take_while_FnMut__call_mut(const core__tuple_ref_u8_ref_u8 *a2)
-{
-    _Bool result;
-    result = radio_image__fn__shared__take_while(a2);
-    return result;
-}
-
-/* core::TakeWhileIterator::next_Zip_Iter_u8_Iter_u8_3275b4 */
-static core__Option_tuple_ref_u8_ref_u8 core__TakeWhileIterator__next_Zip_Iter_u8_Iter_u8_3275b4(
-    core__TakeWhile_Zip_Iter_u8_Iter_u8_shared_take_while *a1)
-{
-    core__Option_tuple_ref_u8_ref_u8 result;
-    core__tuple_ref_u8_ref_u8 v2;
-    core__tuple_ref_u8_ref_u8 v3;
-    _Bool v5;
-    core__ControlFlow_NoValue_tuple_ref_u8_ref_u8 v6;
-    core__Option_tuple_ref_u8_ref_u8 v7;
-    core__Zip_Iter_u8_Iter_u8 *v8;
-    core__tuple_ref_u8_ref_u8 v9;
-    _Bool v10;
-    const core__tuple_ref_u8_ref_u8 *v12;
-    core__Option_tuple_ref_u8_ref_u8 v13;
-    core__tuple_ref_u8_ref_u8 v14;
-    v5 = a1->f1;
-    if (v5) {
-        result.tag = 0u;
-        result.core__tuple_ref_u8_ref_u8_0.f0 = 0;
-        result.core__tuple_ref_u8_ref_u8_0.f1 = 0;
-        return result;
-    }
-    v8 = &a1->f0;
-    v7 = core__ZipIterator__next_Iter_u8_Iter_u8_ref_u8_ref_u8(v8);
-    v6 = core__OptionTry__branch_tuple_ref_u8_ref_u8(&v7);
-    switch (v6.tag) {
-    case 0u:
-        v3.f0 = v6.core__tuple_ref_u8_ref_u8_0.f0;
-        v3.f1 = v6.core__tuple_ref_u8_ref_u8_0.f1;
-        v9.f0 = v3.f0;
-        v9.f1 = v3.f1;
-        break;
-    default: /* 1 */
-        result = core__OptionFromResidualNoValue__from_residual_tu_23950f();
-        return result;
-    }
-    v2.f0 = v9.f0;
-    v2.f1 = v9.f1;
-    v12 = &v2;
-    v10 = radio_image__fn__shared__take_while_FnMut__call_mut(v12);
-    if (v10) {
-        v14.f0 = v2.f0;
-        v14.f1 = v2.f1;
-        v13.tag = 1u;
-        v13.core__tuple_ref_u8_ref_u8_0.f0 = v14.f0;
-        v13.core__tuple_ref_u8_ref_u8_0.f1 = v14.f1;
-    } else {
-        a1->f1 = 1;
-        v13.tag = 0u;
-        v13.core__tuple_ref_u8_ref_u8_0.f0 = 0;
-        v13.core__tuple_ref_u8_ref_u8_0.f1 = 0;
-    }
-    result.tag = v13.tag;
-    result.core__tuple_ref_u8_ref_u8_0.f0 = v13.core__tuple_ref_u8_ref_u8_0.f0;
-    result.core__tuple_ref_u8_ref_u8_0.f1 = v13.core__tuple_ref_u8_ref_u8_0.f1;
-    return result;
-}
-
-/* core::Iterator::count_TakeWhile_Zip_Iter_u8_Iter_edf033 */
-static uint64_t core__Iterator__count_TakeWhile_Zip_Iter_u8_Iter_edf033(
-    const core__TakeWhile_Zip_Iter_u8_Iter_u8_shared_take_while *a1)
-{
-    uint64_t result;
-    core__TakeWhile_Zip_Iter_u8_Iter_u8_shared_take_while v2;
-    uint64_t v3;
-    core__Option_tuple_ref_u8_ref_u8 v4;
-    core__TakeWhile_Zip_Iter_u8_Iter_u8_shared_take_while *v5;
-    v2.f0.f0.f0.at = a1->f0.f0.f0.at;
-    v2.f0.f0.f0.length = a1->f0.f0.f0.length;
-    v2.f0.f1.f0.at = a1->f0.f1.f0.at;
-    v2.f0.f1.f0.length = a1->f0.f1.f0.length;
-    v2.f1 = a1->f1;
-    v3 = UINT64_C(0);
-    for (;;) {
-        v5 = &v2;
-        v4 = core__TakeWhileIterator__next_Zip_Iter_u8_Iter_u8_3275b4(v5);
-        switch (v4.tag) {
-        case 1u:
-            v3 = v3 + UINT64_C(1);
-            break;
-        default: /* 0 */
-            goto end1;
-        }
-        switch (v4.tag) {
-        case 1u:
-            break;
-        default: /* 0 */
-            break;
-        }
-    }
-    end1:;
-    result = v3;
-    return result;
-}
-
-/* core::Iterator::take_while_Zip_Iter_u8_Iter_u8_tu_197d28 */
-static core__TakeWhile_Zip_Iter_u8_Iter_u8_shared_take_while core__Iterator__take_while_Zip_Iter_u8_Iter_u8_tu_197d28(
-    const core__Zip_Iter_u8_Iter_u8 *a1)
-{
-    core__TakeWhile_Zip_Iter_u8_Iter_u8_shared_take_while result;
-    core__Zip_Iter_u8_Iter_u8 v3;
-    v3.f0.f0.at = a1->f0.f0.at;
-    v3.f0.f0.length = a1->f0.f0.length;
-    v3.f1.f0.at = a1->f1.f0.at;
-    v3.f1.f0.length = a1->f1.f0.length;
-    result.f0.f0.f0.at = v3.f0.f0.at;
-    result.f0.f0.f0.length = v3.f0.f0.length;
-    result.f0.f1.f0.at = v3.f1.f0.at;
-    result.f0.f1.f0.length = v3.f1.f0.length;
-    result.f1 = 0;
-    return result;
-}
-
-/* core::RefSliceIntoIterator::into_iter_u8 */
-static core__Iter_u8 core__RefSliceIntoIterator__into_iter_u8(slice_u8 a1)
-{
-    core__Iter_u8 result;
-    result.f0.at = a1.at;
-    result.f0.length = a1.length;
-    return result;
-}
-
-/* core::Iterator::zip_Iter_u8_ref_u8_slice_ref_u8_r_56f318 */
-static core__Zip_Iter_u8_Iter_u8 core__Iterator__zip_Iter_u8_ref_u8_slice_ref_u8_r_56f318(
-    const core__Iter_u8 *a1, slice_u8 a2)
-{
-    core__Zip_Iter_u8_Iter_u8 result;
-    core__Iter_u8 v3;
-    core__Iter_u8 v4;
-    slice_u8 v5;
-    v3.f0.at = a1->f0.at;
-    v3.f0.length = a1->f0.length;
-    v5.at = a2.at;
-    v5.length = a2.length;
-    v4 = core__RefSliceIntoIterator__into_iter_u8(v5);
-    result.f0.f0.at = v3.f0.at;
-    result.f0.f0.length = v3.f0.length;
-    result.f1.f0.at = v4.f0.at;
-    result.f1.f0.length = v4.f0.length;
-    return result;
-}
-
 /* radio_image::shared */
 static uint64_t radio_image__shared(slice_u8 a1, slice_u8 a2)
 {
     uint64_t result;
-    core__TakeWhile_Zip_Iter_u8_Iter_u8_shared_take_while v3;
-    core__Zip_Iter_u8_Iter_u8 v4;
-    core__Iter_u8 v5;
-    v5 = core__slice_T__iter_u8(a1);
-    v4 = core__Iterator__zip_Iter_u8_ref_u8_slice_ref_u8_r_56f318(&v5, a2);
-    v3 = core__Iterator__take_while_Zip_Iter_u8_Iter_u8_tu_197d28(&v4);
-    result = core__Iterator__count_TakeWhile_Zip_Iter_u8_Iter_edf033(&v3);
+    uint64_t v3;
+    const uint8_t *v4;
+    uint64_t v5;
+    _Bool v6;
+    const uint8_t *v7;
+    _Bool v8;
+    uint64_t v9;
+    uint8_t v10;
+    const uint8_t *v11;
+    uint8_t v12;
+    _Bool v13;
+    v3 = UINT64_C(0);
+    v5 = a1.length;
+    for (;;) {
+        v6 = v3 < v5;
+        if (!v6) {
+            break;
+        }
+        v7 = a1.at + (size_t)v3;
+        v4 = v7;
+        v9 = a2.length;
+        v8 = v9 <= v3;
+        if (!v8) {
+            v10 = *v4;
+            v11 = a2.at + (size_t)v3;
+            v12 = *v11;
+            v8 = v10 != v12;
+            v13 = v8;
+            if (!v13) {
+                goto end6;
+            }
+        }
+        result = v3;
+        return result;
+        goto end5;
+        end6:;
+        end5:;
+        v3 = v3 + UINT64_C(1);
+    }
+    result = a1.length;
     return result;
 }
 
@@ -3242,7 +2814,7 @@ static radio_job__JobPoint radio_point__next__point_after(const radio_job__JobPo
 }
 
 /* core::OptionFromResidualNoValue::from_residual_JobKept */
-static core__Option_JobKept core__OptionFromResidualNoValue__from_residual_JobKept(void)
+INLINED core__Option_JobKept core__OptionFromResidualNoValue__from_residual_JobKept(void)
 {
     core__Option_JobKept result;
     result.tag = 0u;
@@ -3256,7 +2828,7 @@ static core__Option_JobKept core__OptionFromResidualNoValue__from_residual_JobKe
 }
 
 /* core::OptionTry::branch_JobPoint */
-static core__ControlFlow_NoValue_JobPoint core__OptionTry__branch_JobPoint(const core__Option_JobPoint *a1)
+INLINED core__ControlFlow_NoValue_JobPoint core__OptionTry__branch_JobPoint(const core__Option_JobPoint *a1)
 {
     core__ControlFlow_NoValue_JobPoint result;
     radio_job__JobPoint v2;
@@ -3300,7 +2872,7 @@ static core__ControlFlow_NoValue_JobPoint core__OptionTry__branch_JobPoint(const
 }
 
 /* core::convert::UsizeFromU16::from */
-static uint64_t core__convert__UsizeFromU16__from(uint16_t a1)
+INLINED uint64_t core__convert__UsizeFromU16__from(uint16_t a1)
 {
     uint64_t result;
     result = (uint64_t)a1;
@@ -3308,7 +2880,7 @@ static uint64_t core__convert__UsizeFromU16__from(uint16_t a1)
 }
 
 /* core::int::u16::from_le_bytes */
-static uint16_t core__int__u16__from_le_bytes(array_2_u8 a1)
+INLINED uint16_t core__int__u16__from_le_bytes(array_2_u8 a1)
 {
     uint16_t result;
     array_2_u8 v2;
@@ -3332,6 +2904,66 @@ static uint16_t core__int__u16__from_le_bytes(array_2_u8 a1)
     v10 = (uint16_t)v9;
     v11 = (uint16_t)((unsigned)v10 * 256u);
     result = (uint16_t)((unsigned)v6 + v11);
+    return result;
+}
+
+/* core::slice::slices_equal */
+INLINED _Bool core__slice__slices_equal(slice_u8 a1, slice_u8 a2)
+{
+    _Bool result;
+    uint64_t v3;
+    uint64_t v4;
+    _Bool v5;
+    const uint8_t *v6;
+    const uint8_t *v7;
+    _Bool v8;
+    v5 = a1.length == a2.length;
+    if (!v5) {
+        result = 0;
+        return result;
+    }
+    v8 = 1;
+    v3 = UINT64_C(0);
+    for (;;) {
+        v4 = a2.length;
+        v5 = v3 < v4;
+        if (!v5) {
+            break;
+        }
+        v6 = a1.at + (size_t)v3;
+        v7 = a2.at + (size_t)v3;
+        v5 = *v6 == *v7;
+        if (!v5) {
+            v8 = 0;
+        }
+        v3 = v3 + UINT64_C(1);
+    }
+    result = v8;
+    return result;
+}
+
+/* core::RefSlicePartialEq::eq_u8 */
+INLINED _Bool core__RefSlicePartialEq__eq_u8(const slice_u8 *a1, const slice_u8 *a2)
+{
+    _Bool result;
+    slice_u8 v3;
+    slice_u8 v4;
+    v3.at = a1->at;
+    v3.length = a1->length;
+    v4.at = a2->at;
+    v4.length = a2->length;
+    result = core__slice__slices_equal(v3, v4);
+    return result;
+}
+
+/* core::array_N_T::as_slice_u8_8 */
+INLINED slice_u8 core__array_N_T__as_slice_u8_8(const uint8_t *a1)
+{
+    slice_u8 result;
+    const uint8_t *v2;
+    v2 = a1;
+    result.at = v2;
+    result.length = UINT64_C(8);
     return result;
 }
 
@@ -3407,7 +3039,7 @@ static core__Option_JobKept radio_record__held__checked(uint64_t a1, const radio
 }
 
 /* core::convert::U32FromU16::from */
-static uint32_t core__convert__U32FromU16__from(uint16_t a1)
+INLINED uint32_t core__convert__U32FromU16__from(uint16_t a1)
 {
     uint32_t result;
     result = (uint32_t)a1;
@@ -3486,7 +3118,7 @@ static radio_record__JobFields radio_record__read__read_fields(const uint8_t *a1
 }
 
 /* core::convert::UsizeFromU8::from */
-static uint64_t core__convert__UsizeFromU8__from(uint8_t a1)
+INLINED uint64_t core__convert__UsizeFromU8__from(uint8_t a1)
 {
     uint64_t result;
     result = (uint64_t)a1;
@@ -3959,7 +3591,7 @@ static radio_target radio_target__RadioTargetFromModulePoint__from(const radio_t
 }
 
 /* core::AnyInto::into_ModulePoint_RadioTarget */
-static radio_target core__AnyInto__into_ModulePoint_RadioTarget(const radio_target__ModulePoint *a1)
+INLINED radio_target core__AnyInto__into_ModulePoint_RadioTarget(const radio_target__ModulePoint *a1)
 {
     radio_target result;
     radio_target__ModulePoint v2;
@@ -3991,7 +3623,7 @@ static radio_target radio__target__radio_target_fresh(void)
 }
 
 /* core::AnyInto::into_Refusal_u32 */
-static uint32_t core__AnyInto__into_Refusal_u32(numbers__Refusal a1)
+INLINED uint32_t core__AnyInto__into_Refusal_u32(numbers__Refusal a1)
 {
     uint32_t result;
     numbers__Refusal v2;
@@ -4001,7 +3633,7 @@ static uint32_t core__AnyInto__into_Refusal_u32(numbers__Refusal a1)
 }
 
 /* core::AnyFrom::from_Refusal */
-static numbers__Refusal core__AnyFrom__from_Refusal(numbers__Refusal a1)
+INLINED numbers__Refusal core__AnyFrom__from_Refusal(numbers__Refusal a1)
 {
     numbers__Refusal result;
     result = a1;
@@ -4009,7 +3641,7 @@ static numbers__Refusal core__AnyFrom__from_Refusal(numbers__Refusal a1)
 }
 
 /* core::ResultFromResidualErrResidual::from_residua_e63956 */
-static core__Result_RadioReplied_Refusal core__ResultFromResidualErrResidual__from_residua_e63956(
+INLINED core__Result_RadioReplied_Refusal core__ResultFromResidualErrResidual__from_residua_e63956(
     const core__ErrResidual_Refusal *a1)
 {
     core__Result_RadioReplied_Refusal result;
@@ -4028,7 +3660,7 @@ static core__Result_RadioReplied_Refusal core__ResultFromResidualErrResidual__fr
 }
 
 /* core::ResultTry::branch_ModulePoint_Refusal */
-static core__ControlFlow_ErrResidual_Refusal_ModulePoint core__ResultTry__branch_ModulePoint_Refusal(
+INLINED core__ControlFlow_ErrResidual_Refusal_ModulePoint core__ResultTry__branch_ModulePoint_Refusal(
     const core__Result_ModulePoint_Refusal *a1)
 {
     core__ControlFlow_ErrResidual_Refusal_ModulePoint result;
@@ -4072,7 +3704,7 @@ static core__ControlFlow_ErrResidual_Refusal_ModulePoint core__ResultTry__branch
 }
 
 /* core::ResultTry::branch_unit_Refusal */
-static core__ControlFlow_ErrResidual_Refusal_unit core__ResultTry__branch_unit_Refusal(
+INLINED core__ControlFlow_ErrResidual_Refusal_unit core__ResultTry__branch_unit_Refusal(
     const core__Result_unit_Refusal *a1)
 {
     core__ControlFlow_ErrResidual_Refusal_unit result;
@@ -4201,7 +3833,7 @@ static core__Result_ModulePoint_Refusal radio_target__ModulePointTryFromRadioTar
 }
 
 /* core::Option::ok_or_CommandName_ModuleError */
-static core__Result_CommandName_ModuleError core__Option__ok_or_CommandName_ModuleError(
+INLINED core__Result_CommandName_ModuleError core__Option__ok_or_CommandName_ModuleError(
     const core__Option_CommandName *a1, radio_deeds__ModuleError a2)
 {
     core__Result_CommandName_ModuleError result;
@@ -4231,7 +3863,7 @@ static core__Result_CommandName_ModuleError core__Option__ok_or_CommandName_Modu
 }
 
 /* core::AnyFrom::from_ModuleError */
-static radio_deeds__ModuleError core__AnyFrom__from_ModuleError(radio_deeds__ModuleError a1)
+INLINED radio_deeds__ModuleError core__AnyFrom__from_ModuleError(radio_deeds__ModuleError a1)
 {
     radio_deeds__ModuleError result;
     result = a1;
@@ -4239,7 +3871,7 @@ static radio_deeds__ModuleError core__AnyFrom__from_ModuleError(radio_deeds__Mod
 }
 
 /* core::ResultFromResidualErrResidual::from_residua_4f421e */
-static core__Result_Deed_ModuleError core__ResultFromResidualErrResidual__from_residua_4f421e(
+INLINED core__Result_Deed_ModuleError core__ResultFromResidualErrResidual__from_residua_4f421e(
     const core__ErrResidual_ModuleError *a1)
 {
     core__Result_Deed_ModuleError result;
@@ -4263,7 +3895,7 @@ static core__Result_Deed_ModuleError core__ResultFromResidualErrResidual__from_r
 }
 
 /* core::ResultTry::branch_CommandName_ModuleError */
-static core__ControlFlow_ErrResidual_ModuleError_CommandName core__ResultTry__branch_CommandName_ModuleError(
+INLINED core__ControlFlow_ErrResidual_ModuleError_CommandName core__ResultTry__branch_CommandName_ModuleError(
     const core__Result_CommandName_ModuleError *a1)
 {
     core__ControlFlow_ErrResidual_ModuleError_CommandName result;
@@ -4297,7 +3929,7 @@ static core__ControlFlow_ErrResidual_ModuleError_CommandName core__ResultTry__br
 }
 
 /* core::Option::unwrap_or_u8 */
-static uint8_t core__Option__unwrap_or_u8(const core__Option_u8 *a1, uint8_t a2)
+INLINED uint8_t core__Option__unwrap_or_u8(const core__Option_u8 *a1, uint8_t a2)
 {
     uint8_t result;
     uint8_t v3;
@@ -4316,7 +3948,7 @@ static uint8_t core__Option__unwrap_or_u8(const core__Option_u8 *a1, uint8_t a2)
 }
 
 /* core::Option::unwrap_ref_u8 */
-static const uint8_t *core__Option__unwrap_ref_u8(const core__Option_ref_u8 *a1)
+INLINED const uint8_t *core__Option__unwrap_ref_u8(const core__Option_ref_u8 *a1)
 {
     const uint8_t *result;
     const uint8_t *v2;
@@ -4332,7 +3964,7 @@ static const uint8_t *core__Option__unwrap_ref_u8(const core__Option_ref_u8 *a1)
 }
 
 /* core::Option_ref_T::copied_u8 */
-static core__Option_u8 core__Option_ref_T__copied_u8(const core__Option_ref_u8 *a1)
+INLINED core__Option_u8 core__Option_ref_T__copied_u8(const core__Option_ref_u8 *a1)
 {
     core__Option_u8 result;
     core__Option_u8 v2;
@@ -4359,7 +3991,7 @@ static core__Option_u8 core__Option_ref_T__copied_u8(const core__Option_ref_u8 *
 }
 
 /* core::UsizeSliceIndexRefSlice::pick_u8 */
-static core__Option_ref_u8 core__UsizeSliceIndexRefSlice__pick_u8(uint64_t a1, slice_u8 a2)
+INLINED core__Option_ref_u8 core__UsizeSliceIndexRefSlice__pick_u8(uint64_t a1, slice_u8 a2)
 {
     core__Option_ref_u8 result;
     uint64_t v3;
@@ -4386,7 +4018,7 @@ static core__Option_ref_u8 core__UsizeSliceIndexRefSlice__pick_u8(uint64_t a1, s
 }
 
 /* core::slice_T::get_u8_u64_ref_u8 */
-static core__Option_ref_u8 core__slice_T__get_u8_u64_ref_u8(slice_u8 a1, uint64_t a2)
+INLINED core__Option_ref_u8 core__slice_T__get_u8_u64_ref_u8(slice_u8 a1, uint64_t a2)
 {
     core__Option_ref_u8 result;
     uint64_t v3;
@@ -4723,78 +4355,47 @@ static core__Result_Deed_ModuleError radio_deeds__deeds__rd_prg_area(uint8_t a1,
     return result;
 }
 
-/* radio_flash::blank::fn::is_blank::all */
-static _Bool radio_flash__blank__fn__is_blank__all(const uint8_t *a2)
-{
-    _Bool result;
-    uint8_t v3;
-    v3 = *a2;
-    result = v3 == 255u;
-    return result;
-}
-
-/* radio_flash::blank::fn::is_blank::all_FnMut::call_mut */
-static _Bool radio_flash__blank__fn__is_blank__all_FnMut__call_mut(const uint8_t *a2)
-{
-    _Bool result;
-    result = radio_flash__blank__fn__is_blank__all(a2);
-    return result;
-}
-
-/* core::Iterator::all_Iter_u8_ref_u8_is_blank_all */
-static _Bool core__Iterator__all_Iter_u8_ref_u8_is_blank_all(core__Iter_u8 *a1)
-{
-    _Bool result;
-    const uint8_t *v4;
-    core__Option_ref_u8 v5;
-    core__Iter_u8 *v6;
-    _Bool v7;
-    const uint8_t *v9;
-    _Bool v10;
-    for (;;) {
-        v6 = a1;
-        v5 = core__IterIterator__next_u8(v6);
-        switch (v5.tag) {
-        case 1u:
-            v4 = v5.ref_u8_0;
-            v9 = v4;
-            v7 = radio_flash__blank__fn__is_blank__all_FnMut__call_mut(v9);
-            v10 = !v7;
-            if (v10) {
-                result = 0;
-                return result;
-            }
-            break;
-        default: /* 0 */
-            goto end1;
-        }
-    }
-    end1:;
-    result = 1;
-    return result;
-}
-
 /* radio_flash::blank::is_blank */
 static _Bool radio_flash__blank__is_blank(slice_u8 a1)
 {
     _Bool result;
-    core__Iter_u8 v2;
+    slice_u8 v2;
     uint64_t v3;
-    uint64_t v4;
-    const uint8_t *v5;
-    slice_u8 v6;
-    core__Iter_u8 v7;
-    core__Iter_u8 *v8;
-    v4 = a1.length;
-    v3 = core__int__usize__min(UINT64_C(32768), v4);
-    v5 = a1.at;
-    v6.at = v5;
-    v6.length = v3;
-    v2 = core__slice_T__iter_u8(v6);
-    v7.f0.at = v2.f0.at;
-    v7.f0.length = v2.f0.length;
-    v8 = &v7;
-    result = core__Iterator__all_Iter_u8_ref_u8_is_blank_all(v8);
+    const uint8_t *v4;
+    slice_u8 v5;
+    uint64_t v6;
+    uint64_t v7;
+    const uint8_t *v8;
+    uint64_t v9;
+    _Bool v10;
+    const uint8_t *v11;
+    uint8_t v12;
+    _Bool v13;
+    v7 = a1.length;
+    v6 = core__int__usize__min(UINT64_C(32768), v7);
+    v8 = a1.at;
+    v5.at = v8;
+    v5.length = v6;
+    v2.at = v5.at;
+    v2.length = v5.length;
+    v3 = UINT64_C(0);
+    v9 = v2.length;
+    for (;;) {
+        v10 = v3 < v9;
+        if (!v10) {
+            break;
+        }
+        v11 = v2.at + (size_t)v3;
+        v4 = v11;
+        v12 = *v4;
+        v13 = v12 != 255u;
+        if (v13) {
+            result = 0;
+            return result;
+        }
+        v3 = v3 + UINT64_C(1);
+    }
+    result = 1;
     return result;
 }
 
@@ -5852,6 +5453,16 @@ static _Bool radio_target_step__points__is_point(const radio_target__ModulePoint
         break;
     }
     result = v7;
+    return result;
+}
+
+/* core::slice_T::is_empty_u8 */
+INLINED _Bool core__slice_T__is_empty_u8(slice_u8 a1)
+{
+    _Bool result;
+    uint64_t v2;
+    v2 = a1.length;
+    result = v2 == UINT64_C(0);
     return result;
 }
 

@@ -53,7 +53,7 @@ fn accepted(state: State, x: u8, reply: bool, target: Target) -> ModelReplied
 // One step of the target whose state this is, and whose device wants these pairs. A refused step gives the state
 // back unchanged, and the reply 1. C lends settings, wanted pairs and delays one by one, and `c2_target_step::step`
 // takes them so: a struct for the three would be made here only to be taken apart. A refusal is returned where it is
-// met: in the C of dist/ each `?` over the target or over what a step gives copies its 23 numbers again.
+// met: in the C of dist/ each `?` over the target or over what a step gives copies its 24 members again.
 pub fn step(
     t: Settings,
     wanted: Pairs,
